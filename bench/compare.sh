@@ -1,0 +1,35 @@
+#!/usr/bin/env bash
+# Compares this repository's benchmark with the same workloads over specs 0.17.0 in Rust, run alternately. Prints for each
+# workload the least time of both, their ratio and whether the checksums agree, as a table.
+# A workload of this repository that does one of the others' in another way is named by that one's name, a plus sign and the way.
+# usage: bench/compare.sh [N=100000] [ITERATIONS=15] [ROUNDS=5] [NAME-PREFIX..]
+# SPECS_BASELINE names the folder with the Rust sources and their assemble.sh; BASELINE_BUILD the folder to build them in.
+set -euo pipefail
+here=$(cd "$(dirname "$0")/.." && pwd)
+baseline=$(cd "$here" && cd "${SPECS_BASELINE:-../shared/baseline}" && pwd)
+build=${BASELINE_BUILD:-${TMPDIR:-/tmp}/specs-baseline-$(id -u)}
+count=${1:-100000} iterations=${2:-15} rounds=${3:-5}
+prefixes=("${@:4}")
+[ ${#prefixes[@]} -gt 0 ] || prefixes=(i_ l_atomic_create_t1 l_atomic_maintain g_ e_ f_)
+rust=$build/target/release/bench
+ours=$here/crates/bench/out/bench
+[ -x "$rust" ] || bash "$baseline/assemble.sh" "$build" >/dev/null
+(cd "$here/crates/bench" && rt run -- --check >/dev/null 2>&1) || { echo "bench/compare.sh: the benchmark is not built" >&2; exit 1; }
+results=$(mktemp -d)
+trap 'rm -r "$results"' EXIT
+for ((round = 0; round < rounds; round++)); do
+  for prefix in "${prefixes[@]}"; do
+    "$rust" "$count" "$iterations" "$prefix" >>"$results/rust"
+    "$ours" "$count" "$iterations" "$prefix" >>"$results/ours"
+  done
+done
+echo "$(date -u +%Y-%m-%d), $(nproc) processors, N = $count, best of $rounds rounds of $iterations runs each, alternating"
+echo
+echo "| Workload | Rust, ns | Rattle, ns | Ratio | Checksums |"
+echo "|---|---|---|---|---|"
+awk -F'\t' '
+  NR == FNR { if (!($1 in rust) || $2 < rust[$1]) rust[$1] = $2; sum[$1] = $3; next }
+  { if (!($1 in ours)) order[++n] = $1; if (!($1 in ours) || $2 < ours[$1]) ours[$1] = $2; mine[$1] = $3 }
+  END { for (i = 1; i <= n; i++) { w = order[i]; split(w, parts, "+"); r = parts[1]
+      if (r in rust) printf "| %s | %.3f | %.3f | %.2f | %s |\n", w, rust[r], ours[w], ours[w] / rust[r], (mine[w] == sum[r] ? "equal" : "DIFFER") } }
+' "$results/rust" "$results/ours"

@@ -1,0 +1,57 @@
+//! Times the calls that a user makes often. `bench [N=100000] [ITERATIONS=15] [NAME-PREFIX]` prints for each workload
+//! `name<TAB>ns_per_op<TAB>checksum`, the best run of ITERATIONS. `bench --check` runs each once, over few indices,
+//! and prints names and checksums alone.
+#![tactic(auto)]
+
+mod births;
+mod components;
+mod deaths;
+mod moving;
+mod points;
+mod random;
+mod sets;
+mod workload;
+
+use crate::workload::Plan;
+use anyhow::Result;
+
+/// What was asked for, or the usual.
+fn plan(args: &[String]) -> Result<Plan> {
+    let mut numbers: [u64; 2] = [100_000, 15];
+    for (number, text) in numbers.iter_mut().zip(args) {
+        *number = text.parse()?;
+    }
+    Ok(Plan {
+        count: u32::try_from(numbers[0])?,
+        iterations: numbers[1],
+        check: false,
+    })
+}
+
+fn main(rt: HostRuntime) -> Result<()> {
+    let mut args = Vec::new(rt.alloc());
+    for arg in std::env::args(&rt)?.skip(1) {
+        args.push(arg)?;
+    }
+    let is_check = match args.first() {
+        Some(first) => first.as_str() == "--check",
+        None => true,
+    };
+    let plan = if is_check {
+        Plan {
+            count: 5000,
+            iterations: 1,
+            check: true,
+        }
+    } else {
+        plan(&args)?
+    };
+    let prefix = match args.get(2) {
+        Some(prefix) => prefix.as_str(),
+        None => "",
+    };
+    sets::run(&rt, rt.alloc(), &plan, prefix)?;
+    births::run(&rt, rt.alloc(), &plan, prefix)?;
+    deaths::run(&rt, rt.alloc(), &plan, prefix)?;
+    components::run(&rt, rt.alloc(), &plan, prefix)
+}

@@ -1,0 +1,174 @@
+//! Components of three numbers each, in storages of several kinds.
+
+ghost use Rattle.std.specs.Float.{NotNan};
+
+use crate::random::mix;
+use storages::{Component, DenseVecStorage, HashMapStorage, VecStorage};
+
+/// Three numbers.
+#[derive(Clone, Copy)]
+pub struct Point {
+    x: f32,
+    y: f32,
+    z: f32,
+    ghost first: { NotNan x },
+    ghost second: { NotNan y },
+    ghost third: { NotNan z },
+}
+
+impl Point {
+    // The point of three numbers, or the origin where one is none.
+    #[inline]
+    fn new(x: f32, y: f32, z: f32) -> Self {
+        if x.is_nan() || y.is_nan() || z.is_nan() {
+            return Point {
+                x: 0.0,
+                y: 0.0,
+                z: 0.0,
+            };
+        }
+        Point { x, y, z }
+    }
+
+    /// The position that the entity of this number gets.
+    #[inline]
+    pub fn position(number: u32) -> Self {
+        Point::new((number % 1024) as f32, (number % 7) as f32, 0.0)
+    }
+
+    /// The velocity that the entity of this number gets.
+    #[inline]
+    pub fn velocity(number: u32) -> Self {
+        Point::new(1.0, 0.5, (number % 4) as f32 * 0.25)
+    }
+
+    // Adds one to the first number.
+    #[inline]
+    fn advance(&mut self) {
+        let x = self.x + 1.0;
+        if !x.is_nan() {
+            self.x = x;
+        }
+    }
+
+    /// A checksum of the three.
+    #[inline]
+    pub fn bits(self) -> u64 {
+        let x = u64::from(self.x.to_bits());
+        let y = u64::from(self.y.to_bits());
+        let z = u64::from(self.z.to_bits());
+        mix(mix(x, y), z)
+    }
+}
+
+/// A component that is a point.
+pub trait Pointed: Component + Copy + Drop {
+    /// The component of a point.
+    fn of(point: Point) -> Self;
+
+    /// The point.
+    fn point(self) -> Point;
+
+    /// Adds one to the first number.
+    fn advance(&mut self);
+}
+
+/// A position in a `VecStorage`.
+#[derive(Clone, Copy)]
+pub struct VecPosition(Point);
+
+/// A velocity in a `VecStorage`.
+#[derive(Clone, Copy)]
+pub struct VecVelocity(Point);
+
+/// A position in a `DenseVecStorage`.
+#[derive(Clone, Copy)]
+pub struct DensePosition(Point);
+
+/// A position in a `HashMapStorage`.
+#[derive(Clone, Copy)]
+pub struct HashPosition(Point);
+
+impl Component for VecPosition {
+    type Storage = VecStorage<Self>;
+}
+
+impl Component for VecVelocity {
+    type Storage = VecStorage<Self>;
+}
+
+impl Component for DensePosition {
+    type Storage = DenseVecStorage<Self>;
+}
+
+impl Component for HashPosition {
+    type Storage = HashMapStorage<Self>;
+}
+
+impl Pointed for VecPosition {
+    #[inline]
+    fn of(point: Point) -> Self {
+        VecPosition(point)
+    }
+
+    #[inline]
+    fn point(self) -> Point {
+        self.0
+    }
+
+    #[inline]
+    fn advance(&mut self) {
+        self.0.advance();
+    }
+}
+
+impl Pointed for VecVelocity {
+    #[inline]
+    fn of(point: Point) -> Self {
+        VecVelocity(point)
+    }
+
+    #[inline]
+    fn point(self) -> Point {
+        self.0
+    }
+
+    #[inline]
+    fn advance(&mut self) {
+        self.0.advance();
+    }
+}
+
+impl Pointed for DensePosition {
+    #[inline]
+    fn of(point: Point) -> Self {
+        DensePosition(point)
+    }
+
+    #[inline]
+    fn point(self) -> Point {
+        self.0
+    }
+
+    #[inline]
+    fn advance(&mut self) {
+        self.0.advance();
+    }
+}
+
+impl Pointed for HashPosition {
+    #[inline]
+    fn of(point: Point) -> Self {
+        HashPosition(point)
+    }
+
+    #[inline]
+    fn point(self) -> Point {
+        self.0
+    }
+
+    #[inline]
+    fn advance(&mut self) {
+        self.0.advance();
+    }
+}

@@ -1,0 +1,14 @@
+//! Worked examples of the whole: scripts with their status and both outputs, and worlds by their calls.
+#![tactic(auto)]
+
+mod callers;
+#[cfg(test)]
+mod hostile_scripts;
+#[cfg(test)]
+mod runs;
+#[cfg(test)]
+mod scripts;
+#[cfg(test)]
+mod worlds;
+
+pub use callers::{born_in_a_phase, is_gone};

@@ -1,0 +1,24 @@
+use Rattle.std.proofs.Common.{refl, subst, Bool}
+use Rattle.entities.specs.PhaseCalls.{AliveSteps}
+use Rattle.entities.proofs.PhaseCalls.{index_within, mark_after, marked_pass, marked_steps}
+use Rattle.entities.proofs.phase.shared.Opened+Board.delete.Goals as goal
+
+pub mark_as-requires-clause-calls : goal.mark_as-requires-clause-calls
+mark_as-requires-clause-calls c =
+    let alive = subst (λ (b : Bool). AliveSteps c.args.self.now.board c.args.pass.now c.is_alive.new.pass c.args.entity b) c.if-not-is_alive.false c.is_alive.ensures.steps in
+    mark_after c.args.self.now.board c.args.pass.now c.is_alive.new.pass c.args.entity c.requires.pass alive
+
+pub mark_as-requires-clause-index : goal.mark_as-requires-clause-index
+mark_as-requires-clause-index c =
+    let alive = subst (λ (b : Bool). AliveSteps c.args.self.now.board c.args.pass.now c.is_alive.new.pass c.args.entity b) c.if-not-is_alive.false c.is_alive.ensures.steps in
+    (refl, index_within c.args.self.now.board c.args.pass.now c.is_alive.new.pass c.args.entity alive)
+
+pub returns-clause-pass : goal.returns-clause-pass
+returns-clause-pass c =
+    let alive = subst (λ (b : Bool). AliveSteps c.args.self.now.board c.args.pass.now c.is_alive.new.pass c.args.entity b) c.if-not-is_alive.false c.is_alive.ensures.steps in
+    marked_pass c.args.self.now.board c.args.pass.now c.is_alive.new.pass c.mark_as.new.pass c.args.entity c.requires.pass alive c.mark_as.ensures.step c.is_alive.ensures.spent c.mark_as.ensures.spent
+
+pub returns-clause-marked : goal.returns-clause-marked
+returns-clause-marked c =
+    let alive = subst (λ (b : Bool). AliveSteps c.args.self.now.board c.args.pass.now c.is_alive.new.pass c.args.entity b) c.if-not-is_alive.false c.is_alive.ensures.steps in
+    marked_steps c.args.self.now.board c.args.pass.now c.is_alive.new.pass c.mark_as.new.pass c.args.entity alive c.mark_as.ensures.step

@@ -1,0 +1,17 @@
+pub mod Census
+pub mod Population
+pub mod Deaths
+pub mod Lowered
+pub mod Merges
+pub mod Kept
+pub mod Texts
+pub mod Lending
+pub mod Creates
+pub mod Upcoming
+pub mod PhaseReserve
+pub mod PhaseTrace
+pub mod PhaseRule
+pub mod PhasePlan
+pub mod PhaseBoard
+pub mod PhaseCalls
+pub mod PhaseLending

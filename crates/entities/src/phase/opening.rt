@@ -1,0 +1,94 @@
+//! Opening a phase.
+ghost use Rattle.std.specs.Prelude.{◌≡◌, ℕ, ◌+◌, ◌-◌, ◌<◌, ◌≤◌, ◌^◌, length, IfOk, IfErr, IsOk};
+ghost use Rattle.std.specs.Borrow.{sem};
+ghost use Rattle.entities.specs.Census.{population};
+
+use crate::entities_res::EntitiesRes;
+use crate::phase::pass::Pass;
+use crate::phase::reserve::plan_of;
+use crate::phase::shared::{Opened, Shared};
+use crate::phase::start::start;
+use std::alloc::{AllocError, Global};
+use thiserror::Error;
+
+/// The most passes that a phase may have.
+pub const MOST_PASSES: usize = 4096;
+
+/// Why no phase was opened. The entities are as they were.
+#[derive(Clone, Copy, Debug, PartialEq, Eq, Drop, Error)]
+pub enum OpenError {
+    /// There are more passes than `MOST_PASSES`.
+    #[error("too many passes")]
+    TooManyPasses,
+    /// Fewer indices than the reserve asks for are free or unused.
+    #[error("fewer indices than the reserve are left")]
+    IndexLimit,
+    /// There is no memory for the phase, or for the births, marks and deaths of its reserve.
+    #[error("out of memory")]
+    OutOfMemory,
+}
+
+impl From<AllocError> for OpenError {
+    ghost use Rattle.entities.specs.declared.phase.opening.OpenError.TheVariants.{OutOfMemory};
+    ghost use Rattle.std.specs.Prelude.{◌≡◌};
+
+    ghost from_gives = { λ _ e. e ≡ OutOfMemory };
+
+    fn from(_error: AllocError) -> OpenError {
+        OpenError::OutOfMemory
+    }
+}
+
+impl EntitiesRes {
+    ghost use Rattle.entities.specs.PhaseLending.{OpenRests};
+    ghost use Rattle.entities.specs.PhaseReserve.{IsReserve, givable};
+    ghost use Rattle.entities.specs.PhaseCalls.{IsOpen, EveryOrderIsSound};
+    ghost use Rattle.entities.specs.PhaseBoard.{AreFresh, IsPassOf};
+    ghost use Rattle.entities.specs.PhasePlan.{phase_of};
+    ghost use Rattle.std.specs.List.{All};
+
+    /// Opens a phase, in which passes make and delete entities from several threads at once: `reserve` entities are set aside, which the
+    /// passes may be given, and `passes` passes are made. All memory of the phase is got here: of every step, of closing, and of the
+    /// reserve's later marks and deaths. It takes time in proportion to the reserve, the passes and the indices that were ever born.
+    ///
+    /// The errors are tested in the order of `OpenError`; after one, the entities are as they were.
+    pub fn open(
+        &mut self,
+        alloc: Global,
+        reserve: u32,
+        passes: usize,
+    ) -> Result<(Shared<'_>, Vec<Pass>), OpenError>
+        ensures* rests { sem 𝓛 (OpenRests self.entry result) }
+        ensures same_reference { IfOk result (λ r. r.0.entities.ghost_name ≡ self.entry.ghost_name) }
+        ensures open { IfOk result (λ r. IsOpen r.0.entities.now r.0.board) }
+        ensures same { IfOk result (λ r. population r.0.entities.now ≡ population self.old) }
+        ensures plan { IfOk result (λ r. (phase_of r.0.board.plan).opening ≡ population self.old) }
+        ensures sizes { IfOk result (λ r. (length r.0.board.plan.reserve.items ≡ reserve) × (r.0.board.plan.passes ≡ passes)) }
+        ensures reserve { IfOk result (λ r. IsReserve (population self.old) r.0.board.plan.reserve.items) }
+        ensures passes { IfOk result (λ r. AreFresh r.0.board 0 r.1.items × (length r.1.items ≡ passes)) }
+        ensures of_phase { IfOk result (λ r. All (IsPassOf r.0.board) r.1.items) }
+        ensures law { IfOk result (λ r. EveryOrderIsSound (phase_of r.0.board.plan)) }
+        ensures many { IfErr result (λ e. e ≡ OpenError.TooManyPasses → MOST_PASSES < passes) }
+        ensures limit { IfErr result (λ e. e ≡ OpenError.IndexLimit → givable (population self.old) < reserve) }
+        ensures few { IfOk result (λ _. passes ≤ MOST_PASSES × reserve ≤ givable (population self.old)) }
+    {
+        if passes > MOST_PASSES {
+            return Err(OpenError::TooManyPasses);
+        }
+        let plan = match plan_of(self, alloc, reserve as usize, passes) {
+            Ok(plan) => plan,
+            Err(error) => return Err(error),
+        };
+        let (board, passes) = match start(alloc, plan) {
+            Ok(started) => started,
+            Err(AllocError) => return Err(OpenError::OutOfMemory),
+        };
+        Ok((
+            Opened {
+                entities: self,
+                board,
+            },
+            passes,
+        ))
+    }
+}

@@ -1,0 +1,100 @@
+//! The rule of the table, and what each kind of step tells.
+ghost use Rattle.std.specs.Prelude.{ℕ};
+
+use crate::phase::plan::Plan;
+use crate::phase::trace::Line;
+use atomic_table::{Join, Play, Seat, Split, Table, TableRule};
+use std::alloc::Global;
+use std::collections::LinkedList;
+use std::marker::{Brand, PhantomData};
+
+/// Some interleaving leads to the words, and in it the steps of each pass in a record are that record's.
+pub struct Interleaved;
+
+impl TableRule<(), LinkedList<Line>, Plan> for Interleaved {
+    ghost use Rattle.entities.specs.PhasePlan.{phase_of};
+    ghost use Rattle.entities.specs.PhaseRule.{kept, blank_lines};
+
+    ghost holds = { λ plan. kept (phase_of plan) plan.width };
+
+    ghost first = { λ plan. blank_lines 0 plan.passes };
+}
+
+/// Names an index to the proofs of a step.
+pub trait Asked {
+    ghost index: { ℕ };
+}
+
+impl Asked for Brand {
+    ghost index = { 0 };
+}
+
+/// A new seat, which no pass has.
+pub struct Sits;
+
+impl Play<(), LinkedList<Line>> for Sits {
+    ghost use Rattle.entities.specs.PhaseRule.{sat};
+
+    ghost then = { sat };
+}
+
+pub struct Draws;
+
+impl Play<(), LinkedList<Line>> for Draws {
+    ghost use Rattle.entities.specs.PhaseRule.{drawn};
+
+    ghost then = { drawn };
+}
+
+pub struct Looks;
+
+impl Play<(), LinkedList<Line>> for Looks {
+    ghost use Rattle.entities.specs.PhaseRule.{looked};
+
+    ghost then = { looked };
+}
+
+pub struct Marks<I> {
+    index: PhantomData<I>,
+}
+
+impl<I: Asked> Play<(), LinkedList<Line>> for Marks<I> {
+    ghost use Rattle.entities.specs.PhaseRule.{marked};
+
+    ghost then = { marked I.index };
+}
+
+pub struct Peeks<I> {
+    index: PhantomData<I>,
+}
+
+impl<I: Asked> Play<(), LinkedList<Line>> for Peeks<I> {
+    ghost use Rattle.entities.specs.PhaseRule.{peeked};
+
+    ghost then = { peeked I.index };
+}
+
+/// Cuts one pass's line off a record.
+pub struct FirstLine;
+
+impl Split<LinkedList<Line>> for FirstLine {
+    ghost use Rattle.entities.specs.PhaseRule.{first_line, other_lines};
+
+    ghost left = { other_lines };
+
+    ghost right = { first_line };
+}
+
+pub struct BothRecords;
+
+impl Join<LinkedList<Line>> for BothRecords {
+    ghost use Rattle.std.specs.Prelude.{◌++◌, []};
+
+    ghost both = { λ v w. w ++ v };
+
+    ghost spent = { [] };
+}
+
+pub type Record = Seat<(), LinkedList<Line>>;
+
+pub type Words = Table<(), LinkedList<Line>, Plan, Interleaved, Global>;

@@ -1,0 +1,144 @@
+//! An opened phase, as threads share it.
+ghost use Rattle.std.specs.Prelude.{◌≡◌, ℕ, ◌≤◌, ◌∷◌, [], false, true, length, IfOk, IfErr, Some, slice_get, slice_index_or, ◌<◌, nat_lt};
+ghost use Rattle.entities.specs.declared.phase.pass.Pass.{Pass};
+ghost use Rattle.entities.specs.declared.phase.trace.Step.TheVariants.{Draw, Look, Mark, Peek};
+ghost use Rattle.entities.specs.Census.{population};
+ghost use Rattle.entities.specs.Population.{generation_reported, index_of, number_of};
+ghost use Rattle.std.specs.List.{All};
+ghost use Rattle.entities.specs.PhaseBoard.{IsPassOf, IsNext, record_of};
+ghost use Rattle.entities.specs.PhaseCalls.{IsOpen, AliveSteps, MarkSteps, PendingSteps, IsClosed};
+
+use crate::entities_res::EntitiesRes;
+use crate::entity::{DELETE, Entity, WrongGeneration};
+use crate::phase::board::Board;
+use crate::phase::closing::mark_all;
+use crate::phase::pass::Pass;
+use std::marker::Brand;
+use thiserror::Error;
+
+/// An open phase over the entities that it was opened from. The type of the board is a parameter, so that a caller's proof follows the
+/// reference. It must be spent by `close`.
+pub struct Opened<'a, T> {
+    pub(crate) entities: &'a mut EntitiesRes,
+    pub(crate) board: T,
+}
+
+/// An open phase. Its calls take it by shared reference and a pass alone, from several threads at once; none waits, and none takes memory.
+pub type Shared<'a> = Opened<'a, Board>;
+
+/// The reserve is used up, and this pass is spent: it gets no more.
+#[derive(Clone, Copy, Debug, PartialEq, Eq, Drop, Error)]
+#[error("the reserve is used up")]
+pub struct Exhausted;
+
+/// What a phase came to: how many entities were born, how many indices were marked, and how many passes were given back.
+#[derive(Clone, Copy, Debug, PartialEq, Eq, Drop)]
+pub struct Closed {
+    pub births: usize,
+    pub marks: usize,
+    pub passes_back: usize,
+}
+
+impl<'a> Opened<'a, Board> {
+    /// The entities as they were at the opening.
+    pub fn entities(&self) -> &EntitiesRes
+        ensures { result.now ≡ self.now.entities.now }
+    {
+        self.entities
+    }
+
+    /// Gives the pass an entity of the reserve, which nobody else is given. Where the reserve is used up, the pass is spent. It is one
+    /// atomic addition, and of a spent pass no step.
+    #[inline]
+    pub fn create(&self, pass: &mut Pass) -> Result<Entity, Exhausted>
+        requires { IsPassOf self.now.board pass.old }
+        ensures pass { IsPassOf self.now.board pass.new }
+        ensures given { IfOk result (λ e. (t : ℕ) × IsNext pass.old pass.new (Draw t ∷ []) × (slice_get self.now.board.plan.reserve.items t ≡ Some e)) }
+        ensures unspent { IfOk result (λ _. (pass.old.spent ≡ false) × (pass.new.spent ≡ false)) }
+        ensures spent { IfErr result (λ _. (pass.new.spent ≡ true) × (pass.old.spent ≡ true → pass.new ≡ pass.old) × (pass.old.spent ≡ false → (t : ℕ) × IsNext pass.old pass.new (Draw t ∷ []) × (length self.now.board.plan.reserve.items ≤ t))) }
+    {
+        if pass.spent {
+            return Err(Exhausted);
+        }
+        let ticket = self.board.draw(pass);
+        if ticket < self.board.plan.reserve.len() as u64 {
+            return Ok(self.board.plan.reserve[ticket as usize]);
+        }
+        pass.spent = true;
+        Err(Exhausted)
+    }
+
+    /// Whether the entity lives: one of the reserve if it was given out, which is one atomic load, any other if it lived at the opening.
+    #[inline]
+    pub fn is_alive(&self, pass: &mut Pass, entity: Entity) -> bool
+        requires open { IsOpen self.now.entities.now self.now.board }
+        requires pass { IsPassOf self.now.board pass.old }
+        ensures pass { IsPassOf self.now.board pass.new }
+        ensures spent { pass.new.spent ≡ pass.old.spent }
+        ensures steps { AliveSteps self.now.board pass.old pass.new entity result }
+    {
+        match self.board.plan.place_of(entity) {
+            Some(place) => (place as u64) < self.board.look(pass),
+            None => self.entities.is_alive(entity),
+        }
+    }
+
+    /// Marks an entity that lives, as `is_alive` finds it, by one atomic "or": it dies at the next merge after the phase. Any other is
+    /// refused, with the generation that its index had at the opening.
+    #[inline]
+    pub fn delete(&self, pass: &mut Pass, entity: Entity) -> Result<(), WrongGeneration>
+        requires open { IsOpen self.now.entities.now self.now.board }
+        requires pass { IsPassOf self.now.board pass.old }
+        ensures pass { IsPassOf self.now.board pass.new }
+        ensures spent { pass.new.spent ≡ pass.old.spent }
+        ensures marked { IfOk result (λ _. MarkSteps self.now.board pass.old pass.new entity) }
+        ensures refused { IfErr result (λ w. AliveSteps self.now.board pass.old pass.new entity false × (w.entity ≡ entity)) }
+        ensures actual { IfErr result (λ w. number_of w.actual_gen ≡ generation_reported (population self.now.entities.now) (index_of entity)) }
+        ensures action { IfErr result (λ w. w.action.now ≡ DELETE.now) }
+    {
+        if !self.is_alive(pass, entity) {
+            return Err(self.entities.wrong_generation(DELETE, entity));
+        }
+        self.board.mark_as::<Brand>(pass, entity.0);
+        Ok(())
+    }
+
+    /// Whether the entity lives, as `is_alive` finds it, and is marked, before the opening or in the phase, by one atomic load more.
+    #[inline]
+    pub fn pending(&self, pass: &mut Pass, entity: Entity) -> bool
+        requires open { IsOpen self.now.entities.now self.now.board }
+        requires pass { IsPassOf self.now.board pass.old }
+        ensures pass { IsPassOf self.now.board pass.new }
+        ensures spent { pass.new.spent ≡ pass.old.spent }
+        ensures steps { PendingSteps self.now.board pass.old pass.new entity result }
+    {
+        if !self.is_alive(pass, entity) {
+            return false;
+        }
+        let found = self.board.peek_as::<Brand>(pass, entity.0);
+        found || self.entities.marked().contains(entity.0)
+    }
+
+    /// Ends the phase, with the passes that came back: the first of the reserve are born, pending, and what was marked is marked. It takes
+    /// no memory, and time in proportion to the births, the marks, and the words of marks, each of which is of 64 indices.
+    pub fn close(self, passes: Vec<Pass>) -> Closed
+        requires open { IsOpen self.entities.now self.board }
+        requires passes { All (IsPassOf self.board) passes.items }
+        ensures closed { IsClosed self.entry.board.plan (record_of passes.items) (population self.entry.entities.now) (population self.exit.0.now) result.births result.marks }
+        ensures back { result.passes_back ≡ length passes.items }
+        ensures spent { (k : ℕ) (d : Pass) → k < length passes.items → (slice_index_or passes.items k d).spent ≡ true → result.births ≡ length self.entry.board.plan.reserve.items }
+    {
+        let Opened { entities, board } = self;
+        let passes_back = passes.len();
+        let ended = board.finish(passes);
+        let births = ended.births();
+        entities.bear_reserved(births);
+        let marks = mark_all(entities, &ended);
+        ended.free();
+        Closed {
+            births,
+            marks,
+            passes_back,
+        }
+    }
+}

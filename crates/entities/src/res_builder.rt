@@ -1,0 +1,58 @@
+//! A builder of one entity.
+ghost use Rattle.std.specs.Prelude.{◌≡◌};
+ghost use Rattle.entities.specs.Population.{MarkedIfAlive};
+ghost use Rattle.entities.specs.Census.{population};
+
+use crate::entities_res::EntitiesRes;
+use crate::entity::Entity;
+
+/// A builder of an entity that was made. Dropped unbuilt, it marks the entity if it lives, in room got when the entity was made.
+///
+/// Ports `specs::world::EntityResBuilder`.
+pub struct EntityResBuilder<'a> {
+    pub(crate) entities: &'a mut EntitiesRes,
+    pub(crate) entity: Entity,
+}
+
+impl<'a> EntityResBuilder<'a> {
+    ghost use Rattle.entities.specs.Lending.{lent_to_builder, entity_built};
+
+    /// The entity being built.
+    pub fn entity(&self) -> Entity
+        ensures { result ≡ entity_built self.now }
+    {
+        self.entity
+    }
+
+    /// The entities, of which it is one.
+    pub fn entities(&self) -> &EntitiesRes
+        ensures { result.now ≡ (lent_to_builder self.now).now }
+    {
+        self.entities
+    }
+
+    /// The entity, which then is as it is: nothing marks it.
+    ///
+    /// Ports `EntityResBuilder::build`.
+    pub fn build(self) -> Entity
+        ensures entity { result ≡ entity_built self.entry }
+        ensures entities { self.exit.0.now ≡ (lent_to_builder self.entry).now }
+    {
+        let EntityResBuilder {
+            entities: _,
+            entity,
+        } = self;
+        entity
+    }
+}
+
+impl Drop for EntityResBuilder<'_> {
+    ghost use Rattle.entities.specs.Lending.{lent_to_builder, entity_built};
+
+    fn drop(self)
+        ensures { MarkedIfAlive (population (lent_to_builder self.entry).now) (entity_built self.entry) (population self.exit.0.now) }
+    {
+        let EntityResBuilder { entities, entity } = self;
+        let _ = entities.delete(entity);
+    }
+}

@@ -1,0 +1,5 @@
+pub mod CountLemmas
+pub mod FirstLemmas
+pub mod RowLemmas
+pub mod StepLemmas
+pub mod WalkLemmas

@@ -1,0 +1,9 @@
+pub mod Counts
+pub mod Left
+pub mod MaskExprs
+pub mod Rows
+pub mod Sets
+pub mod Views
+pub mod Walking
+pub mod Walks
+pub mod WalkOf

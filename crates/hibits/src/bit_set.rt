@@ -1,0 +1,293 @@
+//! Sets of indices.
+ghost use Rattle.std.specs.Prelude.{◌≡◌, ℕ, ◌+◌, ◌-◌, ◌*◌, ◌/◌, ◌%◌, ◌^◌, ◌<◌, ◌≤◌, ◌↔◌, Bool, true, cond, not, ◌==◌, IsTrue, OnOk, OnErr, IfOk, IfErr, IfSome, MatchOption, IsOk, [], ◌∷◌, length, slice_index};
+ghost use Rattle.std.specs.Int.{bit_at};
+ghost use Rattle.std.specs.FinSet as set;
+ghost use Rattle.hibits.specs.Sets.{HasRoom, has_part};
+ghost use Rattle.hibits.specs.Left.{left};
+ghost use Rattle.hibits.specs.Walks.{IsNext};
+ghost use Rattle.hibits.specs.Rows.{row_bit, IsPut};
+
+use crate::bit_iter::BitIter;
+use crate::error::SetError;
+use crate::layers::{BitSetLike, Layers};
+use crate::limits::{INDEX_LIMIT, Index, LAYERS};
+use crate::reads::Reads;
+use crate::rows::{
+    bit_of_row, covers_row, grow, ones_of, put_bit, row_len, update_above, wipe, word_at,
+    word_within,
+};
+use std::alloc::Global;
+use std::marker::Model;
+
+/// A set of indices below `INDEX_LIMIT`, in four layers of words. Ports `hibitset::BitSet`.
+///
+/// Room comes in blocks of 4096 indices. An index with room is added without memory, and room stays.
+#[derive(Drop)]
+pub struct BitSet {
+    layer0: Vec<u64>,
+    layer1: Vec<u64>,
+    layer2: Vec<u64>,
+    top: u64,
+}
+
+impl Model for BitSet {
+    ghost use Rattle.std.specs.Prelude.{[], ◌∷◌};
+    ghost use Rattle.hibits.specs.Sets.{Layered, layered_code};
+
+    ghost Value = { Layered };
+
+    ghost coded = { layered_code };
+
+    ghost use Rattle.hibits.specs.Rows.{members_of, rooms_of, IsSound};
+
+    ghost view = { λ a. record { members = members_of a.layer0.items; room = rooms_of a.layer0.items } };
+
+    ghost invariant = { λ a. IsSound a.layer0.items a.layer1.items a.layer2.items (a.top ∷ []) };
+}
+
+impl BitSet {
+    /// The empty set, without room. Ports `hibitset::BitSet::new`.
+    pub fn new(alloc: Global) -> Self
+        ensures members { result.members ≡ set.empty }
+        ensures room { result.room ≡ set.empty }
+    {
+        BitSet {
+            layer0: Vec::new(alloc),
+            layer1: Vec::new(alloc),
+            layer2: Vec::new(alloc),
+            top: 0,
+        }
+    }
+
+    /// The empty set with room for each index below `max`. `max` itself may be `INDEX_LIMIT`.
+    /// Ports `hibitset::BitSet::with_capacity`.
+    pub fn with_capacity(alloc: Global, max: Index) -> Result<Self, SetError>
+        ensures members { IfOk result (λ s. s.members ≡ set.empty) }
+        ensures room { IfOk result (λ s. (i : ℕ) → i < max → HasRoom s i) }
+        ensures limit { (result ≡ Err SetError.IndexLimit) ↔ (INDEX_LIMIT < max) }
+    {
+        if max > INDEX_LIMIT {
+            return Err(SetError::IndexLimit);
+        }
+        let mut empty = BitSet::new(alloc);
+        if max == 0 {
+            return Ok(empty);
+        }
+        match empty.make_room(max - 1) {
+            Ok(()) => Ok(empty),
+            Err(e) => Err(e),
+        }
+    }
+
+    /// Gets room for an index: after it is Ok, each later `add` of this index is Ok.
+    pub fn reserve_for(&mut self, id: Index) -> Result<(), SetError>
+        ensures members { self.new.members ≡ self.old.members }
+        ensures ok { OnOk result (HasRoom self.new id × id < INDEX_LIMIT) }
+        ensures err { OnErr result (self.new ≡ self.old) }
+        ensures limit { (result ≡ Err SetError.IndexLimit) ↔ (INDEX_LIMIT ≤ id) }
+        ensures room { (i : ℕ) → HasRoom self.old i → HasRoom self.new i }
+        ensures had_room { HasRoom self.old id → IsOk result }
+    {
+        if self.has_room(id) {
+            return Ok(());
+        }
+        if id >= INDEX_LIMIT {
+            return Err(SetError::IndexLimit);
+        }
+        self.make_room(id)
+    }
+
+    #[inline(always)]
+    fn has_room(&self, id: Index) -> bool
+        ensures value { result ≡ set.contains self.now.room (id / 4096) }
+        ensures limit { result ≡ true → id < INDEX_LIMIT }
+    {
+        ((id / 64) as usize) < row_len(&self.layer0)
+    }
+
+    #[inline(never)]
+    fn make_room(&mut self, id: Index) -> Result<(), SetError>
+        requires { id < INDEX_LIMIT }
+        ensures members { self.new.members ≡ self.old.members }
+        ensures ok { OnOk result ((i : ℕ) → i ≤ id → HasRoom self.new i) }
+        ensures err { OnErr result (self.new ≡ self.old) }
+        ensures error { IfErr result (λ e. e ≡ SetError.OutOfMemory) }
+        ensures room { (i : ℕ) → HasRoom self.old i → HasRoom self.new i }
+    {
+        let blocks = (id / 4096) as usize + 1;
+        grow(&mut self.layer2, (id / 262144) as usize + 1)?;
+        grow(&mut self.layer1, blocks)?;
+        grow(&mut self.layer0, 64 * blocks)?;
+        Ok(())
+    }
+
+    /// Adds an index, and says whether it was there. Ports `hibitset::BitSet::add`.
+    #[inline(always)]
+    pub fn add(&mut self, id: Index) -> Result<bool, SetError>
+        ensures was { IfOk result (λ was. was ≡ set.contains self.old.members id) }
+        ensures members { OnOk result (self.new.members ≡ set.insert self.old.members id) }
+        ensures ok { OnOk result (HasRoom self.new id × id < INDEX_LIMIT) }
+        ensures err { OnErr result (self.new ≡ self.old) }
+        ensures limit { (result ≡ Err SetError.IndexLimit) ↔ (INDEX_LIMIT ≤ id) }
+        ensures room { (i : ℕ) → HasRoom self.old i → HasRoom self.new i }
+        ensures had_room { HasRoom self.old id → IsOk result }
+    {
+        if !self.has_room(id) {
+            self.reserve_for(id)?;
+        }
+        Ok(self.put(id, true))
+    }
+
+    /// Takes an index out, and says whether it was there. Its room stays. Ports `hibitset::BitSet::remove`.
+    #[inline(always)]
+    pub fn remove(&mut self, id: Index) -> bool
+        ensures was { result ≡ set.contains self.old.members id }
+        ensures members { self.new.members ≡ set.remove self.old.members id }
+        ensures room { self.new.room ≡ self.old.room }
+    {
+        if !self.contains(id) {
+            return false;
+        }
+        self.put(id, false)
+    }
+
+    /// Puts an index in or out, and says whether it was in.
+    #[inline(always)]
+    fn put(&mut self, id: Index, value: bool) -> bool
+        requires { HasRoom self.old id }
+        ensures was { result ≡ set.contains self.old.members id }
+        ensures members { self.new.members ≡ cond value (set.insert self.old.members id) (set.remove self.old.members id) }
+        ensures room { self.new.room ≡ self.old.room }
+    {
+        let word = word_within(&self.layer0, id / 64);
+        let was = (word >> (id % 64)) & 1 == 1;
+        let some = put_bit(&mut self.layer0, id, value);
+        if some != (word != 0) {
+            update_above(&mut self.layer1, &mut self.layer2, &mut self.top, id, some);
+        }
+        was
+    }
+
+    /// Whether an index is a member. Ports `hibitset::BitSet::contains`.
+    #[inline(always)]
+    pub fn contains(&self, id: Index) -> bool
+        ensures value { result ≡ set.contains self.now.members id }
+        ensures members_have_room { (i : ℕ) → set.contains self.now.members i ≡ true → HasRoom self.now i }
+        ensures room_is_limited { (i : ℕ) → HasRoom self.now i → i < INDEX_LIMIT }
+    {
+        bit_of_row(&self.layer0, id)
+    }
+
+    /// Whether every member of `other` is a member. It compares words. Ports `hibitset::BitSet::contains_set`.
+    pub fn contains_set(&self, other: &BitSet) -> bool
+        ensures { IsTrue result ↔ ((i : ℕ) → set.contains other.now.members i ≡ true → set.contains self.now.members i ≡ true) }
+    {
+        covers_row(&self.layer0, &other.layer0)
+    }
+
+    /// Takes every member out. The room stays, and the words of all room are written. Ports `hibitset::BitSet::clear`.
+    pub fn clear(&mut self)
+        ensures members { self.new.members ≡ set.empty }
+        ensures room { self.new.room ≡ self.old.room }
+    {
+        wipe(&mut self.layer0);
+        wipe(&mut self.layer1);
+        wipe(&mut self.layer2);
+        self.top = 0;
+    }
+
+    /// Whether there is no member. It reads one word. Ports `hibitset::BitSetLike::is_empty`.
+    #[inline(always)]
+    pub fn is_empty(&self) -> bool
+        ensures { IsTrue result ↔ (self.now.members ≡ set.empty) }
+    {
+        self.top == 0
+    }
+
+    /// How many members there are. It reads the words of the lowest layer.
+    pub fn count(&self) -> usize
+        ensures members { result ≡ set.len self.now.members }
+        ensures walk { result ≡ length (left (λ i. set.contains self.now.members i) 0) }
+    {
+        ones_of(&self.layer0)
+    }
+
+    /// The least member that is not below `id`. It reads at most two words of each layer.
+    pub fn first_from(&self, id: Index) -> Option<Index>
+        ensures first { MatchOption result ((j : ℕ) → id ≤ j → set.contains self.now.members j ≡ true → ⊥) (IsNext (λ j. set.contains self.now.members j) id) }
+        ensures below { IfSome result (λ i. i < INDEX_LIMIT) }
+    {
+        self.first_at(0, id)
+    }
+
+    /// The least bit of a layer that is set and not below `from`.
+    fn first_at(&self, level: usize, from: u32) -> Option<u32>
+        requires { level < LAYERS }
+        ensures first { MatchOption result ((j : ℕ) → from ≤ j → has_part self.now.members level j ≡ true → ⊥) (IsNext (has_part self.now.members level) from) }
+        ensures below { IfSome result (λ i. i < 64 ^ (LAYERS - level)) }
+    {
+        let word = self.layer_word(level, from / 64) >> (from % 64);
+        if word != 0 {
+            return Some(from + word.trailing_zeros());
+        }
+        if level + 1 == LAYERS {
+            return None;
+        }
+        match self.first_at(level + 1, from / 64 + 1) {
+            Some(place) => Some(64 * place + self.layer_word(level, place).trailing_zeros()),
+            None => None,
+        }
+    }
+
+    /// A word of a layer, 0 where there is none.
+    #[inline(always)]
+    fn layer_word(&self, level: usize, place: u32) -> u64
+        requires { level < LAYERS }
+        ensures bits { (j : ℕ) → j < 64 → bit_at result j ≡ cond (has_part self.now.members level (64 * place + j)) 1 0 }
+        ensures within { (i : ℕ) → has_part self.now.members level i ≡ true → i < 64 ^ (LAYERS - level) }
+    {
+        match level {
+            0 => word_at(&self.layer0, place),
+            1 => word_at(&self.layer1, place),
+            2 => word_at(&self.layer2, place),
+            _ => if place == 0 { self.top } else { 0 },
+        }
+    }
+
+    /// The members, ascending. Ports `hibitset::BitSetLike::iter`.
+    #[inline(always)]
+    pub fn iter(&self) -> BitIter<&BitSet>
+        ensures mask { result.mask.now ≡ self.now }
+        ensures position { result.position ≡ 0 }
+    {
+        BitIter::new(self)
+    }
+}
+
+impl Layers for BitSet {
+    ghost use Rattle.std.specs.FinSet as set;
+    ghost use Rattle.hibits.specs.Sets.{has_part, part_covers, part_few};
+
+    ghost has = { λ s. has_part s.members };
+
+    ghost cost = { λ _. 1 };
+
+    ghost most = { λ s. set.len s.members };
+
+    ghost covers = { λ s. part_covers s.members };
+
+    ghost few = { λ s l n lt le. part_few s.members l n };
+
+    #[inline(always)]
+    fn word(&self, level: usize, place: u32, reads: &mut Reads) -> u64 {
+        reads.add_one();
+        self.layer_word(level, place)
+    }
+}
+
+impl BitSetLike for BitSet {
+    #[inline(always)]
+    fn contains(&self, id: Index) -> bool {
+        BitSet::contains(self, id)
+    }
+}

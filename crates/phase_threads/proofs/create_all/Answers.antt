@@ -1,0 +1,9 @@
+use Rattle.std.proofs.Common.{rules}
+use denote.Param.Send.{sendable, param_sync}
+use Rattle.std.proofs.Crossing.{crosses}
+use Rattle.entities.proofs.PhaseShares.{board_sync}
+use Rattle.entities.proofs.phase.shared.Opened.TheSendSync as opened
+use Rattle.phase_threads.proofs.create_all.Goals as goal
+
+pub par_for_each_mut-requires-sync-F : goal.par_for_each_mut-requires-sync-F
+par_for_each_mut-requires-sync-F g c κs within = search (opened.the_sync, board_sync, crosses, sendable) depth 60 fits 20000

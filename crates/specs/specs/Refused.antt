@@ -1,0 +1,35 @@
+-- Refusals of the world's own calls.
+use Rattle.std.specs.Prelude.{◌≡◌, Bool, List}
+use Rattle.entities.specs.declared.entity.Entity.{Entity}
+use Rattle.entities.specs.Population.{Population, born_as}
+use Rattle.specs.specs.declared.world.DeleteError.{DeleteError}
+use Rattle.specs.specs.declared.world.DeleteError.TheVariants.{WrongGeneration as Wrong, OutOfMemory as NoMemory}
+use Rattle.specs.specs.declared.command.Reply.{Reply}
+use Rattle.specs.specs.declared.command.Reply.TheVariants.{Entity as Told, Count, Refused}
+use Rattle.specs.specs.declared.command.Refusal.{Refusal}
+use Rattle.specs.specs.declared.command.Refusal.TheVariants.{WrongGeneration as Stale, IndexLimit, OutOfMemory}
+use Rattle.specs.specs.People.{Births, IsFull, BirthWantsMemory, DeathIsRefused}
+use Rattle.specs.specs.Table.{Table, Counts, IsUnregistered}
+use Rattle.specs.specs.State.{State, OnPeople}
+
+abbrev pub DeleteIsRefused : Population → List Entity → DeleteError → Type 0
+DeleteIsRefused p es (Wrong w) = DeathIsRefused p es w
+DeleteIsRefused p es NoMemory = ⊥
+
+-- the same refusal, as a command tells it
+abbrev pub refusal_of : DeleteError → Refusal
+refusal_of (Wrong w) = Stale w
+refusal_of NoMemory = OutOfMemory
+
+-- a birth, at once or pending, with its reply
+abbrev pub BirthStep : {K V : Type 0} → Bool → State K V → Reply V → State K V → Type 0
+BirthStep pending old (Told e) new = OnPeople (λ p p'. Births (born_as pending) p e p') old new
+BirthStep pending old (Refused IndexLimit) new = IsFull old.people × (new ≡ old)
+BirthStep pending old (Refused OutOfMemory) new = BirthWantsMemory old.people × (new ≡ old)
+BirthStep pending old reply new = ⊥
+
+-- how many values a slot has, as a reply
+abbrev pub CountStep : {K V : Type 0} → Table K V → K → Reply V → Type 0
+CountStep table slot (Count n) = Counts table slot n
+CountStep table slot (Refused r) = IsUnregistered table slot r
+CountStep table slot reply = ⊥

@@ -1,0 +1,98 @@
+-- The world as a machine: its states, its steps and its runs.
+use Rattle.std.specs.Prelude.{◌≡◌, ℕ, Bool, false, List, [], ◌∷◌, IsTrue, ◌↔◌, Option, Some, None}
+use Rattle.std.specs.Option.{option_map}
+use Rattle.hibits.specs.Left.{left}
+use Rattle.entities.specs.declared.entity.Entity.{Entity}
+use Rattle.entities.specs.Census.{population}
+use Rattle.entities.specs.Population.{Population, born, born_pending, IsAlive, IsMerged}
+use Rattle.entities.specs.Merges.{the_marked, merge}
+use Rattle.specs.specs.declared.command.SetExpr.{SetExpr}
+use Rattle.specs.specs.declared.command.Maintained.{Maintained}
+use Rattle.specs.specs.declared.command.Command.{Command}
+use Rattle.specs.specs.declared.command.Command.TheVariants.{Register, Create, CreatePending, Delete, MarkDead, IsAlive as AskAlive, IsLiving as AskLiving, EntityAt, Insert, Get, Remove, Clear, Count as AskCount, Select, Maintain}
+use Rattle.specs.specs.declared.command.Reply.{Reply}
+use Rattle.specs.specs.declared.command.Reply.TheVariants.{Done, Entity as Told, Bool as Yes, Value, Count, Indices, Maintained as Kept, Refused, InsertRefused}
+use Rattle.specs.specs.declared.command.Refusal.{Refusal}
+use Rattle.specs.specs.declared.command.Refusal.TheVariants.{WrongGeneration as Wrong, Unregistered, IndexLimit, OutOfMemory}
+use Rattle.specs.specs.declared.world.World.{World}
+use Rattle.specs.specs.Maps.{without}
+use Rattle.specs.specs.People.{Births, IsFull, BirthWantsMemory, Deaths, DeathIsRefused, Marks, MarkIsRefused, IsEntityAt, NoneMarked}
+use Rattle.specs.specs.Sets.{is_member, is_registered, SelectIsRefused}
+use Rattle.specs.specs.Table.{Table, Registers, Inserts, InsertIsRefused, Gets, GetIsRefused, Removes, Clears, Counts, IsUnregistered}
+
+pub record State (K V : Type 0) : Type 0 where
+  pub people : Population
+  pub table : Table K V
+
+abbrev pub state_of : {S K V : Type 0} → (S → Table K V) → World S → State K V
+state_of table w = record { people = population w.entities; table = table w.storages }
+
+-- only the population changed
+pub record OnPeople {K V : Type 0} (change : Population → Population → Type 0) (old new : State K V) : Type 0 where
+  pub people : change old.people new.people
+  pub table : new.table ≡ old.table
+
+-- only the table changed
+pub record OnTable {K V : Type 0} (change : Table K V → Table K V → Type 0) (old new : State K V) : Type 0 where
+  pub people : new.people ≡ old.people
+  pub table : change old.table new.table
+
+-- a death at once of a list, with all its components
+pub record Deletes {K V : Type 0} (es : List Entity) (old new : State K V) : Type 0 where
+  pub people : Deaths old.people es new.people
+  pub table : (s : K) → new.table s ≡ option_map (without es) (old.table s)
+
+-- pending births are taken up, then the marked die, with all their components; no job is queued
+pub record Maintains {K V : Type 0} (old : State K V) (m : Maintained) (new : State K V) : Type 0 where
+  pub deleted : m.deleted.items ≡ the_marked old.people
+  pub people : new.people ≡ merge old.people
+  pub table : (s : K) → new.table s ≡ option_map (without (the_marked old.people)) (old.table s)
+  pub ran : m.ran ≡ 0
+  pub refused : m.refused ≡ 0
+  pub left : m.left ≡ 0
+  pub stopped : m.stopped ≡ false
+
+-- the ascending list of the members of a set
+pub record Selects {K V : Type 0} (old : State K V) (x : SetExpr K) (indices : List ℕ) : Type 0 where
+  pub registered : is_registered old.table x ≡ Bool.true
+  pub members : indices ≡ left (is_member old.people old.table x) 0
+
+-- One command, its reply, and the state after it. Want of memory is a reply that changes nothing.
+abbrev pub Step : {K V : Type 0} → (V → K) → State K V → Command K V → Reply V → State K V → Type 0
+Step place old (Register slot) Done new = OnTable (λ t t'. Registers t slot t') old new
+Step place old (Register slot) (Refused OutOfMemory) new = (old.table slot ≡ None) × (new ≡ old)
+Step place old Create (Told e) new = OnPeople (λ p p'. Births born p e p') old new
+Step place old Create (Refused IndexLimit) new = IsFull old.people × (new ≡ old)
+Step place old Create (Refused OutOfMemory) new = BirthWantsMemory old.people × (new ≡ old)
+Step place old CreatePending (Told e) new = OnPeople (λ p p'. Births born_pending p e p') old new
+Step place old CreatePending (Refused IndexLimit) new = IsFull old.people × (new ≡ old)
+Step place old CreatePending (Refused OutOfMemory) new = BirthWantsMemory old.people × (new ≡ old)
+Step place old (Delete es) Done new = Deletes es.items old new
+Step place old (Delete es) (Refused (Wrong w)) new = DeathIsRefused old.people es.items w × (new ≡ old)
+Step place old (MarkDead e) Done new = OnPeople (λ p p'. Marks p e p') old new
+Step place old (MarkDead e) (Refused (Wrong w)) new = MarkIsRefused old.people e w × (new ≡ old)
+Step place old (AskAlive e) (Yes b) new = (IsTrue b ↔ IsMerged old.people e) × (new ≡ old)
+Step place old (AskLiving e) (Yes b) new = (IsTrue b ↔ IsAlive old.people e) × (new ≡ old)
+Step place old (EntityAt i) (Told e) new = IsEntityAt old.people i e × (new ≡ old)
+Step place old (Insert e value) (Value before) new = OnTable (λ t t'. Inserts place old.people t e value before t') old new
+Step place old (Insert e value) (InsertRefused r back) new = InsertIsRefused place old.people old.table e value r × (back ≡ value) × (new ≡ old)
+Step place old (Get slot e) (Value found) new = Gets old.people old.table slot e found × (new ≡ old)
+Step place old (Get slot e) (Refused r) new = GetIsRefused old.people old.table slot e r × (new ≡ old)
+Step place old (Remove slot e) (Value found) new = OnTable (λ t t'. Removes old.people t slot e found t') old new
+Step place old (Remove slot e) (Refused r) new = IsUnregistered old.table slot r × (new ≡ old)
+Step place old (Clear slot) Done new = OnTable (λ t t'. Clears t slot t') old new
+Step place old (Clear slot) (Refused r) new = IsUnregistered old.table slot r × (new ≡ old)
+Step place old (AskCount slot) (Count n) new = Counts old.table slot n × (new ≡ old)
+Step place old (AskCount slot) (Refused r) new = IsUnregistered old.table slot r × (new ≡ old)
+Step place old (Select x) (Indices is) new = Selects old x is.items × (new ≡ old)
+Step place old (Select x) (Refused r) new = SelectIsRefused old.table x r × (new ≡ old)
+Step place old (Maintain limit) (Kept m) new = Maintains old m new
+Step place old (Maintain limit) (Refused OutOfMemory) new = (NoneMarked old.people → ⊥) × (new ≡ old)
+Step place old command reply new = ⊥
+
+-- one step after another
+abbrev pub Run : {K V : Type 0} → (V → K) → State K V → List (Command K V) → List (Reply V) → State K V → Type 0
+Run {K} {V} place old [] [] new = new ≡ old
+Run {K} {V} place old (command ∷ commands) (reply ∷ replies) new = (mid : State K V) × Step place old command reply mid × Run place mid commands replies new
+Run {K} {V} place old [] (reply ∷ replies) new = ⊥
+Run {K} {V} place old (command ∷ commands) [] new = ⊥

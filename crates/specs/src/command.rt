@@ -1,0 +1,91 @@
+//! Commands and their replies, over slots `K` and values `V`.
+use entities::{Entity, Index, WrongGeneration};
+
+/// A set of indices below the limit.
+#[derive(Debug, Drop)]
+pub enum SetExpr<K> {
+    /// The indices with a value in a slot.
+    Slot(K),
+    /// The indices of the living entities, those of pending births among them.
+    Living,
+    And(Box<SetExpr<K>>, Box<SetExpr<K>>),
+    Or(Box<SetExpr<K>>, Box<SetExpr<K>>),
+    Xor(Box<SetExpr<K>>, Box<SetExpr<K>>),
+    Not(Box<SetExpr<K>>),
+}
+
+/// What a world is asked to do.
+#[derive(Debug, Drop)]
+pub enum Command<K, V> {
+    /// Makes an empty storage for a slot that has none.
+    Register(K),
+    /// A birth at once.
+    Create,
+    /// A birth that is pending until `Maintain`.
+    CreatePending,
+    /// The death at once of a list of entities, with their components.
+    Delete(Vec<Entity>),
+    /// Marks an entity, which dies at the next `Maintain`.
+    MarkDead(Entity),
+    /// Asks whether an entity is alive and not pending.
+    IsAlive(Entity),
+    /// Asks whether an entity is alive, pending births counted.
+    IsLiving(Entity),
+    /// Asks for the entity of an index, as it is or as it would first be born.
+    EntityAt(Index),
+    Insert(Entity, V),
+    Get(K, Entity),
+    Remove(K, Entity),
+    /// Removes every value of a slot.
+    Clear(K),
+    /// Asks how many values a slot has.
+    Count(K),
+    /// Asks for the ascending list of the members of a set.
+    Select(SetExpr<K>),
+    /// Takes up pending births, and lets the marked die with their components. At most so many queued jobs run.
+    Maintain(u64),
+}
+
+/// The answer to a command.
+#[derive(Debug, Drop)]
+pub enum Reply<V> {
+    Done,
+    Entity(Entity),
+    Bool(bool),
+    Value(Option<V>),
+    Count(usize),
+    Indices(Vec<Index>),
+    Maintained(Maintained),
+    /// The command was refused, and changed nothing.
+    Refused(Refusal),
+    /// An insertion was refused, and changed nothing: the value is handed back.
+    InsertRefused(Refusal, V),
+}
+
+/// What `World::maintain` did.
+#[derive(Debug, Drop)]
+pub struct Maintained {
+    /// The entities that died, as they lived, ascending by index.
+    pub deleted: Vec<Entity>,
+    /// How many queued jobs ran to their end.
+    pub ran: u64,
+    /// How many insertions and marks of those jobs were refused for another cause than memory.
+    pub refused: u128,
+    /// How many jobs are queued still.
+    pub left: usize,
+    /// Whether a job found no memory.
+    pub stopped: bool,
+}
+
+/// Why a command was refused.
+#[derive(Clone, Copy, Debug, PartialEq, Eq)]
+pub enum Refusal {
+    /// The entity is not alive.
+    WrongGeneration(WrongGeneration),
+    /// The slot has no storage.
+    Unregistered,
+    /// No index is free, and each index below the limit was born.
+    IndexLimit,
+    /// Memory was refused.
+    OutOfMemory,
+}

@@ -1,0 +1,8 @@
+//! Scripts of world commands: how their lines are read, run and answered.
+#![tactic(auto)]
+
+mod parse;
+mod printed;
+mod script;
+
+pub use script::run_script;

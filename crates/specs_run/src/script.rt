@@ -1,0 +1,100 @@
+//! A script of commands, run over any reader and two writers.
+use crate::parse::command;
+use crate::printed::Printed;
+use slots::Slots;
+use specs::World;
+use std::alloc::Global;
+use std::io::{self, BufRead, BufReader, BufWriter, Read, Write};
+
+/// Every line was read, and every reply was written.
+const DONE: u8 = 0;
+/// Reading or writing failed.
+const FAILED: u8 = 1;
+/// A line can't be read.
+const UNREADABLE: u8 = 2;
+
+/// Runs a script on a new world, and answers the status: 0 at the end of the input, 2 at a line that can't be read (it is told on
+/// `faults`, after the replies before it), 1 where reading or writing failed. Replies are written before more input is waited for.
+pub fn run_script<R: Read + Drop, O: Write + Drop, F: Write + Drop>(
+    alloc: Global,
+    input: R,
+    output: O,
+    mut faults: F,
+) -> u8 {
+    match run_lines(alloc, input, output) {
+        Ok(None) => DONE,
+        Ok(Some(line)) => match tell(&mut faults, line) {
+            Ok(()) => UNREADABLE,
+            Err(_) => FAILED,
+        },
+        Err(_) => FAILED,
+    }
+}
+
+/// Runs a script on a new world, and answers the number of the line that can't be read, if there is one.
+fn run_lines<R: Read + Drop, O: Write + Drop>(
+    alloc: Global,
+    input: R,
+    output: O,
+) -> io::Result<Option<u64>> {
+    let mut reader = BufReader::new(alloc, input)?;
+    let mut writer = BufWriter::new(alloc, output)?;
+    let mut world = World::new(alloc, Slots::new());
+    let unreadable = answer_lines(alloc, &mut world, &mut reader, &mut writer)?;
+    writer.flush()?;
+    Ok(unreadable)
+}
+
+/// Answers the lines up to the end of the input, or up to one that can't be read, whose number is told.
+fn answer_lines<R: Read, O: Write + Drop>(
+    alloc: Global,
+    world: &mut World<Slots>,
+    reader: &mut BufReader<R>,
+    writer: &mut BufWriter<O>,
+) -> io::Result<Option<u64>> {
+    let mut line = Vec::new(alloc);
+    for number in 1..u64::MAX {
+        if !reader.buffer().contains(&b'\n') {
+            writer.flush()?;
+        }
+        line.clear();
+        if reader.read_until(b'\n', &mut line)? == 0 {
+            break;
+        }
+        if !answer(alloc, world, writer, without_line_feed(line.as_slice()))? {
+            return Ok(Some(number));
+        }
+    }
+    Ok(None)
+}
+
+/// Does one line, and writes its reply; a line without characters has none. It is false of a line that can't be read.
+fn answer<O: Write + Drop>(
+    alloc: Global,
+    world: &mut World<Slots>,
+    writer: &mut BufWriter<O>,
+    text: &[u8],
+) -> io::Result<bool> {
+    if text.is_empty() {
+        return Ok(true);
+    }
+    let Some(command) = command(alloc, text)? else {
+        return Ok(false);
+    };
+    let reply = Printed(world.apply(command));
+    writeln!(writer, "{reply}")?;
+    Ok(true)
+}
+
+/// Tells of a line that can't be read.
+fn tell<F: Write>(faults: &mut F, line: u64) -> io::Result<()> {
+    writeln!(faults, "line {line}: cannot read")?;
+    faults.flush()
+}
+
+fn without_line_feed(line: &[u8]) -> &[u8] {
+    match line {
+        [text @ .., b'\n'] => text,
+        _ => line,
+    }
+}

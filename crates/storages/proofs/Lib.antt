@@ -1,0 +1,6 @@
+mod Values
+pub mod Results
+pub mod Slot
+pub mod Dense
+pub mod Removals
+pub mod Null

@@ -1,0 +1,32 @@
+-- What a channel of events means.
+use Rattle.std.specs.Prelude.{ℕ, Bool, List, [], ◌∷◌, ◌++◌, cond, false}
+use Rattle.storages.specs.declared.event.ComponentEvent.{ComponentEvent}
+use Rattle.storages.specs.declared.event.ComponentEvent.TheVariants.{Removed}
+
+-- how many readers were ever registered, the registered ones with their unread events, and whether events are emitted
+pub record Channel : Type 0 where
+  pub registered : ℕ
+  pub readers : List (ℕ × List ComponentEvent)
+  pub emission : Bool
+
+-- a channel that nobody can read, as of a storage that is not tracked
+abbrev pub silent : Channel
+silent = record { registered = 0; readers = []; emission = false }
+
+-- one event more for each reader
+abbrev pub written : ComponentEvent → List (ℕ × List ComponentEvent) → List (ℕ × List ComponentEvent)
+written e [] = []
+written e (r ∷ rs) = (r.0, r.1 ++ e ∷ []) ∷ written e rs
+
+-- the channel after an event, which nobody gets while emission is off
+abbrev pub emitted : ComponentEvent → Channel → Channel
+emitted e c = record { registered = c.registered; readers = cond c.emission (written e c.readers) c.readers; emission = c.emission }
+
+-- the removals of the ids, one after another, more for each reader
+abbrev pub written_removals : List ℕ → List (ℕ × List ComponentEvent) → List (ℕ × List ComponentEvent)
+written_removals [] rs = rs
+written_removals (i ∷ is) rs = written_removals is (written (Removed i) rs)
+
+-- the channel after the removals of the ids, which nobody gets while emission is off
+abbrev pub emitted_removals : List ℕ → Channel → Channel
+emitted_removals ids c = record { registered = c.registered; readers = cond c.emission (written_removals ids c.readers) c.readers; emission = c.emission }

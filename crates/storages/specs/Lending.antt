@@ -1,0 +1,40 @@
+-- What a storage with its mask ends as, where a `&mut` to a component is returned.
+use Rattle.std.specs.Prelude.{ℕ, Result, IsOk, OnErr}
+use Rattle.std.specs.FinMap as map
+use Rattle.std.specs.Borrow.{RattleType, MutBor, Fml, follows_so, name_if_ok, LendsSoOk}
+use Rattle.storages.specs.declared.event.ComponentEvent.TheVariants.{Modified}
+use Rattle.storages.specs.Meaning.{Meaning}
+use Rattle.storages.specs.Slot.{Slot, SameKeys, IsSame, Becomes, Inserts, Fills}
+use Rattle.storages.specs.contracts.masked.MaskedStorage.{the_row}
+
+-- what the slot is after a write of x through the reference that the call answered, if it did
+pub record SlotWrites {T B E : Type 0} (r : Result B E) (s s' : Slot T) (id : ℕ) (x : T) : Type 0 where
+  pub keys : SameKeys s s'
+  pub becomes : IsOk r → Becomes s s' (map.insert s.map id x) (Modified id)
+
+-- what the slot is after the call answered an error, if it did
+pub record SlotRefuses {T B E : Type 0} (r : Result B E) (s s' : Slot T) : Type 0 where
+  pub keys : SameKeys s s'
+  pub same : OnErr r (IsSame s s')
+
+module _ (T S : RattleType) (meaning : S.Denot → Meaning T.Denot) (IsDefault : S.Denot → Type 0) {E : Type 0} (s : MutBor (Slot T.Denot)) (id : ℕ) where
+  -- once the borrow r ends, the index has the last value written through it, and after an error the slot is the same
+  abbrev pub lends_present : Result (MutBor T.Denot) E → Fml
+  lends_present r =
+      follows_so (the_row T S (record { meaning = meaning }) (record { IsDefault = IsDefault })) T s.ghost_name (name_if_ok (λ x. x.ghost_name) r)
+      (λ x n. SlotWrites r s.now n id x)
+      (λ n. SlotRefuses r s.now n)
+
+  -- the same after an insertion
+  abbrev pub lends_inserted : Result (MutBor T.Denot) E → Fml
+  lends_inserted r =
+      LendsSoOk (the_row T S (record { meaning = meaning }) (record { IsDefault = IsDefault })) T s r
+      (λ n x. Inserts s.now n id x)
+      (λ n. IsSame s.now n)
+
+  -- the same after a write, or an insertion and a write
+  abbrev pub lends_filled : Result (MutBor T.Denot) E → Fml
+  lends_filled r =
+      LendsSoOk (the_row T S (record { meaning = meaning }) (record { IsDefault = IsDefault })) T s r
+      (λ n x. Fills s.now n id x)
+      (λ n. IsSame s.now n)

@@ -1,0 +1,24 @@
+-- The removal of the components of a list of entities.
+use Rattle.std.specs.Prelude.{◌≡◌, ℕ, Bool, List, [], ◌∷◌, None, cond, not, ◌&&◌, ◌==◌, is_some}
+use Rattle.std.specs.FinMap as map
+use Rattle.entities.specs.declared.entity.Entity.{Entity}
+use Rattle.entities.specs.Population.{index_of}
+use Rattle.entities.specs.Deaths.{has_index}
+use Rattle.storages.specs.Channel.{emitted_removals}
+use Rattle.storages.specs.Slot.{Slot}
+
+-- a set without one index
+abbrev pub without_one : (ℕ → Bool) → ℕ → ℕ → Bool
+without_one has i q = has q && not (i == q)
+
+-- the indices of a list of entities that are in a set, each where it is first mentioned
+abbrev pub lost : List Entity → (ℕ → Bool) → List ℕ
+lost [] has = []
+lost (e ∷ es) has = cond (has (index_of e)) (index_of e ∷ lost es (without_one has (index_of e))) (lost es has)
+
+-- no index of the entities has a component any more, the others keep theirs, and the removals were emitted in the list's order
+pub record Loses {T : Type 0} (s s' : Slot T) (es : List Entity) : Type 0 where
+  pub get : (q : ℕ) → map.get s'.map q ≡ cond (has_index es q) None (map.get s.map q)
+  pub extent : s'.extent ≡ s.extent
+  pub channel : s'.channel ≡ emitted_removals (lost es (λ q. map.contains_key s.map q)) s.channel
+  pub needs_room : is_some s'.room ≡ is_some s.room

@@ -1,0 +1,100 @@
+-- What a caller sees of a storage with its mask.
+use Rattle.std.specs.Prelude.{◌≡◌, ◌+◌, is_some, ℕ, Bool, Option, Some, None, List, [], ◌∷◌, refl, cond}
+use Rattle.std.specs.Ordering.{nat_cmp}
+use Rattle.std.specs.FinMap as map
+use Rattle.std.specs.FinSet as set
+use Rattle.std.specs.Coded.{Coded, code_by, coded×, coded_ℕ, coded_bool, coded_list, coded_option}
+use Rattle.hibits.specs.Left.{left}
+use Rattle.storages.specs.contracts.event.ComponentEvent as event
+use Rattle.storages.specs.declared.event.ComponentEvent.{ComponentEvent}
+use Rattle.storages.specs.declared.event.ComponentEvent.TheVariants.{Inserted, Modified}
+use Rattle.storages.specs.Channel.{Channel, emitted, emitted_removals}
+use Rattle.storages.specs.Meaning.{Meaning, HasRoom, extent_after, extent_cleared}
+
+-- the component at each index that has one, the length of a slice that has each component at the place of its index,
+-- the channel, and for how many events there is room
+pub record Slot (T : Type 0) : Type 0 where
+  pub map : map.FinMap nat_cmp T
+  pub extent : Option ℕ
+  pub channel : Channel
+  pub room : Option ℕ
+
+-- a channel is stored as the tuple of its fields
+abbrev pub channel_code : Coded Channel
+channel_code =
+    code_by
+    (ℕ × (List (ℕ × List ComponentEvent) × Bool))
+    (coded× coded_ℕ (coded× (coded_list (coded× coded_ℕ (coded_list event.the_row.coded))) coded_bool))
+    (λ c. (c.registered, (c.readers, c.emission)))
+    (λ p. record { registered = p.0; readers = p.1.0; emission = p.1.1 })
+    (λ _. refl)
+
+-- and so is a slot
+abbrev pub slot_code : {T : Type 0} → Coded T → Coded (Slot T)
+slot_code {T} code =
+    code_by
+    (map.FinMap nat_cmp T × (Option ℕ × (Channel × Option ℕ)))
+    (coded× (map.code coded_ℕ code) (coded× (coded_option coded_ℕ) (coded× channel_code (coded_option coded_ℕ))))
+    (λ s. (s.map, (s.extent, (s.channel, s.room))))
+    (λ p. record { map = p.0; extent = p.1.0; channel = p.1.1.0; room = p.1.1.1 })
+    (λ _. refl)
+
+module _ {T : Type 0} where
+  -- the map with what there is for the index
+  abbrev pub with_option : map.FinMap nat_cmp T → ℕ → Option T → map.FinMap nat_cmp T
+  with_option m i None = m
+  with_option m i (Some x) = map.insert m i x
+
+  -- the values at the indices
+  abbrev pub map_of : List ℕ → (ℕ → Option T) → map.FinMap nat_cmp T
+  map_of [] at = map.empty
+  map_of (i ∷ is) at = with_option (map_of is at) i (at i)
+
+  -- the slot of a mask and a storage
+  abbrev pub slot_of : set.FinSet nat_cmp → Meaning T → Slot T
+  slot_of mask m = record { map = map_of (set.items mask) m.at; extent = m.extent; channel = m.channel; room = m.room }
+
+  -- the indices that have a component, ascending
+  abbrev pub indices_of : Slot T → List ℕ
+  indices_of s = left (λ i. map.contains_key s.map i) 0
+
+  -- the same indices have a component
+  pub record SameKeys (s s' : Slot T) : Type 0 where
+    pub key : (q : ℕ) → map.contains_key s'.map q ≡ map.contains_key s.map q
+
+  -- nothing changed that a caller can see
+  pub record IsSame (s s' : Slot T) : Type 0 where
+    pub map : s'.map ≡ s.map
+    pub extent : s'.extent ≡ s.extent
+    pub channel : s'.channel ≡ s.channel
+    pub needs_room : is_some s'.room ≡ is_some s.room
+    pub room : (n : ℕ) → HasRoom s.room n → HasRoom s'.room n
+
+  -- the map is the one given, after a call that emits one event
+  pub record Becomes (s s' : Slot T) (m : map.FinMap nat_cmp T) (e : ComponentEvent) : Type 0 where
+    pub map : s'.map ≡ m
+    pub extent : s'.extent ≡ extent_after e s.extent
+    pub channel : s'.channel ≡ emitted e s.channel
+    pub needs_room : is_some s'.room ≡ is_some s.room
+    pub room : (n : ℕ) → HasRoom s.room (n + 1) → HasRoom s'.room n
+
+  -- the map has x at the index, after an insertion and a write: two events
+  pub record Inserts (s s' : Slot T) (id : ℕ) (x : T) : Type 0 where
+    pub map : s'.map ≡ map.insert s.map id x
+    pub extent : s'.extent ≡ extent_after (Inserted id) s.extent
+    pub channel : s'.channel ≡ emitted (Modified id) (emitted (Inserted id) s.channel)
+    pub needs_room : is_some s'.room ≡ is_some s.room
+
+  -- the map has x at the index, after a write to the component, or to one that was inserted where there was none
+  pub record Fills (s s' : Slot T) (id : ℕ) (x : T) : Type 0 where
+    pub extent : s'.extent ≡ cond (map.contains_key s.map id) s.extent (extent_after (Inserted id) s.extent)
+    pub channel : s'.channel ≡ emitted (Modified id) (cond (map.contains_key s.map id) s.channel (emitted (Inserted id) s.channel))
+    pub needs_room : is_some s'.room ≡ is_some s.room
+    pub map : s'.map ≡ map.insert s.map id x
+
+  -- there is no component any more, and the removals of all were emitted, ascending
+  pub record Clears (s s' : Slot T) : Type 0 where
+    pub map : s'.map ≡ map.empty
+    pub extent : s'.extent ≡ extent_cleared s.extent
+    pub channel : s'.channel ≡ emitted_removals (indices_of s) s.channel
+    pub needs_room : is_some s'.room ≡ is_some s.room

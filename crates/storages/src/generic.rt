@@ -1,0 +1,193 @@
+//! Reading and writing through whatever view.
+ghost use Rattle.std.specs.Prelude.{◌≡◌, ◌↔◌, Option, Some, None, Ok, Err, true, false, is_some, IfOk, IfErr, IsOk, OnOk, OnErr, IsSome, option_copied, cond};
+ghost use Rattle.std.specs.Borrow.{sem};
+ghost use Rattle.std.specs.FinMap as map;
+ghost use Rattle.entities.specs.declared.entity.Entity.{Entity};
+ghost use Rattle.entities.specs.Census.{Census, population};
+ghost use Rattle.entities.specs.Population.{generation_now, index_of};
+ghost use Rattle.storages.specs.declared.event.ComponentEvent.TheVariants.{Inserted, Modified, Removed};
+ghost use Rattle.storages.specs.declared.event.ComponentEvent.{ComponentEvent};
+ghost use Rattle.storages.specs.Life.{is_alive};
+ghost use Rattle.storages.specs.Found.{found_in};
+ghost use Rattle.storages.specs.Meaning.{HasRoom};
+ghost use Rattle.storages.specs.Slot.{IsSame, Becomes};
+ghost use Rattle.storages.specs.Generic.{Sight, lends_seen, lends_seen_or_default};
+
+use crate::event::ComponentEvent;
+use crate::masked::NotLent;
+use crate::read_storage::ReadStorage;
+use crate::unprotected::Component;
+use crate::write_storage::{InsertError, WriteStorage};
+use entities::Entity;
+use std::alloc::AllocError;
+
+/// What components can be read through. Ports `specs::storage::GenericReadStorage`.
+pub trait GenericReadStorage {
+    /// The type of the components.
+    type Component: Component;
+
+    // The component of an entity that is alive.
+    ghost found: { Self → Entity → Option Self.Component };
+
+    /// The component of an entity that is alive.
+    fn get(&self, entity: Entity) -> Option<&Self::Component>
+        ensures { option_copied result ≡ found self.now entity };
+}
+
+impl<'a, T: Component> GenericReadStorage for ReadStorage<'a, T> {
+    type Component = T;
+
+    ghost use Rattle.storages.specs.ReadView.{found as found_by};
+
+    ghost found = { λ v e. found_by v e };
+
+    #[inline]
+    fn get(&self, entity: Entity) -> Option<&T> {
+        ReadStorage::get(self, entity)
+    }
+}
+
+impl<'a, T: Component> GenericReadStorage for WriteStorage<'a, T> {
+    type Component = T;
+
+    ghost use Rattle.storages.specs.WriteView.{found as found_by};
+
+    ghost found = { λ v e. found_by v e };
+
+    #[inline]
+    fn get(&self, entity: Entity) -> Option<&T> {
+        WriteStorage::get(self, entity)
+    }
+}
+
+impl<S: GenericReadStorage> GenericReadStorage for &S {
+    type Component = S::Component;
+
+    ghost found = { λ v e. S.found v.now e };
+
+    #[inline]
+    fn get(&self, entity: Entity) -> Option<&S::Component> {
+        (**self).get(entity)
+    }
+}
+
+/// What components can be written through. Ports `specs::storage::GenericWriteStorage`.
+pub trait GenericWriteStorage {
+    /// The type of the components.
+    type Component: Component;
+
+    // The entities and the storage.
+    ghost sight: { Self → Sight Self.Component };
+
+    /// The component of an entity that is alive, to write to.
+    fn get_mut(&mut self, entity: Entity) -> Result<&mut Self::Component, NotLent>
+        ensures* writes_back { sem 𝓛 (lends_seen Self.row Self.Component.row sight self.entry entity result) }
+        ensures value { IfOk result (λ x. found_in (sight self.old).entities (sight self.old).slot entity ≡ Some x.now) }
+        ensures absent { (result ≡ Err NotLent.Absent) ↔ (found_in (sight self.old).entities (sight self.old).slot entity ≡ None) };
+
+    /// The component of an entity that is alive, to write to, which is a default value if there was none.
+    fn get_mut_or_default(&mut self, entity: Entity) -> Result<&mut Self::Component, NotLent>
+    where
+        Self::Component: Default + Drop,
+        ensures* writes_back { sem 𝓛 (lends_seen_or_default Self.row Self.Component.row sight self.entry entity result) }
+        ensures old { IfOk result (λ x. (y : Self.Component) → found_in (sight self.old).entities (sight self.old).slot entity ≡ Some y → x.now ≡ y) }
+        ensures absent { (result ≡ Err NotLent.Absent) ↔ (is_alive (population (sight self.old).entities) entity ≡ false) };
+
+    /// Puts a component at an entity that is alive, and answers the one that was there. After an error nothing has
+    /// changed.
+    fn insert(
+        &mut self,
+        entity: Entity,
+        component: Self::Component,
+    ) -> Result<Option<Self::Component>, InsertError<Self::Component>>
+        ensures entities { (sight self.new).entities ≡ (sight self.old).entities }
+        ensures replaced { IfOk result (λ before. before ≡ found_in (sight self.old).entities (sight self.old).slot entity) }
+        ensures alive { OnOk result (is_alive (population (sight self.old).entities) entity ≡ true) }
+        ensures ok { OnOk result (Becomes (sight self.old).slot (sight self.new).slot
+            (map.insert (sight self.old).slot.map (index_of entity) component)
+            (cond (is_some (found_in (sight self.old).entities (sight self.old).slot entity)) (ComponentEvent.Modified (index_of entity)) (ComponentEvent.Inserted (index_of entity)))) }
+        ensures err { OnErr result (IsSame (sight self.old).slot (sight self.new).slot) };
+
+    /// Takes the component of an entity that is alive out, if there is one, and lets it go. After an error nothing has
+    /// changed.
+    fn remove(&mut self, entity: Entity) -> Result<(), AllocError>
+    where
+        Self::Component: Drop,
+        ensures entities { (sight self.new).entities ≡ (sight self.old).entities }
+        ensures removed { OnOk result (IsSome (found_in (sight self.old).entities (sight self.old).slot entity) → Becomes (sight self.old).slot (sight self.new).slot (map.remove (sight self.old).slot.map (index_of entity)) (ComponentEvent.Removed (index_of entity))) }
+        ensures absent { found_in (sight self.old).entities (sight self.old).slot entity ≡ None → (sight self.new).slot ≡ (sight self.old).slot }
+        ensures err { OnErr result (IsSame (sight self.old).slot (sight self.new).slot) };
+}
+
+impl<'a, T: Component + Drop> GenericWriteStorage for WriteStorage<'a, T> {
+    type Component = T;
+
+    ghost use Rattle.storages.specs.WriteView.{slot, entities_of};
+
+    ghost sight = { λ v. record { entities = entities_of v; slot = slot v } };
+
+    #[inline]
+    fn get_mut(&mut self, entity: Entity) -> Result<&mut T, NotLent> {
+        WriteStorage::get_mut(self, entity)
+    }
+
+    #[inline]
+    fn insert(&mut self, entity: Entity, component: T) -> Result<Option<T>, InsertError<T>> {
+        WriteStorage::insert(self, entity, component)
+    }
+
+    #[inline]
+    fn get_mut_or_default(&mut self, entity: Entity) -> Result<&mut T, NotLent>
+    where
+        T: Default + Drop,
+    {
+        WriteStorage::get_mut_or_default(self, entity)
+    }
+
+    #[inline]
+    fn remove(&mut self, entity: Entity) -> Result<(), AllocError>
+    where
+        T: Drop,
+    {
+        match WriteStorage::remove(self, entity) {
+            Ok(_) => Ok(()),
+            Err(e) => Err(e),
+        }
+    }
+}
+
+impl<S: GenericWriteStorage> GenericWriteStorage for &mut S {
+    type Component = S::Component;
+
+    ghost sight = { λ v. S.sight v.now };
+
+    #[inline]
+    fn get_mut(&mut self, entity: Entity) -> Result<&mut S::Component, NotLent> {
+        (**self).get_mut(entity)
+    }
+
+    #[inline]
+    fn get_mut_or_default(&mut self, entity: Entity) -> Result<&mut S::Component, NotLent>
+    where
+        S::Component: Default + Drop,
+    {
+        (**self).get_mut_or_default(entity)
+    }
+
+    #[inline]
+    fn insert(
+        &mut self,
+        entity: Entity,
+        component: S::Component,
+    ) -> Result<Option<S::Component>, InsertError<S::Component>> {
+        (**self).insert(entity, component)
+    }
+
+    #[inline]
+    fn remove(&mut self, entity: Entity) -> Result<(), AllocError>
+    where
+        S::Component: Drop,
+    {
+        (**self).remove(entity)
+    }
+}

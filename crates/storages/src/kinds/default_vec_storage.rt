@@ -1,0 +1,114 @@
+//! A vector with default values at its unused places.
+ghost use Rattle.std.specs.Prelude.{◌≡◌, ◌<◌, ◌≤◌, ◌+◌, ℕ, Some, [], OnErr, OnOk, IsOk, vec_len, length, slice_get};
+ghost use Rattle.storages.specs.DefaultVec.{meaning_of};
+
+use crate::slices::SliceAccess;
+use crate::unprotected::{TryDefault, UnprotectedStorage};
+use hibits::{BitSet, Index};
+use std::alloc::{AllocError, Global};
+use std::mem;
+
+/// Components at the places of their indices, and default values at the others: its slice has a value at each place,
+/// and ends at the greatest index that was inserted since it was last cleared.
+///
+/// Ports `specs::storage::DefaultVecStorage`.
+#[derive(Drop)]
+pub struct DefaultVecStorage<T> {
+    items: Vec<T>,
+}
+
+impl<T> TryDefault for DefaultVecStorage<T> {
+    ghost IsDefault = { λ s. s.items.items ≡ [] };
+
+    fn try_default(alloc: Global) -> Result<Self, String> {
+        Ok(DefaultVecStorage {
+            items: Vec::new(alloc),
+        })
+    }
+}
+
+impl<T: Default + Drop> UnprotectedStorage<T> for DefaultVecStorage<T> {
+    ghost use Rattle.storages.specs.DefaultVec.{new_of_empty};
+
+    ghost meaning = { λ s. meaning_of s.items.items };
+
+    fn clean(&mut self, _has: &BitSet) -> Result<(), AllocError> {
+        self.items.clear();
+        Ok(())
+    }
+
+    #[inline(always)]
+    fn get(&self, id: Index) -> &T {
+        &self.items[id as usize]
+    }
+
+    #[inline(always)]
+    fn get_mut(&mut self, id: Index) -> Result<&mut T, AllocError> {
+        Ok(&mut self.items[id as usize])
+    }
+
+    #[inline]
+    fn insert(&mut self, id: Index, value: T) -> Result<(), (AllocError, T)> {
+        let place = id as usize;
+        if self.items.len() <= place {
+            match extend_to(&mut self.items, place + 1) {
+                Ok(()) => {}
+                Err(e) => return Err((e, value)),
+            }
+        }
+        self.items[place] = value;
+        Ok(())
+    }
+
+    #[inline]
+    fn remove(&mut self, id: Index) -> Result<T, AllocError> {
+        let place = &mut self.items[id as usize];
+        Ok(mem::replace(place, T::default()))
+    }
+
+    #[inline]
+    fn drop(&mut self, id: Index) {
+        self.items[id as usize] = T::default();
+    }
+
+    fn reserve_events(&mut self, _n: usize) -> Result<(), AllocError> {
+        Ok(())
+    }
+
+    fn needs_room(&self) -> bool {
+        false
+    }
+
+    ghost default_is_new = { λ s e. new_of_empty s.items.items e };
+}
+
+impl<T: Default + Drop> SliceAccess<T> for DefaultVecStorage<T> {
+    ghost use Rattle.storages.specs.Slices.{IsFullSlice};
+
+    type Element = T;
+
+    ghost IsSlice = { λ at extent xs. IsFullSlice at extent xs };
+
+    #[inline]
+    fn as_slice(&self) -> &[T] {
+        &self.items
+    }
+}
+
+// Fills the vector up with default values.
+fn extend_to<T: Default>(items: &mut Vec<T>, len: usize) -> Result<(), AllocError>
+    requires { vec_len items.old ≤ len }
+    ensures len { OnOk result (length items.new.items ≡ len) }
+    ensures values { (q : ℕ) (x : T) → slice_get items.old.items q ≡ Some x → slice_get items.new.items q ≡ Some x }
+    ensures err { OnErr result (items.new.items ≡ items.old.items) }
+{
+    let start = items.len();
+    items.reserve(len - start)?;
+    for _i in start..len {
+        match items.push(T::default()) {
+            Ok(()) => {}
+            Err(_) => unreachable!(),
+        }
+    }
+    Ok(())
+}

@@ -1,0 +1,131 @@
+//! Values without gaps, with a table from ids to places and one back.
+ghost use Rattle.std.specs.Prelude.{◌≡◌, ◌<◌, ◌^◌, ℕ, slice_get, [], Some, OnErr, OnOk, vec_len};
+ghost use Rattle.storages.specs.Dense.{IsConsistent, value_of};
+
+use crate::slices::SliceAccess;
+use crate::unprotected::{TryDefault, UnprotectedStorage};
+use hibits::{BitSet, Index};
+use std::alloc::{AllocError, Global};
+
+/// Best where few entities have the component. The values have no gaps and no stated order.
+#[derive(Drop)]
+pub struct DenseVecStorage<T> {
+    values: Vec<T>,
+    // the id of each value
+    ids: Vec<u32>,
+    // the place of each id that has a value, and anything at the others
+    places: Vec<usize>,
+    ghost consistent: { IsConsistent (vec_len values) ids.items places.items },
+}
+
+impl<T> TryDefault for DenseVecStorage<T> {
+    ghost IsDefault = { λ s. s.places.items ≡ [] };
+
+    fn try_default(alloc: Global) -> Result<Self, String> {
+        Ok(DenseVecStorage {
+            values: Vec::new(alloc),
+            ids: Vec::new(alloc),
+            places: Vec::new(alloc),
+        })
+    }
+}
+
+impl<T: Drop> UnprotectedStorage<T> for DenseVecStorage<T> {
+    ghost use Rattle.storages.specs.Dense.{meaning_of, new_of_empty};
+
+    ghost meaning = { λ s. meaning_of s.values.items s.ids.items s.places.items };
+
+    fn clean(&mut self, _has: &BitSet) -> Result<(), AllocError> {
+        self.values.clear();
+        self.ids.clear();
+        self.places.clear();
+        Ok(())
+    }
+
+    #[inline(always)]
+    fn get(&self, id: Index) -> &T {
+        let place = self.places[id as usize];
+        &self.values[place]
+    }
+
+    #[inline(always)]
+    fn get_mut(&mut self, id: Index) -> Result<&mut T, AllocError> {
+        let place = self.places[id as usize];
+        Ok(&mut self.values[place])
+    }
+
+    #[inline]
+    fn insert(&mut self, id: Index, value: T) -> Result<(), (AllocError, T)> {
+        if self.values.reserve(1).is_err() || self.ids.reserve(1).is_err() {
+            return Err((AllocError, value));
+        }
+        let index = id as usize;
+        match reach(&mut self.places, index) {
+            Ok(()) => {}
+            Err(e) => return Err((e, value)),
+        }
+        self.places[index] = self.values.len();
+        match self.ids.push(id) {
+            Ok(()) => {}
+            Err(_) => unreachable!(),
+        }
+        match self.values.push(value) {
+            Ok(()) => {}
+            Err(_) => unreachable!(),
+        }
+        Ok(())
+    }
+
+    #[inline]
+    fn remove(&mut self, id: Index) -> Result<T, AllocError> {
+        let place = self.places[id as usize];
+        let last = self.ids[self.ids.len() - 1];
+        self.places[last as usize] = place;
+        self.ids.swap_remove(place);
+        Ok(self.values.swap_remove(place))
+    }
+
+    #[inline]
+    fn drop(&mut self, id: Index) {
+        match self.remove(id) {
+            Ok(_) => {}
+            Err(_) => {}
+        }
+    }
+
+    fn reserve_events(&mut self, _n: usize) -> Result<(), AllocError> {
+        Ok(())
+    }
+
+    fn needs_room(&self) -> bool {
+        false
+    }
+
+    ghost default_is_new = { λ s e. new_of_empty s.values.items s.ids.items s.places.items e };
+}
+
+impl<T: Drop> SliceAccess<T> for DenseVecStorage<T> {
+    ghost use Rattle.storages.specs.Slices.{IsArrangement};
+
+    type Element = T;
+
+    ghost IsSlice = { λ at _ xs. IsArrangement at xs };
+
+    #[inline]
+    fn as_slice(&self) -> &[T] {
+        &self.values
+    }
+}
+
+// Makes the table reach a place, and changes no place that it has.
+fn reach(places: &mut Vec<usize>, index: usize) -> Result<(), AllocError>
+    requires { index < 2 ^ 32 }
+    ensures ok { OnOk result (index < vec_len places.new) }
+    ensures keeps { (q k : ℕ) → slice_get places.old.items q ≡ Some k → slice_get places.new.items q ≡ Some k }
+    ensures err { OnErr result (places.new.items ≡ places.old.items) }
+{
+    if places.len() <= index {
+        places.resize(index + 1, 0)?;
+    }
+    Ok(())
+}

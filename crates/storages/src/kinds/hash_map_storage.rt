@@ -1,0 +1,88 @@
+//! A hash map from indices to components.
+ghost use Rattle.std.specs.Prelude.{◌≡◌, ℕ, [], Some, IsOk};
+ghost use Rattle.std.specs.HashMap.{IsEmpty};
+ghost use Rattle.storages.specs.Maps.{meaning_of_hash};
+
+use crate::unprotected::{TryDefault, UnprotectedStorage};
+use hibits::{BitSet, Index};
+use std::alloc::{AllocError, Global};
+use std::collections::HashMap;
+
+/// Components in a hash map: best where very few entities have one.
+///
+/// Ports `specs::storage::HashMapStorage`.
+#[derive(Drop)]
+pub struct HashMapStorage<T> {
+    map: HashMap<Index, T>,
+}
+
+impl<T> TryDefault for HashMapStorage<T> {
+    ghost IsDefault = { λ s. IsEmpty s.map };
+
+    fn try_default(alloc: Global) -> Result<Self, String> {
+        Ok(HashMapStorage {
+            map: HashMap::new(alloc),
+        })
+    }
+}
+
+impl<T: Drop> UnprotectedStorage<T> for HashMapStorage<T> {
+    ghost use Rattle.storages.specs.Maps.{new_of_no_hash};
+
+    ghost meaning = { λ s. meaning_of_hash s.map };
+
+    fn clean(&mut self, _has: &BitSet) -> Result<(), AllocError> {
+        self.map.clear();
+        Ok(())
+    }
+
+    #[inline(always)]
+    fn get(&self, id: Index) -> &T {
+        match self.map.get(&id) {
+            Some(value) => value,
+            None => unreachable!(),
+        }
+    }
+
+    #[inline(always)]
+    fn get_mut(&mut self, id: Index) -> Result<&mut T, AllocError> {
+        match self.map.get_mut(&id) {
+            Some(value) => Ok(value),
+            None => unreachable!(),
+        }
+    }
+
+    #[inline]
+    fn insert(&mut self, id: Index, value: T) -> Result<(), (AllocError, T)> {
+        match self.map.insert(id, value) {
+            Ok(_) => Ok(()),
+            Err(refused) => {
+                let (_, value) = refused.value;
+                Err((AllocError, value))
+            }
+        }
+    }
+
+    #[inline]
+    fn remove(&mut self, id: Index) -> Result<T, AllocError> {
+        match self.map.remove(&id) {
+            Some(value) => Ok(value),
+            None => unreachable!(),
+        }
+    }
+
+    #[inline]
+    fn drop(&mut self, id: Index) {
+        let _ = self.map.remove(&id);
+    }
+
+    fn reserve_events(&mut self, _n: usize) -> Result<(), AllocError> {
+        Ok(())
+    }
+
+    fn needs_room(&self) -> bool {
+        false
+    }
+
+    ghost default_is_new = { λ s e. new_of_no_hash s.map e };
+}

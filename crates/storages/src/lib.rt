@@ -1,0 +1,33 @@
+//! Storages of components: six kinds under one contract, storages with their masks, views beside the entities, and
+//! the entries of single indices.
+#![tactic(auto)]
+
+mod anti_storage;
+mod any_storage;
+mod builder;
+mod entry;
+mod event;
+mod generic;
+mod kinds;
+mod life;
+mod masked;
+mod read_storage;
+mod slices;
+mod unprotected;
+mod write_storage;
+
+pub use anti_storage::AntiStorage;
+pub use any_storage::AnyStorage;
+pub use builder::WithComponent;
+pub use entry::{OccupiedEntry, StorageEntry, VacantEntry};
+pub use event::ComponentEvent;
+pub use generic::{GenericReadStorage, GenericWriteStorage};
+pub use kinds::{
+    BTreeStorage, DefaultVecStorage, DenseVecStorage, HashMapStorage, NullComponent, NullStorage,
+    VecStorage,
+};
+pub use masked::{MaskedStorage, NotLent, Replaced};
+pub use read_storage::ReadStorage;
+pub use slices::SliceAccess;
+pub use unprotected::{Component, TryDefault, UnprotectedStorage};
+pub use write_storage::{InsertError, WriteStorage};

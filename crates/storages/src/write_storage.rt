@@ -1,0 +1,255 @@
+//! A storage to write to, beside the entities.
+ghost use Rattle.std.specs.Prelude.{◌≡◌, ◌↔◌, ◌<◌, ℕ, Some, None, Ok, Err, true, false, IfOk, IfErr, IsOk, OnOk, OnErr, IsSome, is_some, is_ok, option_copied, cond, length, IsTrue};
+ghost use Rattle.std.specs.Borrow.{sem};
+ghost use Rattle.std.specs.FinMap as map;
+ghost use Rattle.std.specs.FinSet as set;
+ghost use Rattle.entities.specs.Census.{population};
+ghost use Rattle.entities.specs.Population.{generation_now, generation_reported, index_of, number_of};
+ghost use Rattle.storages.specs.declared.event.ComponentEvent.TheVariants.{Inserted, Modified, Removed};
+ghost use Rattle.storages.specs.declared.event.ComponentEvent.{ComponentEvent};
+ghost use Rattle.storages.specs.Limit.{IsIndex};
+ghost use Rattle.storages.specs.Meaning.{HasRoom};
+ghost use Rattle.storages.specs.Slot.{IsSame, Becomes, Clears, indices_of};
+ghost use Rattle.storages.specs.Life.{is_alive};
+
+use crate::event::ComponentEvent;
+use crate::life::is_living;
+use crate::masked::{MaskedStorage, NotLent};
+use crate::unprotected::{Component, UnprotectedStorage};
+use entities::{EntitiesRes, Entity, WrongGeneration};
+use hibits::BitSet;
+use std::alloc::AllocError;
+use std::mem;
+
+// What a refused insertion was to do.
+const INSERT: &str = "insert component for entity";
+
+// What a refused entry was to do.
+const ENTRY: &str = "attempting to get an entry to a storage";
+
+/// Why a component was not inserted, with the component. Nothing has changed.
+#[derive(Drop)]
+pub enum InsertError<T> {
+    /// The entity is not alive.
+    WrongGeneration(WrongGeneration, T),
+    /// Memory was refused.
+    OutOfMemory(T),
+}
+
+/// A storage to write to, beside the entities that its components belong to. An entity that is not alive reaches
+/// nothing. Ports `specs::WriteStorage`.
+#[derive(Drop)]
+pub struct WriteStorage<'a, T: Component> {
+    entities: &'a EntitiesRes,
+    data: &'a mut MaskedStorage<T>,
+}
+
+impl<'a, T: Component> WriteStorage<'a, T> {
+    ghost use Rattle.storages.specs.WriteView.{slot, entities_of, storage_name, found, lends_found, lends_filled, lends_masked, lends_live, IsInsertError};
+
+    /// A view of a storage.
+    pub fn new(entities: &'a EntitiesRes, masked: &'a mut MaskedStorage<T>) -> Self
+        ensures same_reference { storage_name result ≡ masked.entry.ghost_name }
+        ensures slot { slot result ≡ masked.old }
+        ensures entities { entities_of result ≡ entities.now }
+    {
+        WriteStorage {
+            entities,
+            data: masked,
+        }
+    }
+
+    /// Whether the entity is alive and has a component.
+    #[inline]
+    pub fn contains(&self, entity: Entity) -> bool
+        ensures { result ≡ is_some (found self.now entity) }
+    {
+        is_living(self.entities, entity) && self.data.contains(entity.id())
+    }
+
+    /// The component of an entity that is alive.
+    #[inline]
+    pub fn get(&self, entity: Entity) -> Option<&T>
+        ensures { option_copied result ≡ found self.now entity }
+    {
+        if is_living(self.entities, entity) {
+            self.data.get(entity.id())
+        } else {
+            None
+        }
+    }
+
+    /// The component of an entity that is alive, to write to.
+    #[inline]
+    pub fn get_mut(&mut self, entity: Entity) -> Result<&mut T, NotLent>
+        ensures* writes_back { sem 𝓛 (lends_found T.row T.Storage.row T.Storage.meaning T.Storage.IsDefault self.entry entity result) }
+        ensures value { IfOk result (λ x. found self.old entity ≡ Some x.now) }
+        ensures absent { (result ≡ Err NotLent.Absent) ↔ (found self.old entity ≡ None) }
+        ensures succeeds { IsSome (found self.old entity) → HasRoom (slot self.old).room 1 → IsOk result }
+    {
+        if !is_living(self.entities, entity) {
+            return Err(NotLent::Absent);
+        }
+        self.data.get_mut(entity.id())
+    }
+
+    /// The component of an entity that is alive, to write to, which is a default value if there was none. Ports
+    /// `specs::storage::GenericWriteStorage::get_mut_or_default`.
+    #[inline]
+    pub fn get_mut_or_default(&mut self, entity: Entity) -> Result<&mut T, NotLent>
+    where
+        T: Default + Drop,
+        ensures* writes_back { sem 𝓛 (lends_filled T.row T.Storage.row T.Storage.meaning T.Storage.IsDefault self.entry entity result) }
+        ensures old { IfOk result (λ x. (y : T) → found self.old entity ≡ Some y → x.now ≡ y) }
+        ensures new { found self.old entity ≡ None → IfOk result (λ x. T.is_default x.now) }
+        ensures absent { (result ≡ Err NotLent.Absent) ↔ (is_alive (population (entities_of self.old)) entity ≡ false) }
+        ensures succeeds { IsSome (found self.old entity) → HasRoom (slot self.old).room 1 → IsOk result }
+    {
+        if !is_living(self.entities, entity) {
+            return Err(NotLent::Absent);
+        }
+        self.data.get_mut_or_default(entity.id())
+    }
+
+    /// Puts a component at an entity that is alive, and answers the one that was there. It takes memory only where
+    /// there was none, or for a tracked storage's event. After an error nothing has changed.
+    #[inline]
+    pub fn insert(&mut self, entity: Entity, value: T) -> Result<Option<T>, InsertError<T>>
+        ensures same_reference { storage_name self.new ≡ storage_name self.old }
+        ensures entities { entities_of self.new ≡ entities_of self.old }
+        ensures replaced { IfOk result (λ before. before ≡ found self.old entity) }
+        ensures alive { OnOk result (is_alive (population (entities_of self.old)) entity ≡ true) }
+        ensures ok { OnOk result (Becomes (slot self.old) (slot self.new)
+            (map.insert (slot self.old).map (index_of entity) value)
+            (cond (is_some (found self.old entity)) (ComponentEvent.Modified (index_of entity)) (ComponentEvent.Inserted (index_of entity)))) }
+        ensures err { OnErr result (IsSame (slot self.old) (slot self.new)) }
+        ensures succeeds { IsSome (found self.old entity) → HasRoom (slot self.old).room 1 → IsOk result }
+        ensures refused { IfErr result (λ e. IsInsertError e entity value INSERT.now (is_alive (population (entities_of self.old)) entity) (generation_now (population (entities_of self.old)) (index_of entity))) }
+    {
+        if !is_living(self.entities, entity) {
+            let error = WrongGeneration {
+                action: INSERT,
+                actual_gen: self.entities.entity(entity.id()).generation(),
+                entity,
+            };
+            return Err(InsertError::WrongGeneration(error, value));
+        }
+        if self.data.contains(entity.id()) {
+            match self.data.present_mut(entity.id()) {
+                Ok(place) => Ok(Some(mem::replace(place, value))),
+                Err(_) => Err(InsertError::OutOfMemory(value)),
+            }
+        } else {
+            match self.data.insert(entity.id(), value) {
+                Ok(()) => Ok(None),
+                Err((_, value)) => Err(InsertError::OutOfMemory(value)),
+            }
+        }
+    }
+
+    /// Takes the component of an entity that is alive out, if there is one. After an error nothing has changed.
+    #[inline]
+    pub fn remove(&mut self, entity: Entity) -> Result<Option<T>, AllocError>
+        ensures same_reference { storage_name self.new ≡ storage_name self.old }
+        ensures entities { entities_of self.new ≡ entities_of self.old }
+        ensures value { IfOk result (λ x. x ≡ found self.old entity) }
+        ensures removed { OnOk result (IsSome (found self.old entity) → Becomes (slot self.old) (slot self.new) (map.remove (slot self.old).map (index_of entity)) (ComponentEvent.Removed (index_of entity))) }
+        ensures absent { found self.old entity ≡ None → (result ≡ Ok None) × (slot self.new ≡ slot self.old) }
+        ensures err { OnErr result (IsSame (slot self.old) (slot self.new)) }
+        ensures succeeds { HasRoom (slot self.old).room 1 → IsOk result }
+    {
+        if !is_living(self.entities, entity) {
+            return Ok(None);
+        }
+        self.data.remove(entity.id())
+    }
+
+    /// Takes every component out. A tracked storage emits a removal for each, ascending. After an error nothing has
+    /// changed.
+    pub fn clear(&mut self) -> Result<(), AllocError>
+        ensures same_reference { storage_name self.new ≡ storage_name self.old }
+        ensures entities { entities_of self.new ≡ entities_of self.old }
+        ensures ok { OnOk result (Clears (slot self.old) (slot self.new)) }
+        ensures err { OnErr result (IsSame (slot self.old) (slot self.new)) }
+        ensures succeeds { HasRoom (slot self.old).room (length (indices_of (slot self.old))) → IsOk result }
+    {
+        self.data.clear()
+    }
+
+    // The storage.
+    #[inline]
+    pub(crate) fn storage(&self) -> &MaskedStorage<T>
+        ensures { result.now ≡ slot self.now }
+    {
+        self.data
+    }
+
+    /// The indices that have a component.
+    #[inline]
+    pub fn mask(&self) -> &BitSet
+        ensures { (q : ℕ) → set.contains result.now.members q ≡ map.contains_key (slot self.now).map q }
+    {
+        self.data.mask()
+    }
+
+    /// How many indices have a component. It reads the words of the mask.
+    pub fn count(&self) -> usize
+        ensures { result ≡ length (indices_of (slot self.now)) }
+    {
+        self.data.count()
+    }
+
+    /// Whether no index has a component.
+    #[inline]
+    pub fn is_empty(&self) -> bool
+        ensures { IsTrue result ↔ ((slot self.now).map ≡ map.empty) }
+    {
+        self.data.is_empty()
+    }
+
+    /// The storage without its mask.
+    pub fn unprotected_storage(&self) -> &T::Storage
+        ensures present { (q : ℕ) → IsSome (map.get (slot self.now).map q) → (T.Storage.meaning result.now).at q ≡ map.get (slot self.now).map q }
+        ensures absent { (q : ℕ) → map.get (slot self.now).map q ≡ None → (T.Storage.meaning result.now).is_free q ≡ true }
+        ensures extent { (T.Storage.meaning result.now).extent ≡ (slot self.now).extent }
+        ensures channel { (T.Storage.meaning result.now).channel ≡ (slot self.now).channel }
+        ensures room { (T.Storage.meaning result.now).room ≡ (slot self.now).room }
+    {
+        self.data.unprotected_storage()
+    }
+
+    /// The entities.
+    #[inline]
+    pub fn fetched_entities(&self) -> &EntitiesRes
+        ensures { result.now ≡ entities_of self.now }
+    {
+        self.entities
+    }
+
+    /// The storage without the entities.
+    #[inline]
+    pub fn masked_mut(&mut self) -> &mut MaskedStorage<T>
+        ensures* lends { sem 𝓛 (lends_masked T.row T.Storage.row T.Storage.meaning T.Storage.IsDefault self.entry result) }
+        ensures slot { result.now ≡ slot self.old }
+    {
+        &mut *self.data
+    }
+
+    /// The storage without the entities, if the entity is alive: its `entry` then has the component of the entity's
+    /// index.
+    #[inline]
+    pub fn live(&mut self, entity: Entity) -> Result<&mut MaskedStorage<T>, WrongGeneration>
+        ensures* lends { sem 𝓛 (lends_live T.row T.Storage.row T.Storage.meaning T.Storage.IsDefault self.entry result) }
+        ensures alive { is_ok result ≡ is_alive (population (entities_of self.old)) entity }
+        ensures slot { IfOk result (λ r. r.now ≡ slot self.old) }
+        ensures limit { OnOk result (IsIndex (index_of entity)) }
+        ensures entity { IfErr result (λ w. w.entity ≡ entity) }
+        ensures action { IfErr result (λ w. w.action.now ≡ ENTRY.now) }
+        ensures actual { IfErr result (λ w. number_of w.actual_gen ≡ generation_reported (population (entities_of self.old)) (index_of entity)) }
+    {
+        if !is_living(self.entities, entity) {
+            return Err(self.entities.wrong_generation(ENTRY, entity));
+        }
+        Ok(&mut *self.data)
+    }
+}

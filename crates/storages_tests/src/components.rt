@@ -1,0 +1,141 @@
+//! Components of each kind of storage.
+ghost use Rattle.std.specs.Prelude.{◌≡◌, refl};
+
+use storages::{
+    BTreeStorage, Component, DefaultVecStorage, DenseVecStorage, HashMapStorage, NullComponent,
+    NullStorage, VecStorage,
+};
+
+/// A component that is a number.
+pub trait Number: Component + Copy + Default + Drop {
+    /// The component of a number.
+    fn of(number: u32) -> Self;
+
+    /// The number.
+    fn number(self) -> u32;
+
+    /// Adds, past the greatest number from 0 on.
+    fn add(&mut self, number: u32);
+}
+
+/// A number in a `VecStorage`.
+#[derive(Clone, Copy, Default)]
+pub struct InVec(pub u32);
+
+/// A number in a `DenseVecStorage`.
+#[derive(Clone, Copy, Default)]
+pub struct InDense(pub u32);
+
+/// A number in a `DefaultVecStorage`.
+#[derive(Clone, Copy, Default)]
+pub struct InDefaultVec(pub u32);
+
+/// A number in a `HashMapStorage`.
+#[derive(Clone, Copy, Default)]
+pub struct InHash(pub u32);
+
+/// A number in a `BTreeStorage`.
+#[derive(Clone, Copy, Default)]
+pub struct InBTree(pub u32);
+
+/// A component without data.
+#[derive(Clone, Copy, Default)]
+pub struct Flag;
+
+impl Component for InVec {
+    type Storage = VecStorage<Self>;
+}
+
+impl Component for InDense {
+    type Storage = DenseVecStorage<Self>;
+}
+
+impl Component for InDefaultVec {
+    type Storage = DefaultVecStorage<Self>;
+}
+
+impl Component for InHash {
+    type Storage = HashMapStorage<Self>;
+}
+
+impl Component for InBTree {
+    type Storage = BTreeStorage<Self>;
+}
+
+impl NullComponent for Flag {
+    ghost all_equal = { λ a b. refl };
+}
+
+impl Component for Flag {
+    type Storage = NullStorage<Self>;
+}
+
+impl Number for InVec {
+    fn of(number: u32) -> Self {
+        InVec(number)
+    }
+
+    fn number(self) -> u32 {
+        self.0
+    }
+
+    fn add(&mut self, number: u32) {
+        self.0 = self.0.wrapping_add(number);
+    }
+}
+
+impl Number for InDense {
+    fn of(number: u32) -> Self {
+        InDense(number)
+    }
+
+    fn number(self) -> u32 {
+        self.0
+    }
+
+    fn add(&mut self, number: u32) {
+        self.0 = self.0.wrapping_add(number);
+    }
+}
+
+impl Number for InDefaultVec {
+    fn of(number: u32) -> Self {
+        InDefaultVec(number)
+    }
+
+    fn number(self) -> u32 {
+        self.0
+    }
+
+    fn add(&mut self, number: u32) {
+        self.0 = self.0.wrapping_add(number);
+    }
+}
+
+impl Number for InHash {
+    fn of(number: u32) -> Self {
+        InHash(number)
+    }
+
+    fn number(self) -> u32 {
+        self.0
+    }
+
+    fn add(&mut self, number: u32) {
+        self.0 = self.0.wrapping_add(number);
+    }
+}
+
+impl Number for InBTree {
+    fn of(number: u32) -> Self {
+        InBTree(number)
+    }
+
+    fn number(self) -> u32 {
+        self.0
+    }
+
+    fn add(&mut self, number: u32) {
+        self.0 = self.0.wrapping_add(number);
+    }
+}

@@ -1,0 +1,18 @@
+//! Storages at concrete types: what callers learn of a loan, and tests over the kinds of storage.
+#![tactic(auto)]
+
+mod components;
+#[cfg(test)]
+mod entry_tests;
+#[cfg(test)]
+mod kind_tests;
+#[cfg(test)]
+mod kinds;
+mod loans;
+#[cfg(test)]
+mod view_tests;
+#[cfg(test)]
+mod world;
+
+pub use components::{Flag, InBTree, InDefaultVec, InDense, InHash, InVec, Number};
+pub use loans::{entry_or_seven, seven_through_entry, seven_through_storage, seven_through_view};
