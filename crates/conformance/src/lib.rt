@@ -9,6 +9,12 @@ mod runs;
 #[cfg(test)]
 mod scripts;
 #[cfg(test)]
+mod upstream_births;
+#[cfg(test)]
+mod upstream_entities;
+#[cfg(test)]
+mod upstream_storages;
+#[cfg(test)]
 mod worlds;
 
 pub use callers::{born_in_a_phase, is_gone};

@@ -107,7 +107,8 @@ impl<S: Storages> World<S> {
         }
     }
 
-    /// Takes up pending births, and lets the marked die with their components. It takes memory for the list of the dead alone. Ports `WorldExt::maintain`.
+    /// Takes up pending births, and lets the marked die with their components. It takes memory for the list of the dead alone. The limit is of
+    /// jobs to be done, of which there are none yet. Ports `WorldExt::maintain`.
     pub fn maintain(&mut self, _limit: u64) -> Result<Maintained, AllocError>
         ensures ok { IfOk result (λ m. Maintains (state_of S.table self.old) m (state_of S.table self.new)) }
         ensures idle { NoneMarked (state_of S.table self.old).people → IsOk result }

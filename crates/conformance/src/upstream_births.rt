@@ -1,0 +1,188 @@
+//! Tests of specs on mixed births and deaths, by their names there.
+use slots::{Position, Slot, Slots, Value};
+use specs::{Command, Entity, Reply, SetExpr, World};
+use std::alloc::Global;
+use std::collections::HashSet;
+use std::test::Fail;
+
+/// A world, with the entities that were ever born in it, and those that nobody deleted yet.
+#[derive(Drop)]
+struct Nursery {
+    world: World<Slots>,
+    given: HashSet<Entity>,
+    living: Vec<Entity>,
+}
+
+impl Nursery {
+    fn new(alloc: Global) -> Self {
+        Nursery {
+            world: World::new(alloc, Slots::new()),
+            given: HashSet::new(alloc),
+            living: Vec::new(alloc),
+        }
+    }
+
+    /// A birth, at once or pending. It answers whether the entity was never given before.
+    fn bear(&mut self, birth: Command<Slot, Value>) -> bool {
+        match self.world.apply(birth) {
+            Reply::Entity(e) => {
+                matches!(self.given.insert(e), Ok(true)) && self.living.push(e).is_ok()
+            }
+            _ => false,
+        }
+    }
+
+    /// A birth, and a death at once.
+    fn bear_in_vain(&mut self) -> bool {
+        match self.world.apply(Command::Create) {
+            Reply::Entity(e) => self.world.delete_entity(e).is_ok(),
+            _ => false,
+        }
+    }
+
+    /// Rounds of births at once and pending, in a fixed order, each with a maintenance at its end.
+    fn bear_round(&mut self, count: u32) -> bool {
+        for _ in 0..count {
+            let fresh = self.bear(Command::Create)
+                && self.bear_in_vain()
+                && self.bear(Command::CreatePending)
+                && self.bear(Command::CreatePending)
+                && self.bear(Command::Create);
+            if !fresh {
+                return false;
+            }
+        }
+        self.world.maintain(0).is_ok()
+    }
+
+    fn bear_rounds(&mut self, count: u32) -> bool {
+        for _ in 0..10 {
+            if !self.bear_round(count) {
+                return false;
+            }
+        }
+        true
+    }
+
+    /// Each dies at the next maintenance.
+    fn mark_all(&mut self) -> bool {
+        let Nursery { world, living, .. } = self;
+        for e in living.as_slice() {
+            if world.parts().delete(*e).is_err() {
+                return false;
+            }
+        }
+        living.clear();
+        true
+    }
+
+    /// Each dies at once.
+    fn delete_all(&mut self) -> bool {
+        let Nursery { world, living, .. } = self;
+        for e in living.as_slice() {
+            if world.delete_entity(*e).is_err() {
+                return false;
+            }
+        }
+        living.clear();
+        true
+    }
+}
+
+#[test]
+fn mixed_create_merge(rt: HostRuntime) {
+    let mut nursery = Nursery::new(rt.alloc());
+    assert!(rt; nursery.bear_rounds(10));
+    assert!(rt; nursery.mark_all());
+    assert!(rt; nursery.bear_rounds(20));
+    assert!(rt; nursery.delete_all());
+    assert!(rt; nursery.bear_rounds(40));
+}
+
+/// A linear congruential generator.
+#[derive(Drop)]
+struct Random(u32);
+
+impl Random {
+    fn next(&mut self) -> u32 {
+        self.0 = self.0.wrapping_mul(214_013).wrapping_add(2_531_011);
+        self.0 % 32_767
+    }
+
+    fn number(&mut self) -> i64 {
+        i64::from(self.next() % 256) - 128
+    }
+}
+
+/// The position of an entity.
+fn position(world: &mut World<Slots>, e: Entity) -> Option<i64> {
+    match world.apply(Command::Get(Slot::Pos, e)) {
+        Reply::Value(Some(Value::Pos(Position(number)))) => Some(number),
+        _ => None,
+    }
+}
+
+/// A pending birth with a position. It answers whether nothing was refused.
+fn bear_at(world: &mut World<Slots>, number: i64) -> bool {
+    match world.apply(Command::CreatePending) {
+        Reply::Entity(e) => {
+            let insert = Command::Insert(e, Value::Pos(Position(number)));
+            matches!(world.apply(insert), Reply::Value(None))
+        }
+        _ => false,
+    }
+}
+
+/// The entities whose position is no greater than any before it, by index.
+fn lowest(alloc: Global, world: &mut World<Slots>) -> Result<Vec<Entity>, Fail> {
+    let Ok(indices) = world.select(&SetExpr::Slot(Slot::Pos)) else {
+        return Err("no selection".into());
+    };
+    let mut least = i64::MAX;
+    let mut found = Vec::new(alloc);
+    for index in indices {
+        let e = world.entities().entity(index);
+        let number = position(world, e).ok_or("no position")?;
+        if number <= least {
+            least = number;
+            found.push(e)?;
+        }
+    }
+    Ok(found)
+}
+
+/// Marks the last entities of a list.
+fn mark_last(world: &mut World<Slots>, mut list: Vec<Entity>, count: u32) -> bool {
+    for _ in 0..count {
+        if let Some(e) = list.pop() {
+            if world.parts().delete(e).is_err() {
+                return false;
+            }
+        }
+    }
+    true
+}
+
+fn bear_some(world: &mut World<Slots>, random: &mut Random, count: u32) -> bool {
+    for _ in 0..count {
+        if !bear_at(world, random.number()) {
+            return false;
+        }
+    }
+    true
+}
+
+#[test]
+fn stillborn_entities(rt: HostRuntime) -> Result<(), Fail> {
+    let mut random = Random(0xdead_beef);
+    let mut world = World::new(rt.alloc(), Slots::new());
+    assert!(rt; matches!(world.apply(Command::Register(Slot::Pos)), Reply::Done));
+    assert!(rt; bear_some(&mut world, &mut random, 100));
+    for _ in 0..100 {
+        let count = random.next() % 25;
+        let list = lowest(rt.alloc(), &mut world)?;
+        assert!(rt; mark_last(&mut world, list, count));
+        assert!(rt; bear_some(&mut world, &mut random, count));
+    }
+    Ok(())
+}

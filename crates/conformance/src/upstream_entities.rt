@@ -1,0 +1,128 @@
+//! Tests of specs on births and deaths, by their names there.
+use crate::runs::Tale;
+use std::alloc::{AllocError, Global};
+use std::test::Fail;
+
+#[test]
+fn kill_atomic_create_merge(rt: HostRuntime) -> Result<(), Fail> {
+    let mut tale = Tale::new(rt.alloc());
+    tale.line("create", "0:1")?;
+    tale.line("mark 0:1", "ok")?;
+    tale.line("create", "1:1")?;
+    tale.line("maintain 0", "deleted [0:1] ran 0 refused 0 left 0")?;
+    tale.assert_holds(&rt, rt.alloc());
+    Ok(())
+}
+
+#[test]
+fn kill_atomic_kill_now_create_merge(rt: HostRuntime) -> Result<(), Fail> {
+    let mut tale = Tale::new(rt.alloc());
+    tale.line("create", "0:1")?;
+    tale.line("mark 0:1", "ok")?;
+    tale.line("create", "1:1")?;
+    tale.line("delete 0:1", "ok")?;
+    tale.line("create", "0:2")?;
+    tale.line("maintain 0", "deleted [] ran 0 refused 0 left 0")?;
+    tale.assert_holds(&rt, rt.alloc());
+    Ok(())
+}
+
+#[test]
+fn is_alive(rt: HostRuntime) -> Result<(), Fail> {
+    let mut tale = Tale::new(rt.alloc());
+    tale.line("create", "0:1")?;
+    tale.line("alive 0:1", "true")?;
+    tale.line("delete 0:1", "ok")?;
+    tale.line("alive 0:1", "false")?;
+    tale.line("create", "0:2")?;
+    tale.line("mark 0:2", "ok")?;
+    tale.line("alive 0:2", "true")?;
+    tale.line("maintain 0", "deleted [0:2] ran 0 refused 0 left 0")?;
+    tale.line("alive 0:2", "false")?;
+    tale.assert_holds(&rt, rt.alloc());
+    Ok(())
+}
+
+#[test]
+fn delete_twice(rt: HostRuntime) -> Result<(), Fail> {
+    let mut tale = Tale::new(rt.alloc());
+    tale.line("create", "0:1")?;
+    tale.line("delete 0:1", "ok")?;
+    tale.line(
+        "mark 0:1",
+        "error: Tried to delete entity Entity(0, Generation(1)), but the generation is no longer valid; it should be Generation(-1)",
+    )?;
+    tale.assert_holds(&rt, rt.alloc());
+    Ok(())
+}
+
+/// Pending births of new indices, each of which is marked if so wanted.
+fn pending_births(alloc: Global, count: u32, marked: bool) -> Result<Tale, AllocError> {
+    let mut tale = Tale::new(alloc);
+    for index in 0..count {
+        let entity = format!(in alloc; "{index}:1")?;
+        tale.line("create pending", entity.as_str())?;
+        if marked {
+            let mark = format!(in alloc; "mark {entity}")?;
+            tale.line(mark.as_str(), "ok")?;
+        }
+    }
+    Ok(tale)
+}
+
+#[test]
+fn dynamic_create(rt: HostRuntime) -> Result<(), Fail> {
+    let tale = pending_births(rt.alloc(), 1000, false)?;
+    tale.assert_holds(&rt, rt.alloc());
+    Ok(())
+}
+
+#[test]
+fn dynamic_deletion(rt: HostRuntime) -> Result<(), Fail> {
+    let tale = pending_births(rt.alloc(), 1000, true)?;
+    tale.assert_holds(&rt, rt.alloc());
+    Ok(())
+}
+
+#[test]
+fn dynamic_create_and_delete(rt: HostRuntime) -> Result<(), Fail> {
+    let mut tale = pending_births(rt.alloc(), 5, true)?;
+    tale.line(
+        "maintain 0",
+        "deleted [0:1, 1:1, 2:1, 3:1, 4:1] ran 0 refused 0 left 0",
+    )?;
+    tale.assert_holds(&rt, rt.alloc());
+    Ok(())
+}
+
+#[test]
+fn maintain_entity_deletion(rt: HostRuntime) -> Result<(), Fail> {
+    let mut tale = Tale::new(rt.alloc());
+    tale.lines(&["register pos", "register tag"], "ok")?;
+    tale.line("create", "0:1")?;
+    tale.line("create", "1:1")?;
+    tale.line("create", "2:1")?;
+    tale.lines(
+        &[
+            "insert pos 0:1 12",
+            "insert pos 1:1 12",
+            "insert pos 2:1 12",
+        ],
+        "none",
+    )?;
+    tale.lines(
+        &[
+            "insert tag 0:1 tag",
+            "insert tag 1:1 tag",
+            "insert tag 2:1 tag",
+        ],
+        "none",
+    )?;
+    tale.line("maintain 0", "deleted [] ran 0 refused 0 left 0")?;
+    tale.line("select and pos tag", "[0, 1, 2]")?;
+    tale.line("mark 1:1", "ok")?;
+    tale.line("maintain 0", "deleted [1:1] ran 0 refused 0 left 0")?;
+    tale.lines(&["select and pos tag", "select pos"], "[0, 2]")?;
+    tale.assert_holds(&rt, rt.alloc());
+    Ok(())
+}
