@@ -1,12 +1,12 @@
 -- How a walk goes on, over plain numbers and lists.
-use Rattle.std.proofs.Common.{◌≡◌, ◌≢◌, ℕ, zero, suc, ◌+◌, ◌-◌, ◌*◌, ◌/◌, ◌%◌, ◌^◌, ◌<◌, ◌≤◌, min, Bool, true, false, cond, List, length, get_or, set, bit_and, w64, refl, sym, ap, ◌∙◌, inl, inr, arith, length-set, get_or-set_same, get_or-set_other, add-one, zero-add, ◌⊎◌, ⊎_elim}
+use Rattle.std.proofs.Common.{◌≡◌, ◌≢◌, ℕ, zero, suc, ◌+◌, ◌-◌, ◌*◌, ◌/◌, ◌%◌, ◌^◌, ◌<◌, ◌≤◌, min, Bool, true, false, cond, List, length, get_or, set, bit_and, w64, refl, sym, ap, ◌∙◌, inl, inr, arith, length-set, get_or-set_same, get_or-set_other, add-one, ◌⊎◌, ⊎_elim}
 use Rattle.std.specs.Int.{bit_at, trailing_zeros}
 use Rattle.std.proofs.lemmas.Bool.{cases_eq, cases_lt}
 use Rattle.std.proofs.lemmas.Nat.Bits.{bit_at-zero, bit_at-trailing_zeros, bit_at_and, bit_at_cat_low, bit_at_cat_high, bit_at_ones_above}
 use Rattle.std.proofs.lemmas.Nat.{and_le_l, mod-pow-add, pow_pos, pow_below, div-add-mod'}
 use Rattle.std.proofs.Math.Nat.{pow-succ', mul-le-mul_left}
 use Rattle.hibits.specs.declared.limits.TheConstants.{LAYERS}
-use Rattle.hibits.specs.Counts.{count_below}
+use Rattle.hibits.specs.Counts.{count_below, count_past}
 use Rattle.hibits.specs.Walks.{IsLevel, IsWalk, walked, left_in}
 
 -- the word without its lowest bit, as the code clears it
@@ -64,19 +64,6 @@ module _ (w k : ℕ) (at : bit_at w k ≡ 1) (lower : (i : ℕ) → i < k → bi
             omega (arith, x, y)
       ]
 
--- ---- counts
-skip : (p : ℕ → Bool) (f n : ℕ) → f ≤ n → ((k : ℕ) → f ≤ k → k < n → p k ≡ true → ⊥) → count_below p n ≡ count_below p f
-skip p f zero le none = let e : zero ≡ f = omega arith in ap (count_below p) e
-skip p f (suc n) le none =
-    elim (cases_lt n f) [
-      | inl lt ↦ let e : suc n ≡ f = omega arith in ap (count_below p) e
-      | inr ge ↦
-          elim (p n) as (λ b. p n ≡ b → cond b 1 0 + count_below p n ≡ count_below p f) [
-            | true ↦ λ e. absurd (none n ge (omega arith) e)
-            | false ↦ λ e. zero-add _ ∙ skip p f n ge (λ k a b. none k a (omega arith))
-          ] refl
-    ]
-
 -- ---- one layer
 module _ (p : ℕ → Bool) (w f u : ℕ) (ok : IsLevel p w f u) where
   -- nothing is left where the word is 0
@@ -131,7 +118,7 @@ module _ (p : ℕ → Bool) (w f u : ℕ) (ok : IsLevel p w f u) where
         let right = lowest_right in
         let i = 64 * (u - 1) + trailing_zeros w64 w in
         let e : i + 1 ≡ suc i = omega arith in
-        let s : count_below p i ≡ count_below p f = skip p f i right.1 none_before in
+        let s : count_below p i ≡ count_below p f = count_past p f i right.1 none_before in
         let one : cond {A = ℕ} (p i) 1 0 ≡ 1 = ap (λ b. cond b 1 0) right.2 in
         ap (count_below p) e ∙ omega (arith, s, one)
 
