@@ -12,9 +12,10 @@ use Rattle.std.proofs.Common.{lit<}
 use Rattle.std.specs.Prelude.{Option, Some, None, MatchOption}
 use Rattle.hibits.specs.declared.limits.TheConstants.{LAYERS, INDEX_LIMIT}
 use Rattle.std.proofs.lemmas.Nat.Bits.{bit_at-zero, bit_at_above, bit_at-trailing_zeros}
-use Rattle.hibits.specs.Sets.{has_part, has_part_zero, part_member, member_part, part_covers, part_within}
+use Rattle.hibits.specs.Sets.{has_part, has_part_zero, part_member, member_part, part_covers, part_within, none_in_empty}
 use Rattle.hibits.specs.Walks.{IsNext}
 use Rattle.hibits.specs.Rows.{row_bit, members_of, IsSound}
+use Rattle.hibits.proofs.WalkLemmas.{one_is_set}
 use Rattle.hibits.proofs.RowLemmas.{no_bit, top_zero, room_below, member_has_room}
 
 -- bits of a word that is shifted down
@@ -24,11 +25,7 @@ shifted w k j = ap (λ n. n % 2) (shr-shr w k j)
 -- a word of layer p, of which bit j is bit 64 place + j
 module _ (p : ℕ → Bool) (w place : ℕ) (fits : w < 2 ^ 64) (bits : (j : ℕ) → j < 64 → bit_at w j ≡ cond (p (64 * place + j)) 1 0) where
   is_set : (j : ℕ) → j < 64 → bit_at w j ≡ 1 → p (64 * place + j) ≡ true
-  is_set j lt one =
-      elim (p (64 * place + j)) as (λ b. p (64 * place + j) ≡ b → b ≡ true) [
-        | true ↦ λ _. refl
-        | false ↦ λ e. absurd (let z = bits j lt ∙ ap (λ b. cond b 1 0) e in omega arith)
-      ] refl
+  is_set j lt one = one_is_set _ (p (64 * place + j)) (bits j lt) one
 
   is_one : (j : ℕ) → j < 64 → p (64 * place + j) ≡ true → bit_at w j ≡ 1
   is_one j lt e = bits j lt ∙ ap (λ b. cond b 1 0) e
@@ -135,7 +132,7 @@ module _ (w0 w1 w2 : List ℕ) (t : ℕ) (ok : IsSound w0 w1 w2 (t ∷ [])) wher
       let part = member_part (members_of w0) 3 q e in
       let bit : row_bit (t ∷ []) (q / 64 ^ 3) ≡ false = rw is (no_bit (0 ∷ []) top_zero (q / 64 ^ 3)) in
       absurd (true≢false (sym part ∙ up ∙ bit)))
-      (λ e. absurd (true≢false (sym e ∙ set.contains-empty nat_cmp q))))
+      (λ e. absurd (none_in_empty set.empty refl q e)))
 
   pub empty_top_zero : members_of w0 ≡ set.empty → t ≡ 0
   empty_top_zero is =
@@ -148,7 +145,7 @@ module _ (w0 w1 w2 : List ℕ) (t : ℕ) (ok : IsSound w0 w1 w2 (t ∷ [])) wher
             let c : trailing_zeros w64 t % 64 ≡ trailing_zeros w64 t = omega arith in
             let bit : row_bit (t ∷ []) (trailing_zeros w64 t) ≡ true = eq-eqb _ 1 (ap (λ n. bit_at (get_or (t ∷ []) n 0) (trailing_zeros w64 t % 64)) a ∙ ap (bit_at t) c ∙ b.1) in
             let m = part_member (members_of w0) 3 (trailing_zeros w64 t) (sym (ok.tied3.bits (trailing_zeros w64 t)) ∙ bit) in
-            absurd (true≢false (sym m.1 ∙ ap (λ s. set.contains s m.0) is ∙ set.contains-empty nat_cmp m.0))
+            absurd (none_in_empty (members_of w0) is m.0 m.1)
       ]
 
 -- as the code goes

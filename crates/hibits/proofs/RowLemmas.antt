@@ -11,7 +11,7 @@ use Rattle.std.proofs.lemmas.Bool.Decides.{eqb_tells}
 use Rattle.std.proofs.lemmas.List.{get_or_past}
 use Rattle.std.proofs.lemmas.Nat.Bits.{bit_at-zero, bit_at-lt, bit_at-trailing_zeros, bit_at_set_same, bit_at_set_other, bit_at_clear_same, bit_at_clear_other, shr_and_one}
 use Rattle.hibits.specs.declared.limits.TheConstants.{INDEX_LIMIT}
-use Rattle.hibits.specs.Sets.{has_part, has_part_zero, part_member, member_part, part_covers, part_within}
+use Rattle.hibits.specs.Sets.{has_part, has_part_zero, part_member, member_part, part_covers, part_within, none_in_empty}
 use Rattle.hibits.specs.Rows.{row_bit, list_below, members_of, rooms_of, IsTied, AreWords, IsSound, IsPut, SameWords}
 
 -- ---- the members of a row
@@ -329,7 +329,7 @@ module _ (ws : List ℕ) (zeros : (k : ℕ) → get_or ws k 0 ≡ 0) where
 none_in_part : (m : set.FinSet nat_cmp) → m ≡ set.empty → (l i : ℕ) → has_part m l i ≡ false
 none_in_part m is l i =
     both_ways (has_part m l i) false
-    (λ e. let w = part_member m l i e in absurd (true≢false (sym w.1 ∙ ap (λ s. set.contains s w.0) is ∙ set.contains-empty nat_cmp w.0)))
+    (λ e. let w = part_member m l i e in absurd (none_in_empty m is w.0 w.1))
     (λ e. absurd (true≢false (sym e)))
 
 zero_tied : (m : set.FinSet nat_cmp) → m ≡ set.empty → (l : ℕ) (ws : List ℕ) → ((k : ℕ) → get_or ws k 0 ≡ 0) → IsTied m l ws

@@ -50,6 +50,10 @@ finds p x px (y ∷ ys) e =
 contains-items : (s : set.FinSet nat_cmp) (x : ℕ) → set.contains s x ≡ list_any (λ y. x == y) (set.items s)
 contains-items s x = set.contains-items s x ∙ same_items _ _ (unsigned_tied x) (set.items s)
 
+-- an empty set has no member
+pub none_in_empty : (s : set.FinSet nat_cmp) → s ≡ set.empty → (x : ℕ) → set.contains s x ≡ true → ⊥
+none_in_empty s empty x has = true≢false (sym has ∙ ap (λ t. set.contains t x) empty ∙ set.contains-empty nat_cmp x)
+
 -- a part that has a member, and its member
 pub part_member : (s : set.FinSet nat_cmp) (l i : ℕ) → has_part s l i ≡ true → (x : ℕ) × (set.contains s x ≡ true) × (x / 64 ^ l ≡ i)
 unfolding has_part
@@ -110,7 +114,7 @@ insert_same s k had x e =
 
 list_few : (ks : List ℕ) (l n : ℕ) → count_below (has_part (set.from_list {R = nat_cmp} ks) l) n ≤ set.len (set.from_list {R = nat_cmp} ks)
 list_few [] l n =
-    let none = count_none (has_part set.empty l) n (λ i _ e. let m = part_member set.empty l i e in true≢false (sym m.1 ∙ set.contains-empty nat_cmp m.0)) in
+    let none = count_none (has_part set.empty l) n (λ i _ e. let m = part_member set.empty l i e in none_in_empty set.empty refl m.0 m.1) in
     omega arith
 list_few (k ∷ ks) l n =
     let rest = list_few ks l n in
