@@ -1,6 +1,4 @@
-use Rattle.std.proofs.Common.{◌≡◌, ℕ, ◌/◌, ◌-◌, ◌*◌, ◌<◌, Bool, true, false, ap, sym, ◌∙◌, arith, inl, inr}
-use Rattle.std.specs.FinSet as set
-use Rattle.std.specs.Ordering.{nat_cmp}
+use Rattle.std.proofs.Common.{◌/◌, ◌-◌, arith, inl, inr}
 use Rattle.std.proofs.lemmas.Bool.{cases_lt}
 use Rattle.hibits.specs.Sets.{none_in_empty}
 use Rattle.hibits.proofs.bit_set.BitSet.with_capacity.Goals as goal
