@@ -5,12 +5,12 @@ use Rattle.std.specs.Int.RustNames.{count_ones}
 use Rattle.std.specs.Ordering.{nat_cmp}
 use Rattle.std.specs.Cmp.{nat_cmp_total}
 use Rattle.std.specs.FinSet as set
-use Rattle.std.proofs.lemmas.Bool.{cases_lt, cases_eq}
+use Rattle.std.proofs.lemmas.Bool.{cases_eq, true≢false}
 use Rattle.std.proofs.lemmas.Bool.Decides.{eqb_tells}
 use Rattle.std.proofs.lemmas.Nat.{and_le_l, mod-pow-add, ones_cat, zero_from_ones, ones_le_self, pow_pos, mod_below}
 use Rattle.std.proofs.lemmas.Nat.Bits.{bit_at-zero, bit_at-lt, bit_at_and, bit_at_not, bit_at-trailing_zeros}
 use Rattle.hibits.specs.declared.limits.TheConstants.{INDEX_LIMIT}
-use Rattle.hibits.specs.Counts.{count_below}
+use Rattle.hibits.specs.Counts.{count_below, count_same, count_add, count_past}
 use Rattle.hibits.specs.Left.{left, passing}
 use Rattle.hibits.specs.Rows.{row_bit, list_below, members_of}
 use Rattle.hibits.proofs.RowLemmas.{contains-members_of, list_below-none, past_row}
@@ -52,31 +52,6 @@ module _ (inner outer : List ℕ) (k : ℕ) (wf : get_or inner k 0 < 2 ^ 64) (of
       omega arith
 
 -- ---- counts of bits
-pub count_same : (p q : ℕ → Bool) (n : ℕ) → ((i : ℕ) → i < n → p i ≡ q i) → count_below p n ≡ count_below q n
-count_same p q zero same = refl
-count_same p q (suc n) same =
-    let rest = count_same p q n (λ i lt. same i (omega arith)) in
-    let here : cond {A = ℕ} (p n) 1 0 ≡ cond (q n) 1 0 = ap (λ b. cond b 1 0) (same n (omega arith)) in
-    omega arith
-
-count_past : (p : ℕ → Bool) (n m : ℕ) → n ≤ m → ((i : ℕ) → n ≤ i → p i ≡ false) → count_below p m ≡ count_below p n
-count_past p n zero le none = let e : zero ≡ n = omega arith in ap (count_below p) e
-count_past p n (suc m) le none =
-    elim (cases_lt m n) [
-      | inl lt ↦ let e : suc m ≡ n = omega arith in ap (count_below p) e
-      | inr ge ↦
-          let rest = count_past p n m ge none in
-          let here : cond {A = ℕ} (p m) 1 0 ≡ 0 = ap (λ b. cond b 1 0) (none m ge) in
-          omega arith
-    ]
-
-count_add : (p : ℕ → Bool) (a n : ℕ) → count_below p (a + n) ≡ count_below p a + count_below (λ j. p (a + j)) n
-count_add p a zero = let e : a + zero ≡ a = omega arith in ap (count_below p) e ∙ omega arith
-count_add p a (suc n) =
-    let e : a + suc n ≡ suc (a + n) = omega arith in
-    let rest = count_add p a n in
-    ap (count_below p) e ∙ omega arith
-
 ones_bit : (b : ℕ) → b < 2 → count_ones b ≡ b
 ones_bit b lt =
     let le = ones_le_self b in
@@ -101,10 +76,6 @@ ones_below w (suc n) =
       | inr other ↦ ap (λ b. cond b 1 0) other.0 ∙ (let z : 0 ≡ bit_at w n = omega (arith, other.1) in z)
     ] in
     omega (arith, whole, test, rest)
-
-pub count_within : (p : ℕ → Bool) (n : ℕ) → count_below p n ≤ n
-count_within p zero = omega arith
-count_within p (suc n) = let h = count_within p n in elim (p n) as (λ a. cond a 1 0 + count_below p n ≤ suc n) [ true ↦ omega arith | false ↦ omega arith ]
 
 -- one word more
 pub ones_more : (ws : List ℕ) (k : ℕ) → get_or ws k 0 < 2 ^ 64 → count_below (row_bit ws) (64 * (k + 1)) ≡ count_below (row_bit ws) (64 * k) + count_ones (get_or ws k 0)
@@ -156,4 +127,4 @@ unfolding left
 left-length ws le =
     passing-length (λ i. set.contains (members_of ws) i) INDEX_LIMIT 0
     ∙ count_same (λ j. set.contains (members_of ws) (0 + j)) (row_bit ws) INDEX_LIMIT (λ i lt. let e : 0 + i ≡ i = omega arith in ap (set.contains (members_of ws)) e ∙ contains-members_of ws i)
-    ∙ count_past (row_bit ws) (64 * length ws) INDEX_LIMIT le (λ i ge. past_row ws i ge)
+    ∙ count_past (row_bit ws) (64 * length ws) INDEX_LIMIT le (λ i ge _ is. true≢false (sym is ∙ past_row ws i ge))

@@ -2,9 +2,9 @@
 use Rattle.std.proofs.Common.{◌≡◌, ℕ, ◌+◌, ◌-◌, ◌*◌, ◌/◌, ◌%◌, ◌^◌, ◌<◌, ◌≤◌, Bool, true, false, cond, List, [], ◌∷◌, get_or, w64, refl, sym, ap, ◌∙◌, inl, inr, arith, eq-eqb}
 use Rattle.std.specs.Int.{bit_at, trailing_zeros}
 use Rattle.std.specs.Ordering.{nat_cmp}
-use Rattle.std.specs.Cmp.{nat_cmp_total}
+use Rattle.std.specs.Cmp.{nat_cmp_total, both_ways}
 use Rattle.std.specs.FinSet as set
-use Rattle.std.proofs.lemmas.Bool.{cases_lt, cases_eq}
+use Rattle.std.proofs.lemmas.Bool.{cases_lt, cases_eq, true≢false}
 use Rattle.std.proofs.lemmas.Nat.{shr-shr, shr_le, div_below}
 use Rattle.std.proofs.lemmas.Nat.{pow-add}
 use Rattle.std.proofs.Math.Nat.{pow-le-pow_right, one-le-pow}
@@ -12,10 +12,11 @@ use Rattle.std.proofs.Common.{lit<}
 use Rattle.std.specs.Prelude.{Option, Some, None, MatchOption}
 use Rattle.hibits.specs.declared.limits.TheConstants.{LAYERS, INDEX_LIMIT}
 use Rattle.std.proofs.lemmas.Nat.Bits.{bit_at-zero, bit_at_above, bit_at-trailing_zeros}
-use Rattle.hibits.specs.Sets.{has_part, has_part_zero, part_member, member_part, part_covers, part_within, same_bool}
+use Rattle.hibits.specs.Sets.{has_part, has_part_zero, part_member, member_part, part_covers, part_within, none_in_empty}
 use Rattle.hibits.specs.Walks.{IsNext}
 use Rattle.hibits.specs.Rows.{row_bit, members_of, IsSound}
-use Rattle.hibits.proofs.RowLemmas.{true_false, no_bit, top_zero, room_below, member_has_room}
+use Rattle.hibits.proofs.WalkLemmas.{one_is_set}
+use Rattle.hibits.proofs.RowLemmas.{no_bit, top_zero, room_below, member_has_room}
 
 -- bits of a word that is shifted down
 shifted : (w k j : ℕ) → bit_at (w / 2 ^ k) j ≡ bit_at w (k + j)
@@ -24,11 +25,7 @@ shifted w k j = ap (λ n. n % 2) (shr-shr w k j)
 -- a word of layer p, of which bit j is bit 64 place + j
 module _ (p : ℕ → Bool) (w place : ℕ) (fits : w < 2 ^ 64) (bits : (j : ℕ) → j < 64 → bit_at w j ≡ cond (p (64 * place + j)) 1 0) where
   is_set : (j : ℕ) → j < 64 → bit_at w j ≡ 1 → p (64 * place + j) ≡ true
-  is_set j lt one =
-      elim (p (64 * place + j)) as (λ b. p (64 * place + j) ≡ b → b ≡ true) [
-        | true ↦ λ _. refl
-        | false ↦ λ e. absurd (let z = bits j lt ∙ ap (λ b. cond b 1 0) e in omega arith)
-      ] refl
+  is_set j lt one = one_is_set _ (p (64 * place + j)) (bits j lt) one
 
   is_one : (j : ℕ) → j < 64 → p (64 * place + j) ≡ true → bit_at w j ≡ 1
   is_one j lt e = bits j lt ∙ ap (λ b. cond b 1 0) e
@@ -129,13 +126,13 @@ module _ (w0 w1 w2 : List ℕ) (t : ℕ) (ok : IsSound w0 w1 w2 (t ∷ [])) wher
   pub top_zero_empty : t ≡ 0 → members_of w0 ≡ set.empty
   top_zero_empty is =
       set.same_set nat_cmp_total set.nat_cmp-IsAntisymmetric _ _ (λ q.
-      same_bool _ _
+      both_ways _ _
       (λ e.
       let up = sym (ok.tied3.bits (q / 64 ^ 3)) in
       let part = member_part (members_of w0) 3 q e in
       let bit : row_bit (t ∷ []) (q / 64 ^ 3) ≡ false = rw is (no_bit (0 ∷ []) top_zero (q / 64 ^ 3)) in
-      absurd (true_false (sym part ∙ up ∙ bit)))
-      (λ e. absurd (true_false (sym e ∙ set.contains-empty nat_cmp q))))
+      absurd (true≢false (sym part ∙ up ∙ bit)))
+      (λ e. absurd (none_in_empty set.empty refl q e)))
 
   pub empty_top_zero : members_of w0 ≡ set.empty → t ≡ 0
   empty_top_zero is =
@@ -148,7 +145,7 @@ module _ (w0 w1 w2 : List ℕ) (t : ℕ) (ok : IsSound w0 w1 w2 (t ∷ [])) wher
             let c : trailing_zeros w64 t % 64 ≡ trailing_zeros w64 t = omega arith in
             let bit : row_bit (t ∷ []) (trailing_zeros w64 t) ≡ true = eq-eqb _ 1 (ap (λ n. bit_at (get_or (t ∷ []) n 0) (trailing_zeros w64 t % 64)) a ∙ ap (bit_at t) c ∙ b.1) in
             let m = part_member (members_of w0) 3 (trailing_zeros w64 t) (sym (ok.tied3.bits (trailing_zeros w64 t)) ∙ bit) in
-            absurd (true_false (sym m.1 ∙ ap (λ s. set.contains s m.0) is ∙ set.contains-empty nat_cmp m.0))
+            absurd (none_in_empty (members_of w0) is m.0 m.1)
       ]
 
 -- as the code goes

@@ -3,19 +3,16 @@ use Rattle.std.proofs.Common.{◌≡◌, ◌≢◌, ℕ, zero, suc, ◌+◌, ◌
 use Rattle.std.specs.Int.{bit_at, bit_not, trailing_zeros}
 use Rattle.std.specs.List.{list_any}
 use Rattle.std.specs.Ordering.{nat_cmp}
-use Rattle.std.specs.Cmp.{nat_cmp_total, unsigned_tied}
+use Rattle.std.specs.Cmp.{nat_cmp_total, unsigned_tied, both_ways}
 use Rattle.std.specs.FinSet as set
 use mathlib.Core.Bool.{beq}
-use Rattle.std.proofs.lemmas.Bool.{cases_eq, cases_lt}
+use Rattle.std.proofs.lemmas.Bool.{cases_eq, cases_lt, ne_eqb, true≢false}
 use Rattle.std.proofs.lemmas.Bool.Decides.{eqb_tells}
 use Rattle.std.proofs.lemmas.List.{get_or_past}
 use Rattle.std.proofs.lemmas.Nat.Bits.{bit_at-zero, bit_at-lt, bit_at-trailing_zeros, bit_at_set_same, bit_at_set_other, bit_at_clear_same, bit_at_clear_other, shr_and_one}
 use Rattle.hibits.specs.declared.limits.TheConstants.{INDEX_LIMIT}
-use Rattle.hibits.specs.Sets.{has_part, has_part_zero, part_member, member_part, part_covers, part_within, same_bool, eqb-off}
+use Rattle.hibits.specs.Sets.{has_part, has_part_zero, part_member, member_part, part_covers, part_within, none_in_empty}
 use Rattle.hibits.specs.Rows.{row_bit, list_below, members_of, rooms_of, IsTied, AreWords, IsSound, IsPut, SameWords}
-
-pub true_false : true ≡ false → ⊥
-true_false e = cc
 
 -- ---- the members of a row
 pub list_below-none : (p : ℕ → Bool) (q n : ℕ) → n ≤ q → list_any (λ y. y == q) (list_below p n) ≡ false
@@ -23,7 +20,7 @@ list_below-none p q zero le = refl
 list_below-none p q (suc n) le =
     let rest = list_below-none p q n (omega arith) in
     elim (p n) as (λ b. list_any (λ y. y == q) (cond b (n ∷ list_below p n) (list_below p n)) ≡ false) [
-      | true ↦ ap (λ b. b || list_any (λ y. y == q) (list_below p n)) (eqb-off n q (λ e. omega (arith, e))) ∙ rest
+      | true ↦ ap (λ b. b || list_any (λ y. y == q) (list_below p n)) (ne_eqb n q (λ e. omega (arith, e))) ∙ rest
       | false ↦ rest
     ]
 
@@ -39,7 +36,7 @@ list_below-any p q (suc n) lt =
       | inr other ↦
           let rest = list_below-any p q n (omega (arith, other)) in
           elim (p n) as (λ b. list_any (λ y. y == q) (cond b (n ∷ list_below p n) (list_below p n)) ≡ p q) [
-            | true ↦ ap (λ b. b || list_any (λ y. y == q) (list_below p n)) (eqb-off n q other) ∙ rest
+            | true ↦ ap (λ b. b || list_any (λ y. y == q) (list_below p n)) (ne_eqb n q other) ∙ rest
             | false ↦ rest
           ]
     ]
@@ -47,7 +44,7 @@ list_below-any p q (suc n) lt =
 pub past_row : (ws : List ℕ) (i : ℕ) → 64 * length ws ≤ i → row_bit ws i ≡ false
 past_row ws i le =
     let past : get_or ws (i / 64) 0 ≡ 0 = get_or_past ws (i / 64) 0 (omega arith) in
-    eqb-off _ 1 (λ e. let z = bit_at-zero (i % 64) in omega (arith, sym (ap (λ w. bit_at w (i % 64)) past) ∙ e))
+    ne_eqb (bit_at (get_or ws (i / 64) 0) (i % 64)) 1 (λ e. let z = bit_at-zero (i % 64) in omega (arith, sym (ap (λ w. bit_at w (i % 64)) past) ∙ e))
 
 pub contains-members_of : (ws : List ℕ) (i : ℕ) → set.contains (members_of ws) i ≡ row_bit ws i
 unfolding members_of
@@ -67,8 +64,12 @@ unfolding rooms_of
 rooms_of-contains ws b e =
     elim (cases_lt b (length ws / 64)) [
       | inl lt ↦ lt
-      | inr ge ↦ absurd (true_false (sym e ∙ set.contains-from_list_nat (list_below (λ _. true) (length ws / 64)) b ∙ list_below-none (λ _. true) b (length ws / 64) ge))
+      | inr ge ↦ absurd (true≢false (sym e ∙ set.contains-from_list_nat (list_below (λ _. true) (length ws / 64)) b ∙ list_below-none (λ _. true) b (length ws / 64) ge))
     ]
+
+pub same_rooms : (ws vs : List ℕ) → length vs ≡ length ws → rooms_of vs ≡ rooms_of ws
+unfolding rooms_of
+same_rooms ws vs len = ap (λ n. set.from_list (list_below (λ _. true) (n / 64))) len
 
 -- ---- a bit that is put
 pub tied_zero : (ws : List ℕ) → IsTied (members_of ws) 0 ws
@@ -77,7 +78,7 @@ tied_zero ws = record { bits = λ i. sym (has_part_zero (members_of ws) i ∙ co
 module _ (m m' : set.FinSet nat_cmp) (x : ℕ) (others : (q : ℕ) → q ≢ x → set.contains m' q ≡ set.contains m q) where
   part_same : (l k : ℕ) → k ≢ x / 64 ^ l → has_part m l k ≡ has_part m' l k
   part_same l k ne =
-      same_bool _ _
+      both_ways _ _
       (λ e. let w = part_member m l k e in ap (has_part m' l) (sym w.2) ∙ member_part m' l w.0 (others w.0 (λ q. ne (sym w.2 ∙ ap (λ n. n / 64 ^ l) q)) ∙ w.1))
       (λ e. let w = part_member m' l k e in ap (has_part m l) (sym w.2) ∙ member_part m l w.0 (sym (others w.0 (λ q. ne (sym w.2 ∙ ap (λ n. n / 64 ^ l) q))) ∙ w.1))
 
@@ -87,7 +88,7 @@ module _ (m m' : set.FinSet nat_cmp) (x : ℕ) (others : (q : ℕ) → q ≢ x �
       let w = get_or low' k 0 in
       ⊎_elim
       (λ zero_is.
-      same_bool _ _ (λ e. absurd (true_false (sym e ∙ ap not zero_is.0)))
+      both_ways _ _ (λ e. absurd (true≢false (sym e ∙ ap not zero_is.0)))
       (λ e.
       let part = part_within m' l k e in
       let bit = tied.bits (64 * k + part.0) ∙ part.2 in
@@ -168,7 +169,7 @@ put_true ws i within =
 put_false : (ws : List ℕ) (i : ℕ) → i / 64 < length ws → IsPut ws (list_set ws (i / 64) (bit_and (get_or ws (i / 64) 0) (bit_not w64 (1 * 2 ^ (i % 64) % 2 ^ 64)))) i false
 put_false ws i within =
     let lt : i % 64 < 64 = omega arith in
-    put_word ws i _ false within (eqb-off _ 1 (λ e. let z = bit_at_clear_same w64 (get_or ws (i / 64) 0) (i % 64) lt in omega (arith, e, z))) (λ j small ne. bit_at_clear_other w64 (get_or ws (i / 64) 0) (i % 64) lt j small ne)
+    put_word ws i _ false within (ne_eqb _ 1 (λ e. let z = bit_at_clear_same w64 (get_or ws (i / 64) 0) (i % 64) lt in omega (arith, e, z))) (λ j small ne. bit_at_clear_other w64 (get_or ws (i / 64) 0) (i % 64) lt j small ne)
 
 pub put_any : (ws : List ℕ) (i : ℕ) (v : Bool) → i / 64 < length ws → IsPut ws (list_set ws (i / 64) (cond v (bit_or (get_or ws (i / 64) 0) (1 * 2 ^ (i % 64) % 2 ^ 64)) (bit_and (get_or ws (i / 64) 0) (bit_not w64 (1 * 2 ^ (i % 64) % 2 ^ 64))))) i v
 put_any ws i true = put_true ws i
@@ -222,7 +223,7 @@ put_cases w0 x q false =
 
 module _ (w0 v0 : List ℕ) (x : ℕ) (v : Bool) (put : IsPut w0 v0 x v) where
   put_others : (q : ℕ) → q ≢ x → set.contains (members_of v0) q ≡ set.contains (members_of w0) q
-  put_others q ne = contains-members_of v0 q ∙ put.bits q ∙ ap (λ b. cond b v (row_bit w0 q)) (eqb-off q x ne) ∙ sym (contains-members_of w0 q)
+  put_others q ne = contains-members_of v0 q ∙ put.bits q ∙ ap (λ b. cond b v (row_bit w0 q)) (ne_eqb q x ne) ∙ sym (contains-members_of w0 q)
 
   pub put_members : members_of v0 ≡ cond v (set.insert (members_of w0) x) (set.remove (members_of w0) x)
   put_members =
@@ -247,14 +248,9 @@ module _ (w0 v0 : List ℕ) (x : ℕ) (v : Bool) (put : IsPut w0 v0 x v) where
       record { blocks = omega arith; size0 = omega arith; size1 = omega arith; size2 = omega arith; size3 = omega arith; words0 = f0; words1 = f1; words2 = f2; words3 = f3; tied1 = t1; tied2 = t2; tied3 = t3 }
 
   pub put_rooms : rooms_of v0 ≡ rooms_of w0
-  unfolding rooms_of
-  put_rooms = ap (λ n. set.from_list (list_below (λ _. true) (n / 64))) put.len
+  put_rooms = same_rooms w0 v0 put.len
 
 -- ---- room
-pub same_rooms : (ws vs : List ℕ) → length vs ≡ length ws → rooms_of vs ≡ rooms_of ws
-unfolding rooms_of
-same_rooms ws vs len = ap (λ n. set.from_list (list_below (λ _. true) (n / 64))) len
-
 pub rooms_grown : (ws vs : List ℕ) → length ws ≤ length vs → (b : ℕ) → set.contains (rooms_of ws) b ≡ true → set.contains (rooms_of vs) b ≡ true
 rooms_grown ws vs le b e =
     let lt = rooms_of-contains ws b e in
@@ -262,7 +258,7 @@ rooms_grown ws vs le b e =
 
 pub rooms_test : (ws : List ℕ) (i : ℕ) → length ws % 64 ≡ 0 → ltb (i / 64) (length ws) ≡ set.contains (rooms_of ws) (i / 4096)
 rooms_test ws i blocks =
-    same_bool _ _
+    both_ways _ _
     (λ e. let lt = ltb-true (i / 64) (length ws) e in contains-rooms_of ws (i / 4096) (omega arith))
     (λ e. let lt = rooms_of-contains ws (i / 4096) e in lt-ltb (i / 64) (length ws) (omega arith))
 
@@ -270,7 +266,7 @@ pub member_room : (ws : List ℕ) (i : ℕ) → length ws % 64 ≡ 0 → row_bit
 member_room ws i blocks e =
     elim (cases_lt i (64 * length ws)) [
       | inl lt ↦ contains-rooms_of ws (i / 4096) (omega arith)
-      | inr ge ↦ absurd (true_false (sym e ∙ past_row ws i ge))
+      | inr ge ↦ absurd (true≢false (sym e ∙ past_row ws i ge))
     ]
 
 pub room_word : (ws : List ℕ) (i : ℕ) → set.contains (rooms_of ws) (i / 4096) ≡ true → i / 64 < length ws
@@ -325,16 +321,16 @@ module _ (w0 w1 w2 w3 : List ℕ) (ok : IsSound w0 w1 w2 w3) where
 -- a row whose words are all 0
 module _ (ws : List ℕ) (zeros : (k : ℕ) → get_or ws k 0 ≡ 0) where
   pub no_bit : (i : ℕ) → row_bit ws i ≡ false
-  no_bit i = eqb-off _ 1 (λ e. let z = bit_at-zero (i % 64) in omega (arith, sym (ap (λ w. bit_at w (i % 64)) (zeros (i / 64))) ∙ e))
+  no_bit i = ne_eqb (bit_at (get_or ws (i / 64) 0) (i % 64)) 1 (λ e. let z = bit_at-zero (i % 64) in omega (arith, sym (ap (λ w. bit_at w (i % 64)) (zeros (i / 64))) ∙ e))
 
   pub zero_members : members_of ws ≡ set.empty
   zero_members = set.same_set nat_cmp_total set.nat_cmp-IsAntisymmetric _ _ (λ q. contains-members_of ws q ∙ no_bit q ∙ sym (set.contains-empty nat_cmp q))
 
 none_in_part : (m : set.FinSet nat_cmp) → m ≡ set.empty → (l i : ℕ) → has_part m l i ≡ false
 none_in_part m is l i =
-    same_bool (has_part m l i) false
-    (λ e. let w = part_member m l i e in absurd (true_false (sym w.1 ∙ ap (λ s. set.contains s w.0) is ∙ set.contains-empty nat_cmp w.0)))
-    (λ e. absurd (true_false (sym e)))
+    both_ways (has_part m l i) false
+    (λ e. let w = part_member m l i e in absurd (none_in_empty m is w.0 w.1))
+    (λ e. absurd (true≢false (sym e)))
 
 zero_tied : (m : set.FinSet nat_cmp) → m ≡ set.empty → (l : ℕ) (ws : List ℕ) → ((k : ℕ) → get_or ws k 0 ≡ 0) → IsTied m l ws
 zero_tied m is l ws zeros = record { bits = λ i. no_bit ws zeros i ∙ sym (none_in_part m is l i) }

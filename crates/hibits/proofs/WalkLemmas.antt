@@ -1,12 +1,12 @@
 -- How a walk goes on, over plain numbers and lists.
-use Rattle.std.proofs.Common.{◌≡◌, ◌≢◌, ℕ, zero, suc, ◌+◌, ◌-◌, ◌*◌, ◌/◌, ◌%◌, ◌^◌, ◌<◌, ◌≤◌, min, Bool, true, false, cond, List, length, get_or, set, bit_and, w64, refl, sym, ap, ◌∙◌, inl, inr, arith, length-set, get_or-set_same, get_or-set_other, add-one, zero-add, ◌⊎◌, ⊎_elim}
+use Rattle.std.proofs.Common.{◌≡◌, ◌≢◌, ℕ, zero, suc, ◌+◌, ◌-◌, ◌*◌, ◌/◌, ◌%◌, ◌^◌, ◌<◌, ◌≤◌, min, Bool, true, false, cond, List, length, get_or, set, bit_and, w64, refl, sym, ap, ◌∙◌, inl, inr, arith, length-set, get_or-set_same, get_or-set_other, add-one, ◌⊎◌, ⊎_elim}
 use Rattle.std.specs.Int.{bit_at, trailing_zeros}
 use Rattle.std.proofs.lemmas.Bool.{cases_eq, cases_lt}
 use Rattle.std.proofs.lemmas.Nat.Bits.{bit_at-zero, bit_at-trailing_zeros, bit_at_and, bit_at_cat_low, bit_at_cat_high, bit_at_ones_above}
 use Rattle.std.proofs.lemmas.Nat.{and_le_l, mod-pow-add, pow_pos, pow_below, div-add-mod'}
 use Rattle.std.proofs.Math.Nat.{pow-succ', mul-le-mul_left}
 use Rattle.hibits.specs.declared.limits.TheConstants.{LAYERS}
-use Rattle.hibits.specs.Counts.{count_below}
+use Rattle.hibits.specs.Counts.{count_below, count_more, count_past}
 use Rattle.hibits.specs.Walks.{IsLevel, IsWalk, walked, left_in}
 
 -- the word without its lowest bit, as the code clears it
@@ -64,19 +64,6 @@ module _ (w k : ℕ) (at : bit_at w k ≡ 1) (lower : (i : ℕ) → i < k → bi
             omega (arith, x, y)
       ]
 
--- ---- counts
-skip : (p : ℕ → Bool) (f n : ℕ) → f ≤ n → ((k : ℕ) → f ≤ k → k < n → p k ≡ true → ⊥) → count_below p n ≡ count_below p f
-skip p f zero le none = let e : zero ≡ f = omega arith in ap (count_below p) e
-skip p f (suc n) le none =
-    elim (cases_lt n f) [
-      | inl lt ↦ let e : suc n ≡ f = omega arith in ap (count_below p) e
-      | inr ge ↦
-          elim (p n) as (λ b. p n ≡ b → cond b 1 0 + count_below p n ≡ count_below p f) [
-            | true ↦ λ e. absurd (none n ge (omega arith) e)
-            | false ↦ λ e. zero-add _ ∙ skip p f n ge (λ k a b. none k a (omega arith))
-          ] refl
-    ]
-
 -- ---- one layer
 module _ (p : ℕ → Bool) (w f u : ℕ) (ok : IsLevel p w f u) where
   -- nothing is left where the word is 0
@@ -130,10 +117,14 @@ module _ (p : ℕ → Bool) (w f u : ℕ) (ok : IsLevel p w f u) where
     one_more =
         let right = lowest_right in
         let i = 64 * (u - 1) + trailing_zeros w64 w in
-        let e : i + 1 ≡ suc i = omega arith in
-        let s : count_below p i ≡ count_below p f = skip p f i right.1 none_before in
+        let s : count_below p i ≡ count_below p f = count_past p f i right.1 none_before in
         let one : cond {A = ℕ} (p i) 1 0 ≡ 1 = ap (λ b. cond b 1 0) right.2 in
-        ap (count_below p) e ∙ omega (arith, s, one)
+        count_more p i ∙ omega (arith, s, one)
+
+-- a bit of a word that is 1 is set in its layer
+pub one_is_set : (x : ℕ) (b : Bool) → x ≡ cond b 1 0 → x ≡ 1 → b ≡ true
+one_is_set x true is one = refl
+one_is_set x false is one = absurd (omega (arith, is, one))
 
 -- the layer below gets the word of the index i that was taken
 pub loaded : (p q : ℕ → Bool) (f u i w : ℕ) → IsLevel q 0 f u → u ≤ i → ((k : ℕ) → u ≤ k → k < i → p k ≡ true → ⊥) → ((k : ℕ) → q k ≡ true → p (k / 64) ≡ true) → w < 2 ^ 64 → ((j : ℕ) → j < 64 → bit_at w j ≡ cond (q (64 * i + j)) 1 0) → IsLevel q w f (i + 1)
@@ -157,10 +148,7 @@ loaded p q f u i w ok le none covers fit bits = record {
       rw eq (
         omega arith,
         omega arith,
-        elim (q (64 * i + j)) as (λ b. q (64 * i + j) ≡ b → b ≡ true) [
-          | true ↦ λ _. refl
-          | false ↦ λ e. absurd (let z = bits j lt ∙ ap (λ b. cond b 1 0) e in omega arith)
-        ] refl,
+        one_is_set (bit_at w j) (q (64 * i + j)) (bits j lt) is,
       );
 }
 

@@ -4,7 +4,7 @@ use Rattle.std.specs.List.{Contains}
 use Rattle.std.specs.List.Sorted.{IsStrictlyIncreasing}
 use Rattle.std.specs.Prelude.{slice_index}
 use Rattle.std.proofs.Common.{zero, suc, subst, arith, ap, ◌∙◌, sym, add-one, inl, inr}
-use Rattle.std.proofs.lemmas.Bool.{cases_eq}
+use Rattle.std.proofs.lemmas.Bool.{cases_eq, false_from_ne_true}
 use Rattle.hibits.specs.declared.limits.TheConstants.{INDEX_LIMIT}
 use Rattle.hibits.specs.Walks.{IsNext}
 
@@ -17,15 +17,11 @@ passing p a (suc n) = cond (p a) (a ∷ passing p (suc a) n) (passing p (suc a) 
 unfoldable pub left : (ℕ → Bool) → ℕ → List ℕ
 left p a = passing p a (INDEX_LIMIT - a)
 
-not_false : (b : Bool) → (b ≡ true → ⊥) → b ≡ false
-not_false true h = absurd (h refl)
-not_false false h = refl
-
 passing-none : (p : ℕ → Bool) (n a : ℕ) → ((k : ℕ) → a ≤ k → k < a + n → p k ≡ true → ⊥) → passing p a n ≡ []
 unfolding passing
 passing-none p zero a none = refl
 passing-none p (suc n) a none =
-    ap (λ b. cond b (a ∷ passing p (suc a) n) (passing p (suc a) n)) (not_false (p a) (none a (omega arith) (omega arith)))
+    ap (λ b. cond b (a ∷ passing p (suc a) n) (passing p (suc a) n)) (false_from_ne_true (p a) (none a (omega arith) (omega arith)))
     ∙ passing-none p n (suc a) (λ k ge lt. none k (omega arith) (omega arith))
 
 passing-next : (p : ℕ → Bool) (n a i m : ℕ) → a ≤ i → suc i + m ≡ a + n → p i ≡ true → ((k : ℕ) → a ≤ k → k < i → p k ≡ true → ⊥) → passing p a n ≡ i ∷ passing p (suc i) m
@@ -38,7 +34,7 @@ passing-next p (suc n) a i m le len is none =
           ap (λ b. cond b (a ∷ passing p (suc a) n) (passing p (suc a) n)) (ap p same ∙ is) ∙ ap (λ k. k ∷ passing p (suc k) n) same ∙ ap (λ k. i ∷ passing p (suc i) k) e
       | inr other ↦
           let lt : suc a ≤ i = omega (arith, other) in
-          ap (λ b. cond b (a ∷ passing p (suc a) n) (passing p (suc a) n)) (not_false (p a) (none a (omega arith) lt))
+          ap (λ b. cond b (a ∷ passing p (suc a) n) (passing p (suc a) n)) (false_from_ne_true (p a) (none a (omega arith) lt))
           ∙ passing-next p n (suc a) i m lt (omega arith) is (λ k ge b. none k (omega arith) b)
     ]
 

@@ -2,13 +2,13 @@
 use Rattle.std.specs.Prelude.{◌≡◌, ℕ, ◌+◌, ◌*◌, ◌/◌, ◌%◌, ◌^◌, ◌<◌, ◌≤◌, Bool, true, false, cond, ◌||◌, ◌==◌, List, [], ◌∷◌, refl}
 use Rattle.std.specs.List.{list_any}
 use Rattle.std.specs.Ordering.{nat_cmp}
-use Rattle.std.specs.Cmp.{unsigned_tied, nat_cmp_total}
+use Rattle.std.specs.Cmp.{unsigned_tied, nat_cmp_total, both_ways}
 use Rattle.std.specs.FinSet as set
-use Rattle.std.proofs.Common.{zero, suc, arith, ⊎_elim, sym, ap, ◌∙◌, eqb-true, eq-eqb, zero-add, add-one}
+use Rattle.std.proofs.Common.{arith, sym, ap, ◌∙◌, eqb-true, eq-eqb, add-one}
 use Rattle.std.proofs.Math.Nat.{div-div-eq-div-mul, pow-suc, div-one}
-use Rattle.std.proofs.lemmas.Bool.Decides.{eqb_tells}
+use Rattle.std.proofs.lemmas.Bool.{or_left, or_right, true≢false}
 use Rattle.std.specs.Coded.{Coded, code_by, coded×, coded_ℕ}
-use Rattle.hibits.specs.Counts.{count_below}
+use Rattle.hibits.specs.Counts.{count_below, count_none, count_implied, count_one, count_either}
 
 -- a set of indices, and the blocks of 4096 indices that have room
 pub record Layered : Type 0 where
@@ -31,10 +31,6 @@ same_items : (p q : ℕ → Bool) → ((x : ℕ) → p x ≡ q x) → (xs : List
 same_items p q e [] = refl
 same_items p q e (x ∷ xs) = rw (e x, same_items p q e xs)
 
-or_right : (a b : Bool) → b ≡ true → (a || b) ≡ true
-or_right true b e = refl
-or_right false b e = e
-
 found : (p : ℕ → Bool) (xs : List ℕ) → list_any p xs ≡ true → (x : ℕ) × (list_any (λ y. x == y) xs ≡ true) × (p x ≡ true)
 found p [] e = cc
 found p (x ∷ xs) e =
@@ -54,6 +50,10 @@ finds p x px (y ∷ ys) e =
 contains-items : (s : set.FinSet nat_cmp) (x : ℕ) → set.contains s x ≡ list_any (λ y. x == y) (set.items s)
 contains-items s x = set.contains-items s x ∙ same_items _ _ (unsigned_tied x) (set.items s)
 
+-- an empty set has no member
+pub none_in_empty : (s : set.FinSet nat_cmp) → s ≡ set.empty → (x : ℕ) → set.contains s x ≡ true → ⊥
+none_in_empty s empty x has = true≢false (sym has ∙ ap (λ t. set.contains t x) empty ∙ set.contains-empty nat_cmp x)
+
 -- a part that has a member, and its member
 pub part_member : (s : set.FinSet nat_cmp) (l i : ℕ) → has_part s l i ≡ true → (x : ℕ) × (set.contains s x ≡ true) × (x / 64 ^ l ≡ i)
 unfolding has_part
@@ -65,16 +65,11 @@ pub member_part : (s : set.FinSet nat_cmp) (l x : ℕ) → set.contains s x ≡ 
 unfolding has_part
 member_part s l x e = finds (λ y. y / 64 ^ l == x / 64 ^ l) x (eq-eqb (x / 64 ^ l) (x / 64 ^ l) refl) (set.items s) (sym (contains-items s x) ∙ e)
 
-pub same_bool : (a b : Bool) → (a ≡ true → b ≡ true) → (b ≡ true → a ≡ true) → a ≡ b
-same_bool true b f g = sym (f refl)
-same_bool false true f g = g refl
-same_bool false false f g = refl
-
 -- the parts of layer 0 are the indices
 pub has_part_zero : (s : set.FinSet nat_cmp) (i : ℕ) → has_part s 0 i ≡ set.contains s i
 has_part_zero s i =
     let one : 64 ^ 0 ≡ 1 = refl in
-    same_bool _ _
+    both_ways _ _
     (λ e. let m = part_member s 0 i e in let d : m.0 / 1 ≡ m.0 = div-one m.0 in ap (set.contains s) (sym (sym d ∙ m.2)) ∙ m.1)
     (λ e. let d : i / 1 ≡ i = div-one i in ap (has_part s 0) (sym d) ∙ member_part s 0 i e)
 
@@ -96,51 +91,8 @@ part_within s l i e =
     ((m.0 / 64 ^ l) % 64, omega arith, ap (has_part s l) (sym at) ∙ member_part s l m.0 m.1)
 
 -- ---- how many parts have a member
-or_few : (p q : ℕ → Bool) (n : ℕ) → count_below (λ i. p i || q i) n ≤ count_below p n + count_below q n
-or_few p q zero = omega arith
-or_few p q (suc n) =
-    let h = or_few p q n in
-    elim (p n) as (λ a. cond (a || q n) 1 0 + count_below (λ i. p i || q i) n ≤ cond a 1 0 + count_below p n + (cond (q n) 1 0 + count_below q n)) [
-      | true ↦ omega arith
-      | false ↦ omega arith
-    ]
-
-pub eqb-off : (a b : ℕ) → (a ≡ b → ⊥) → (a == b) ≡ false
-eqb-off a b ne = ⊎_elim (λ w. absurd (ne w.1)) (λ w. w.0) (eqb_tells a b)
-
-one_below : (k n : ℕ) → n ≤ k → count_below (λ i. k == i) n ≡ 0
-one_below k zero le = refl
-one_below k (suc n) le =
-    let off : (k == n) ≡ false = eqb-off k n (λ e. omega (arith, e)) in
-    rw off (let r = one_below k n (omega arith) in omega arith)
-
-one_few : (k n : ℕ) → count_below (λ i. k == i) n ≤ 1
-one_few k zero = omega arith
-one_few k (suc n) =
-    elim (k == n) as (λ b. (k == n) ≡ b → cond b 1 0 + count_below (λ i. k == i) n ≤ 1) [
-      | true ↦ λ e. let same = eqb-true k n e in let r = one_below k n (omega arith) in omega arith
-      | false ↦ λ e. let r = one_few k n in omega arith
-    ] refl
-
-none_few : (n : ℕ) → count_below (λ i. false) n ≡ 0
-none_few zero = refl
-none_few (suc n) = zero-add _ ∙ none_few n
-
 same_part : (s t : set.FinSet nat_cmp) (l i : ℕ) → ((x : ℕ) → set.contains s x ≡ true → set.contains t x ≡ true) → has_part s l i ≡ true → has_part t l i ≡ true
 same_part s t l i sub e = let m = part_member s l i e in ap (has_part t l) (sym m.2) ∙ member_part t l m.0 (sub m.0 m.1)
-
-within_few : (p q : ℕ → Bool) → ((i : ℕ) → p i ≡ true → q i ≡ true) → (n : ℕ) → count_below p n ≤ count_below q n
-within_few p q h zero = omega arith
-within_few p q h (suc n) =
-    let rest = within_few p q h n in
-    elim (p n) as (λ b. p n ≡ b → cond b 1 0 + count_below p n ≤ cond (q n) 1 0 + count_below q n) [
-      | true ↦ λ e. let one : cond {A = ℕ} (q n) 1 0 ≡ 1 = ap (λ b. cond b 1 0) (h n e) in omega arith
-      | false ↦ λ _. omega arith
-    ] refl
-
-or_left : (a b : Bool) → a ≡ true → (a || b) ≡ true
-or_left true b e = refl
-or_left false b e = cc
 
 -- one more member, one more part at most
 insert_part : (s : set.FinSet nat_cmp) (k l i : ℕ) → has_part (set.insert s k) l i ≡ true → (k / 64 ^ l == i || has_part s l i) ≡ true
@@ -162,8 +114,7 @@ insert_same s k had x e =
 
 list_few : (ks : List ℕ) (l n : ℕ) → count_below (has_part (set.from_list {R = nat_cmp} ks) l) n ≤ set.len (set.from_list {R = nat_cmp} ks)
 list_few [] l n =
-    let none = within_few (has_part set.empty l) (λ i. false) (λ i e. let m = part_member set.empty l i e in sym (set.contains-empty nat_cmp m.0) ∙ m.1) n in
-    let z = none_few n in
+    let none = count_none (has_part set.empty l) n (λ i _ e. let m = part_member set.empty l i e in none_in_empty set.empty refl m.0 m.1) in
     omega arith
 list_few (k ∷ ks) l n =
     let rest = list_few ks l n in
@@ -171,12 +122,12 @@ list_few (k ∷ ks) l n =
     let more = set.len-insert nat_cmp_total (set.from_list {R = nat_cmp} ks) k in
     elim (set.contains (set.from_list {R = nat_cmp} ks) k) as (λ b. set.contains (set.from_list {R = nat_cmp} ks) k ≡ b → set.len (set.insert (set.from_list {R = nat_cmp} ks) k) ≡ cond b (set.len (set.from_list {R = nat_cmp} ks)) (set.len (set.from_list {R = nat_cmp} ks) + 1) → count_below (has_part (set.insert (set.from_list {R = nat_cmp} ks) k) l) n ≤ set.len (set.insert (set.from_list {R = nat_cmp} ks) k)) [
       | true ↦ λ had len.
-          let old = within_few (has_part (set.insert (set.from_list {R = nat_cmp} ks) k) l) (has_part (set.from_list {R = nat_cmp} ks) l) (λ i e. same_part _ _ l i (insert_same (set.from_list {R = nat_cmp} ks) k had) e) n in
+          let old = count_implied (has_part (set.insert (set.from_list {R = nat_cmp} ks) k) l) (has_part (set.from_list {R = nat_cmp} ks) l) (λ i e. same_part _ _ l i (insert_same (set.from_list {R = nat_cmp} ks) k had) e) n in
           omega arith
       | false ↦ λ _ len.
-          let new = within_few (has_part (set.insert (set.from_list {R = nat_cmp} ks) k) l) (λ i. k / 64 ^ l == i || has_part (set.from_list {R = nat_cmp} ks) l i) (λ i e. insert_part (set.from_list {R = nat_cmp} ks) k l i e) n in
-          let sum = or_few (λ i. k / 64 ^ l == i) (has_part (set.from_list {R = nat_cmp} ks) l) n in
-          let one = one_few (k / 64 ^ l) n in
+          let new = count_implied (has_part (set.insert (set.from_list {R = nat_cmp} ks) k) l) (λ i. k / 64 ^ l == i || has_part (set.from_list {R = nat_cmp} ks) l i) (λ i e. insert_part (set.from_list {R = nat_cmp} ks) k l i e) n in
+          let sum = count_either (λ i. k / 64 ^ l == i) (has_part (set.from_list {R = nat_cmp} ks) l) n in
+          let one = count_one (k / 64 ^ l) n in
           omega arith
     ] refl more
 

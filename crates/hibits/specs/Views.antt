@@ -1,11 +1,11 @@
 -- Laws of the views.
 use Rattle.std.specs.Prelude.{◌≡◌, ℕ, ◌+◌, ◌≤◌, Bool, true, false, cond, ◌&&◌, ◌||◌, ◌-◌, ◌*◌, ◌^◌, ◌<◌, ◌==◌, max, min, refl}
 use Rattle.std.specs.Prelude.{nat_lt, not}
-use Rattle.std.proofs.Common.{◌/◌, zero, suc, arith, ap, sym, ◌∙◌, ◌%◌, lit<, inl, inr}
+use Rattle.std.proofs.Common.{◌/◌, suc, arith, ap, sym, ◌∙◌, ◌%◌, lit<, inl, inr}
 use Rattle.std.proofs.Math.Nat.{pow-le-pow_right, pow-succ'}
-use Rattle.std.proofs.lemmas.Bool.{cases_lt, ltb-true, lt-ltb, ne_eqb, eq-eqb}
+use Rattle.std.proofs.lemmas.Bool.{cases_lt, ltb-true, lt-ltb, ne_eqb, eq-eqb, and_parts}
 use Rattle.hibits.specs.declared.limits.TheConstants.{LAYERS}
-use Rattle.hibits.specs.Counts.{count_below}
+use Rattle.hibits.specs.Counts.{count_below, count_within, count_implied, count_either, count_both}
 
 -- the bits of one and not of the other; above the lowest layer, of either
 abbrev pub in_one : (ℕ → ℕ → Bool) → (ℕ → ℕ → Bool) → ℕ → ℕ → Bool
@@ -24,26 +24,8 @@ and_covers true true c d f g e = rw (f refl, g refl)
 and_covers true false c d f g e = cc
 and_covers false b c d f g e = cc
 
-and_left : (p q : ℕ → Bool) (n : ℕ) → count_below (λ i. p i && q i) n ≤ count_below p n
-and_left p q zero = omega arith
-and_left p q (suc n) =
-    let h = and_left p q n in
-    elim (p n) as (λ a. cond (a && q n) 1 0 + count_below (λ i. p i && q i) n ≤ cond a 1 0 + count_below p n) [
-      | true ↦ elim (q n) as (λ b. cond b 1 0 + count_below (λ i. p i && q i) n ≤ 1 + count_below p n) [ true ↦ omega arith | false ↦ omega arith ]
-      | false ↦ omega arith
-    ]
-
-and_right : (p q : ℕ → Bool) (n : ℕ) → count_below (λ i. p i && q i) n ≤ count_below q n
-and_right p q zero = omega arith
-and_right p q (suc n) =
-    let h = and_right p q n in
-    elim (p n) as (λ a. cond (a && q n) 1 0 + count_below (λ i. p i && q i) n ≤ cond (q n) 1 0 + count_below q n) [
-      | true ↦ omega arith
-      | false ↦ omega arith
-    ]
-
 pub and_few : (p q : ℕ → Bool) (a b n : ℕ) → count_below p n ≤ a → count_below q n ≤ b → count_below (λ i. p i && q i) n ≤ min a b
-and_few p q a b n f g = omega (arith, and_left p q n, and_right p q n)
+and_few p q a b n f g = omega (arith, count_both p q n)
 
 pub and_bits : (x y : ℕ) (a b : Bool) → x ≡ cond a 1 0 → y ≡ cond b 1 0 → min x y ≡ cond (a && b) 1 0
 and_bits x y true true e f = omega (arith, e, f)
@@ -55,25 +37,12 @@ or_covers true b c d f g e = ap (λ x. x || d) (f refl)
 or_covers false b true d f g e = refl
 or_covers false b false d f g e = g e
 
-or_sum : (p q : ℕ → Bool) (n : ℕ) → count_below (λ i. p i || q i) n ≤ count_below p n + count_below q n
-or_sum p q zero = omega arith
-or_sum p q (suc n) =
-    let h = or_sum p q n in
-    elim (p n) as (λ a. cond (a || q n) 1 0 + count_below (λ i. p i || q i) n ≤ cond a 1 0 + count_below p n + (cond (q n) 1 0 + count_below q n)) [
-      | true ↦ omega arith
-      | false ↦ omega arith
-    ]
-
 pub or_views_few : (p q : ℕ → Bool) (a b n : ℕ) → count_below p n ≤ a → count_below q n ≤ b → count_below (λ i. p i || q i) n ≤ a + b
-or_views_few p q a b n f g = omega (arith, or_sum p q n)
-
-below_all : (p : ℕ → Bool) (n : ℕ) → count_below p n ≤ n
-below_all p zero = omega arith
-below_all p (suc n) = let h = below_all p n in elim (p n) as (λ a. cond a 1 0 + count_below p n ≤ suc n) [ true ↦ omega arith | false ↦ omega arith ]
+or_views_few p q a b n f g = omega (arith, count_either p q n)
 
 pub all_few : (p : ℕ → Bool) (l n : ℕ) → n ≤ 64 ^ (LAYERS - l) → count_below p n ≤ 64 ^ LAYERS
 all_few p l n le =
-    let h = below_all p n in
+    let h = count_within p n in
     let less : LAYERS - l ≤ LAYERS = omega arith in
     let k : 64 ^ (LAYERS - l) ≤ 64 ^ LAYERS = pow-le-pow_right (lit< tt) less in
     omega arith
@@ -124,29 +93,15 @@ one_covers p q l i f g e =
     ap (λ b. cond b (cond (p (l + 1) (i / 64)) (not (q (l + 1) (i / 64))) (q (l + 1) (i / 64))) (p (l + 1) (i / 64) || q (l + 1) (i / 64))) (next_above l)
     ∙ or_covers (p l i) (q l i) _ _ f g (either_of_one p q l i e)
 
--- where p holds, q does
-within_few : (p q : ℕ → Bool) → ((i : ℕ) → p i ≡ true → q i ≡ true) → (n : ℕ) → count_below p n ≤ count_below q n
-within_few p q h zero = omega arith
-within_few p q h (suc n) =
-    let rest = within_few p q h n in
-    elim (p n) as (λ b. p n ≡ b → cond b 1 0 + count_below p n ≤ cond (q n) 1 0 + count_below q n) [
-      | true ↦ λ e. let one : cond {A = ℕ} (q n) 1 0 ≡ 1 = ap (λ b. cond b 1 0) (h n e) in omega arith
-      | false ↦ λ _. omega arith
-    ] refl
-
 pub one_few : (p q : ℕ → ℕ → Bool) (a b l n : ℕ) → count_below (p l) n ≤ a → count_below (q l) n ≤ b → count_below (in_one p q l) n ≤ a + b
 one_few p q a b l n f g =
-    let w = within_few (in_one p q l) (λ i. p l i || q l i) (λ i e. either_of_one p q l i e) n in
-    let s = or_sum (p l) (q l) n in
+    let w = count_implied (in_one p q l) (λ i. p l i || q l i) (λ i e. either_of_one p q l i e) n in
+    let s = count_either (p l) (q l) n in
     omega arith
-
-and_first : (a b : Bool) → (a && b) ≡ true → a ≡ true
-and_first true b e = refl
-and_first false b e = e
 
 pub outside_covers : (p : ℕ → ℕ → Bool) (l i : ℕ) → outside p l i ≡ true → outside p (l + 1) (i / 64) ≡ true
 outside_covers p l i e =
-    let up : everywhere (l + 1) (i / 64) ≡ true = all_covers l i (and_first (everywhere l i) _ e) in
+    let up : everywhere (l + 1) (i / 64) ≡ true = all_covers l i ((and_parts (everywhere l i) _ e).0) in
     ap (λ b. b && not (l + 1 == 0 && p (l + 1) (i / 64))) up ∙ ap (λ b. not (b && p (l + 1) (i / 64))) (next_above l)
 
 xor_bits : (x y : ℕ) (a b : Bool) → x ≡ cond a 1 0 → y ≡ cond b 1 0 → (x + y) % 2 ≡ cond (cond a (not b) b) 1 0

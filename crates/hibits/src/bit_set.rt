@@ -59,12 +59,14 @@ impl BitSet {
         }
     }
 
-    /// The empty set with room for each index below `max`. `max` itself may be `INDEX_LIMIT`.
-    /// Ports `hibitset::BitSet::with_capacity`.
+    /// The empty set with room for each index below `max`, and no block that begins later. `max` itself may be `INDEX_LIMIT`,
+    /// and 0 takes no memory. Ports `hibitset::BitSet::with_capacity`.
     pub fn with_capacity(alloc: Global, max: Index) -> Result<Self, SetError>
         ensures members { IfOk result (λ s. s.members ≡ set.empty) }
         ensures room { IfOk result (λ s. (i : ℕ) → i < max → HasRoom s i) }
+        ensures no_further { IfOk result (λ s. (i : ℕ) → HasRoom s i → i / 4096 * 4096 < max) }
         ensures limit { (result ≡ Err SetError.IndexLimit) ↔ (INDEX_LIMIT < max) }
+        ensures nothing { max ≡ 0 → IsOk result }
     {
         if max > INDEX_LIMIT {
             return Err(SetError::IndexLimit);
@@ -79,14 +81,16 @@ impl BitSet {
         }
     }
 
-    /// Gets room for an index: after it is Ok, each later `add` of this index is Ok.
+    /// Gets room for an index, and for no block after its own: after it is Ok, each later `add` of this index is Ok.
     pub fn reserve_for(&mut self, id: Index) -> Result<(), SetError>
         ensures members { self.new.members ≡ self.old.members }
         ensures ok { OnOk result (HasRoom self.new id × id < INDEX_LIMIT) }
         ensures err { OnErr result (self.new ≡ self.old) }
         ensures limit { (result ≡ Err SetError.IndexLimit) ↔ (INDEX_LIMIT ≤ id) }
         ensures room { (i : ℕ) → HasRoom self.old i → HasRoom self.new i }
+        ensures no_further { (i : ℕ) → id / 4096 < i / 4096 → HasRoom self.new i → HasRoom self.old i }
         ensures had_room { HasRoom self.old id → IsOk result }
+        ensures kept { HasRoom self.old id → self.new ≡ self.old }
     {
         if self.has_room(id) {
             return Ok(());
@@ -113,6 +117,7 @@ impl BitSet {
         ensures err { OnErr result (self.new ≡ self.old) }
         ensures error { IfErr result (λ e. e ≡ SetError.OutOfMemory) }
         ensures room { (i : ℕ) → HasRoom self.old i → HasRoom self.new i }
+        ensures no_further { (i : ℕ) → id / 4096 < i / 4096 → HasRoom self.new i → HasRoom self.old i }
     {
         let blocks = (id / 4096) as usize + 1;
         grow(&mut self.layer2, (id / 262144) as usize + 1)?;
@@ -130,7 +135,9 @@ impl BitSet {
         ensures err { OnErr result (self.new ≡ self.old) }
         ensures limit { (result ≡ Err SetError.IndexLimit) ↔ (INDEX_LIMIT ≤ id) }
         ensures room { (i : ℕ) → HasRoom self.old i → HasRoom self.new i }
+        ensures no_further { (i : ℕ) → id / 4096 < i / 4096 → HasRoom self.new i → HasRoom self.old i }
         ensures had_room { HasRoom self.old id → IsOk result }
+        ensures kept { HasRoom self.old id → self.new.room ≡ self.old.room }
     {
         if !self.has_room(id) {
             self.reserve_for(id)?;
@@ -259,6 +266,7 @@ impl BitSet {
     pub fn iter(&self) -> BitIter<&BitSet>
         ensures mask { result.mask.now ≡ self.now }
         ensures position { result.position ≡ 0 }
+        ensures reads { result.reads ≡ 1 }
     {
         BitIter::new(self)
     }

@@ -84,7 +84,8 @@ impl Walk {
         }
     }
 
-    /// The least member that isn't walked. At most `64 * LAYERS` steps down, each of one word; mostly none.
+    /// The least member that isn't walked. Each step down reads one word. A set needs fewer than `LAYERS`, and mostly none; a view
+    /// can have words that are 0 below bits that are set, and goes down to each: all steps of a walk together are bounded by `BitIter::reads`.
     #[inline(always)]
     pub fn next<M: Layers>(&mut self, mask: &M) -> Option<Index>
         requires { IsWalkOf (M.has mask.now) (M.cost mask.now) self.old }

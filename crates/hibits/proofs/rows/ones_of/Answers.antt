@@ -1,7 +1,8 @@
 use Rattle.std.proofs.Common.{arith, ◌*◌}
 use Rattle.std.proofs.lemmas.Nat.{ones-le}
 use Rattle.hibits.specs.Rows.{row_bit}
-use Rattle.hibits.proofs.CountLemmas.{ones_more, count_within}
+use Rattle.hibits.specs.Counts.{count_within}
+use Rattle.hibits.proofs.CountLemmas.{ones_more}
 use Rattle.hibits.proofs.rows.ones_of.Goals as goal
 
 pub overflow_add-ones : goal.overflow_add-ones

@@ -1,6 +1,6 @@
-use Rattle.std.proofs.Common.{◌/◌, arith, ap, ◌∙◌}
+use Rattle.std.proofs.Common.{◌/◌, arith, ap, sym, ◌∙◌}
 use Rattle.std.specs.FinSet as set
-use Rattle.hibits.proofs.RowLemmas.{sound_grown, same_words, same_members, rooms_grown, contains-rooms_of}
+use Rattle.hibits.proofs.RowLemmas.{sound_grown, same_words, same_members, rooms_grown, contains-rooms_of, rooms_of-contains}
 use Rattle.hibits.proofs.bit_set.BitSet.make_room.Goals as goal
 
 pub invariant_of-self-2 : goal.invariant_of-self-2
@@ -25,3 +25,9 @@ pub returns-clause-room : goal.returns-clause-room
 returns-clause-room c i h =
     let n0 = c.in_ok-grow-3.ensures.len in
     rooms_grown _ _ (omega (arith, n0)) _ (ap (λ s. set.contains s.room (i / 4096)) c.self.view_is ∙ h)
+
+pub returns-clause-no_further : goal.returns-clause-no_further
+returns-clause-no_further c i past h =
+    let n0 = c.in_ok-grow-3.ensures.len in
+    let lt = rooms_of-contains _ _ h in
+    sym (ap (λ s. set.contains s.room (i / 4096)) c.self.view_is) ∙ contains-rooms_of c.self.inside.layer0.items (i / 4096) (omega (arith, n0))
