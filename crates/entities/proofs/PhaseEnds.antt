@@ -96,7 +96,7 @@ not_true false h = refl
 
 pub closes : (board : Board) (words : List ℕ) (v : List Line) (before mid after : Population) (births marks : ℕ) → IsEnded (phase_of board.plan) board.plan.width words v → before ≡ population board.plan.opening.value
     → births ≡ min (slice_index words 0) (length board.plan.reserve.items) → mid ≡ with_births (take births board.plan.reserve.items) before → after ≡ with_marks (marks_below words (64 * board.plan.width)) mid
-    → marks ≡ count_below (marks_index words) (64 * board.plan.width) → IsClosed board.plan v before after births marks
+    → marks ≡ count_below (marks_index words) (64 * board.plan.width) → IsClosed (phase_of board.plan) v before after births marks
 closes board words v before mid after births marks e same born m a count =
     let o = phase_of board.plan in
     let leads = e.leads in
