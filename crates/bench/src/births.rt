@@ -56,7 +56,7 @@ struct PhaseBirths {
 }
 
 /// Makes so many entities by a pass, and answers a checksum of them.
-fn draw(shared: &Shared<'_>, pass: &mut Pass, count: u32) -> u64
+pub fn draw(shared: &Shared<'_>, pass: &mut Pass, count: u32) -> u64
     requires { IsPassOf (board_of shared.now) pass.old }
     ensures { IsPassOf (board_of shared.now) pass.new }
 {
