@@ -13,15 +13,15 @@ use entities::{EntitiesRes, OpenError, Pass, Shared};
 use std::alloc::Global;
 use std::io::Print;
 use std::sync::atomic::{AtomicU64, Ordering};
-use std::thread;
 use std::thread::Threads;
 use std::time::{Clock, Instant};
+use std::{hint, thread};
 
 /// How many threads there are, and passes.
 const THREADS: u32 = 4;
 
 /// How often a thread looks for the others at most. Where no thread could be made, they come one after another.
-const MOST_LOOKS: u32 = 10_000_000;
+const MOST_LOOKS: u32 = 1_000_000_000;
 
 /// Waits until all threads are there, so that none has drawn before another begins.
 fn meet(ready: &AtomicU64) {
@@ -30,6 +30,7 @@ fn meet(ready: &AtomicU64) {
         if ready.load(Ordering::SeqCst) >= u64::from(THREADS) {
             break;
         }
+        hint::spin_loop();
     }
 }
 
