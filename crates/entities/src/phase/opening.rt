@@ -69,7 +69,8 @@ impl EntitiesRes {
         ensures of_phase { IfOk result (λ r. All (IsPassOf (board_of r.0)) r.1.items) }
         ensures law { IfOk result (λ r. EveryOrderIsSound (phase_opened r.0)) }
         ensures many { IfErr result (λ e. e ≡ OpenError.TooManyPasses → MOST_PASSES < passes) }
-        ensures limit { IfErr result (λ e. e ≡ OpenError.IndexLimit → givable (population self.old) < reserve) }
+        ensures limit { IfErr result (λ e. e ≡ OpenError.IndexLimit → passes ≤ MOST_PASSES × givable (population self.old) < reserve) }
+        ensures memory { IfErr result (λ e. e ≡ OpenError.OutOfMemory → passes ≤ MOST_PASSES × reserve ≤ givable (population self.old)) }
         ensures few { IfOk result (λ _. passes ≤ MOST_PASSES × reserve ≤ givable (population self.old)) }
     {
         if passes > MOST_PASSES {
