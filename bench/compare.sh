@@ -10,7 +10,7 @@ baseline=$(cd "$here" && cd "${SPECS_BASELINE:-../shared/baseline}" && pwd)
 build=${BASELINE_BUILD:-${TMPDIR:-/tmp}/specs-baseline-$(id -u)}
 count=${1:-100000} iterations=${2:-15} rounds=${3:-5}
 prefixes=("${@:4}")
-[ ${#prefixes[@]} -gt 0 ] || prefixes=(i_ l_atomic_create_t1 l_atomic_maintain g_ e_ f_)
+[ ${#prefixes[@]} -gt 0 ] || prefixes=(i_ l_atomic_create l_atomic_maintain g_ e_ f_)
 rust=$build/target/release/bench
 ours=$here/crates/bench/out/bench
 [ -x "$rust" ] || bash "$baseline/assemble.sh" "$build" >/dev/null

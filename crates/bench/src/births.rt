@@ -1,6 +1,7 @@
 //! Births: one by one, by the pass of a shared phase, and their merge.
 
 ghost use Rattle.entities.specs.PhaseBoard.{IsPassOf};
+ghost use Rattle.entities.specs.PhaseOpened.{board_of};
 
 use crate::moving::{living_sum, number_of};
 use crate::random::mix;
@@ -55,9 +56,9 @@ struct PhaseBirths {
 }
 
 /// Makes so many entities by a pass, and answers a checksum of them.
-fn draw(shared: &Shared<'_>, pass: &mut Pass, count: u32) -> u64
-    requires { IsPassOf shared.now.board pass.old }
-    ensures { IsPassOf shared.now.board pass.new }
+pub fn draw(shared: &Shared<'_>, pass: &mut Pass, count: u32) -> u64
+    requires { IsPassOf (board_of shared.now) pass.old }
+    ensures { IsPassOf (board_of shared.now) pass.new }
 {
     let mut sum: u64 = 0;
     for _ in 0..count {

@@ -10,6 +10,7 @@ mod moving;
 mod points;
 mod random;
 mod sets;
+mod threads;
 mod workload;
 
 use crate::workload::Plan;
@@ -52,6 +53,7 @@ fn main(rt: HostRuntime) -> Result<()> {
     };
     sets::run(&rt, rt.alloc(), &plan, prefix)?;
     births::run(&rt, rt.alloc(), &plan, prefix)?;
+    threads::run(&rt, rt.alloc(), &plan, prefix)?;
     deaths::run(&rt, rt.alloc(), &plan, prefix)?;
     components::run(&rt, rt.alloc(), &plan, prefix)
 }

@@ -20,7 +20,7 @@ use Rattle.std.proofs.Common.{Bool, true, false, ◌||◌, eqb, eq-eqb, ◌*◌,
 use Rattle.std.specs.Prelude.{slice_index}
 use Rattle.std.specs.List.{All}
 use Rattle.hibits.specs.Counts.{count_below}
-use Rattle.std.proofs.lemmas.Bool.{cases_lt, lt-ltb, le-ltb}
+use Rattle.std.proofs.lemmas.Bool.{cases_lt, lt-ltb, le-ltb, false_from_ne_true}
 use Rattle.std.proofs.lemmas.List.{get_or-take, length-take}
 use Rattle.std.proofs.lemmas.List.Folds.{list_any_at}
 use Rattle.entities.specs.declared.entity.Entity.{Entity}
@@ -90,13 +90,9 @@ within_words board cursor i h = ⊎_elim
     (λ (new : (e : Entity) × IsGivenBelow board.plan.reserve.items e cursor × (e.0 ≡ i)). let b = board.reserve_within new.1.0 new.0 new.1.1 in omega (arith, b, new.2))
     h
 
-not_true : (b : Bool) → (b ≡ true → ⊥) → b ≡ false
-not_true true h = absurd (h refl)
-not_true false h = refl
-
 pub closes : (board : Board) (words : List ℕ) (v : List Line) (before mid after : Population) (births marks : ℕ) → IsEnded (phase_of board.plan) board.plan.width words v → before ≡ population board.plan.opening.value
     → births ≡ min (slice_index words 0) (length board.plan.reserve.items) → mid ≡ with_births (take births board.plan.reserve.items) before → after ≡ with_marks (marks_below words (64 * board.plan.width)) mid
-    → marks ≡ count_below (marks_index words) (64 * board.plan.width) → IsClosed board.plan v before after births marks
+    → marks ≡ count_below (marks_index words) (64 * board.plan.width) → IsClosed (phase_of board.plan) v before after births marks
 closes board words v before mid after births marks e same born m a count =
     let o = phase_of board.plan in
     let leads = e.leads in
@@ -104,7 +100,7 @@ closes board words v before mid after births marks e same born m a count =
     let bits : (i : ℕ) → i < 64 * board.plan.width → marks_index words i ≡ has i (run start e.trace).marks = λ i lt. e.marks i (omega (arith, lt)) in
     let all : (i : ℕ) → marks_below words (64 * board.plan.width) i ≡ has i (run start e.trace).marks = λ i. elim (cases_lt i (64 * board.plan.width)) [
       | inl lt ↦ rw (lt-ltb i (64 * board.plan.width) lt) (bits i lt)
-      | inr past ↦ rw (le-ltb i (64 * board.plan.width) past) (sym (not_true (has i (run start e.trace).marks) (λ h. let b = bound i h in omega (arith, b, past))))
+      | inr past ↦ rw (le-ltb i (64 * board.plan.width) past) (sym (false_from_ne_true (has i (run start e.trace).marks) (λ h. let b = bound i h in omega (arith, b, past))))
     ] in
     record {
       trace = e.trace;

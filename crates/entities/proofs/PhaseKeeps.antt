@@ -18,7 +18,7 @@ use Rattle.entities.specs.PhasePlan.{phase_of}
 use Rattle.entities.specs.PhaseTrace.{Phase, Words, Event, Each, one_if, start, run, after, has, steps_of, IsRight, AreRight, AreCalls, creates, looks, misses}
 use Rattle.entities.specs.PhaseRule.{Among, Kept, line, lines_of, total, marks_word, IsRecorded, blank_lines, first_line, other_lines, with_step, number_of, steps_in, IsOne, bit_of, IsSeen, States, Seats, IsEnded, kept, drawn, looked, marked, peeked}
 use Rattle.entities.proofs.PhasePushes.{steps_of-mine, steps_of-other, run-push, IsInterleaving-push, AreCalls-push, misses-push}
-use Rattle.entities.proofs.PhaseSound.{bounded, own_mark}
+use Rattle.entities.proofs.PhaseSound.{bounded, own_mark, run_grows}
 
 total_set : (f : List Line → ℕ) (vs : List (List Line)) (i : ℕ) (v w : List Line) → get_elem? vs i ≡ some v → total f (set vs i w) + f v ≡ total f vs + f w
 total_set f [] i v w e = absurd (some-ne-none v (sym e))
@@ -84,16 +84,6 @@ at_most_one : (b : Bool) → one_if b ≤ 1
 at_most_one b = elim b as (λ (x : Bool). one_if x ≤ 1) [ true ↦ omega arith | false ↦ omega arith ]
 
 -- the cursor is past all that a pass was told
-grows : (w : Words) (es : List Event) → w.cursor ≤ (run w es).cursor
-grows w [] = omega arith
-grows w (e ∷ es) = let a = grows_one w e.1 in let b = grows (after w e.1) es in omega arith
-  where
-    grows_one : (w : Words) (s : Step) → w.cursor ≤ (after w s).cursor
-    grows_one w (Draw n) = omega arith
-    grows_one w (Look n) = omega arith
-    grows_one w (Mark i) = omega arith
-    grows_one w (Peek i b) = omega arith
-
 seen_one : (w : Words) (s : Step) (n : ℕ) → IsRight w s → (after w s).cursor ≤ n → IsSeen n s
 seen_one w (Draw t) n right h = omega arith
 seen_one w (Look t) n right h = omega arith
@@ -106,7 +96,7 @@ seen_cond false n s ss h t = t
 
 all_seen : (p : ℕ) (w : Words) (es : List Event) → AreRight w es → Each (IsSeen (run w es).cursor) (steps_of p es)
 all_seen p w [] r = tt
-all_seen p w (e ∷ es) r = seen_cond (p == e.0) (run w (e ∷ es)).cursor e.1 (steps_of p es) (seen_one w e.1 (run w (e ∷ es)).cursor r.0 (grows (after w e.1) es)) (all_seen p (after w e.1) es r.1)
+all_seen p w (e ∷ es) r = seen_cond (p == e.0) (run w (e ∷ es)).cursor e.1 (steps_of p es) (seen_one w e.1 (run w (e ∷ es)).cursor r.0 (run_grows (after w e.1) es)) (all_seen p (after w e.1) es r.1)
 
 -- the bits of the marks are the marks
 other_bit : (i j : ℕ) → i / 64 ≡ j / 64 → i ≢ j → i % 64 ≢ j % 64

@@ -1,5 +1,6 @@
 -- The marks of a phase as they are taken up, index by index.
-use Rattle.std.proofs.Common.{◌≡◌, ◌≢◌, ℕ, zero, suc, ◌+◌, ◌/◌, ◌%◌, ◌^◌, ◌<◌, ◌≤◌, Bool, true, false, not, ◌||◌, cond, List, inl, inr, refl, ap, ◌∙◌, arith, add-one}
+use Rattle.std.proofs.Common.{◌≡◌, ◌≢◌, ℕ, zero, suc, ◌+◌, ◌/◌, ◌%◌, ◌^◌, ◌<◌, ◌≤◌, Bool, true, false, not, ◌||◌, cond, List, inl, inr, refl, sym, ap, ◌∙◌, arith, add-one}
+use Rattle.std.proofs.Math.Bool.{or-false}
 use Rattle.std.specs.Prelude.{slice_index, ◌==◌}
 use Rattle.std.specs.Int.Bits.{and_zero_l}
 use Rattle.std.proofs.lemmas.Bool.{cases_eq, cases_lt, ne_eqb, eq-eqb, lt-ltb, le-ltb}
@@ -13,11 +14,7 @@ pub same_marks : (p : Population) (f g : ℕ → Bool) → ((i : ℕ) → f i �
 same_marks p f g h = same_population _ _ (λ _. refl) (λ _. refl) (λ _. refl) (λ i. ap (λ b. p.marked i || b) (h i))
 
 pub marks_none : (p : Population) (ws : List ℕ) → p ≡ with_marks (marks_below ws 0) p
-marks_none p ws = same_population _ _ (λ _. refl) (λ _. refl) (λ _. refl) (λ i. rw (le-ltb i 0 (omega arith)) (no_more (p.marked i)))
-  where
-    no_more : (b : Bool) → b ≡ (b || false)
-    no_more true = refl
-    no_more false = refl
+marks_none p ws = same_population _ _ (λ _. refl) (λ _. refl) (λ _. refl) (λ i. rw (le-ltb i 0 (omega arith)) (sym (or-false (p.marked i))))
 
 -- an index more
 below_next : (ws : List ℕ) (k i : ℕ) → i ≢ k → marks_below ws k i ≡ marks_below ws (k + 1) i

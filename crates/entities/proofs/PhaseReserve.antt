@@ -12,7 +12,7 @@ use Rattle.std.proofs.Common.{set, min, [], lt-ltb, le-ltb}
 use Rattle.entities.specs.Census.{Census, population}
 use Rattle.entities.specs.Upcoming.{upcoming}
 use Rattle.entities.specs.PhasePlan.{ArePlaced, place_of_index}
-use Rattle.entities.proofs.Upcoming.{upcoming_is, upcoming_length, next_high}
+use Rattle.entities.proofs.Upcoming.{some_same, upcoming_is, upcoming_length, next_high}
 use Rattle.entities.specs.PhaseReserve.{IsReserve, AreApart, AreNew}
 
 pub slice_get_within : (es : List Entity) (k : ℕ) (e : Entity) → slice_get es k ≡ Some e → k < length es
@@ -20,9 +20,6 @@ slice_get_within es k e is = elim (cases_lt k (length es)) [ inl lt ↦ lt | inr
 
 pub slice_get_is : (es : List Entity) (k : ℕ) (e d : Entity) → slice_get es k ≡ Some e → get_or es k d ≡ e
 slice_get_is es k e d is = let at = slice_get-get_or es k d (slice_get_within es k e is) in some_same (get_or es k d) e (sym at ∙ is)
-  where
-    some_same : (a b : Entity) → Some a ≡ Some b → a ≡ b
-    some_same a b h = cc
 
 -- two of a reserve are not of one index
 pub reserve_apart : (p : Population) (es : List Entity) (j k : ℕ) (d : Entity) → IsReserve p es → j < k → k < length es → (get_or es j d).0 ≢ (get_or es k d).0

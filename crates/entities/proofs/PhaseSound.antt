@@ -136,17 +136,18 @@ mark_made i w (e ∷ es) h = ⊎_elim
     (λ (made : (p : ℕ) × Among (Mark i) (steps_of p es)). inr (made.0, among_more (Mark i) made.0 e es made.1))
     (mark_made i (after w e.1) es h)
 
--- what a Look answered is at most the cursor at the end
+-- the cursor never goes back
 cursor_grows : (w : Words) (s : Step) → w.cursor ≤ (after w s).cursor
 cursor_grows w (Draw n) = omega arith
 cursor_grows w (Look n) = omega arith
 cursor_grows w (Mark i) = omega arith
 cursor_grows w (Peek i b) = omega arith
 
-run_grows : (w : Words) (es : List Event) → w.cursor ≤ (run w es).cursor
+pub run_grows : (w : Words) (es : List Event) → w.cursor ≤ (run w es).cursor
 run_grows w [] = omega arith
 run_grows w (e ∷ es) = let a = cursor_grows w e.1 in let b = run_grows (after w e.1) es in omega arith
 
+-- what a Look answered is at most the cursor at the end
 look_in : (w : Words) (s : Step) (n : ℕ) → IsRight w s → s ≡ Look n → n ≤ w.cursor
 look_in w (Draw t) n right e = absurd (cc)
 look_in w (Look t) n right e = let k : t ≡ n = cc in omega arith

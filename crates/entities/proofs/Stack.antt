@@ -1,5 +1,5 @@
 -- What births and deaths do to the generations and to the stack of free indices.
-use Rattle.std.proofs.Common.{◌≡◌, ℕ, suc, zero, ◌+◌, ◌<◌, ◌≤◌, Bool, true, false, not, ◌&&◌, ◌||◌, cond, eqb, ltb, List, [], ◌∷◌, ◌++◌, length, get_or, set, ℤ, pos, negsuc, refl, sym, ap, ◌∙◌, subst, inl, inr, arith, length-set}
+use Rattle.std.proofs.Common.{◌≡◌, ℕ, suc, zero, ◌+◌, ◌<◌, ◌≤◌, true, false, not, ◌&&◌, ◌||◌, cond, eqb, ltb, List, [], ◌∷◌, ◌++◌, length, get_or, set, ℤ, pos, negsuc, refl, sym, ap, ◌∙◌, subst, inl, inr, arith, length-set}
 use Rattle.std.specs.Prelude.{nat_abs, int_lt}
 use Rattle.std.specs.List.{count_by}
 use Rattle.std.proofs.lemmas.Bool.{false≢true, cases_eq, cases_lt, cases_order, eq-eqb, ne_eqb, lt-ltb}
@@ -154,10 +154,6 @@ pub room_to_die : (gs : List ℤ) (free : List ℕ) (i m : ℕ) → IsStacked gs
 room_to_die gs free i m k inside was =
     let s = sum_by-set (λ g. cond (int_lt (pos 0) g) 1 0) gs i (negsuc m) (pos 0) inside in
     omega (arith, k.counted, rw (was, lt-ltb 0 (suc m) (omega arith)) at s)
-
-zero_cond : (b : Bool) → ◌≡◌ {A = ℕ} 0 (cond b 1 0) → b ≡ false
-zero_cond true h = absurd (omega (arith, h))
-zero_cond false h = refl
 
 pub stacked_push : (gs : List ℤ) (free free' : List ℕ) → IsStacked gs free → free ≡ [] → free' ≡ [] → IsStacked (gs ++ pos 1 ∷ []) free'
 stacked_push gs free free' k none none' = record {

@@ -1,5 +1,6 @@
 -- What the steps do to the sets and to the population.
 use Rattle.std.proofs.Common.{◌≡◌, ℕ, suc, ◌<◌, Bool, true, false, not, ◌&&◌, ◌||◌, eqb, eqb-true, eq-eqb, List, [], ◌∷◌, length, get_or, take, ℤ, pos, cond, inl, inr, refl, sym, ap, ◌∙◌, rules}
+use Rattle.std.proofs.Math.Bool.{or-true}
 use Rattle.std.proofs.lemmas.Bool.{cases_Bool, both_ways}
 use Rattle.std.specs.Ordering.{nat_cmp}
 use Rattle.std.specs.FinSet as set
@@ -107,11 +108,7 @@ population_born_as true gs gs' a r k r' k' i s v er ek = rw (er, ek) (population
 population_born_as false gs gs' a r k r' k' i s v er ek = rw (er, ek) (population_born gs gs' r.members k.members i v (not_there gs r.members i s.pending v.dead) (not_there gs k.members i s.marked v.dead))
 
 still_lives : (gs gs' : List ℤ) (i j : ℕ) → IsRevived gs i gs' → living_of gs j ≡ true → living_of gs' j ≡ true
-still_lives gs gs' i j v l = v.living j ∙ rw l (or_true (eqb j i))
-  where
-    or_true : (a : Bool) → (a || true) ≡ true
-    or_true true = refl
-    or_true false = refl
+still_lives gs gs' i j v l = v.living j ∙ rw l (or-true (eqb j i))
 
 lives_now : (gs gs' : List ℤ) (r : Members) (i j : ℕ) → IsRevived gs i gs' → ((j : ℕ) → has r j ≡ true → living_of gs j ≡ true) → (eqb j i || has r j) ≡ true → living_of gs' j ≡ true
 lives_now gs gs' r i j v within e = v.living j ∙ either (eqb j i) (has r j) (living_of gs j) (within j) e

@@ -2,6 +2,7 @@
 use Rattle.std.proofs.Common.{◌≡◌, ◌≢◌, ℕ, zero, suc, ◌+◌, ◌-◌, ◌<◌, ◌≤◌, Bool, true, false, not, ◌&&◌, ◌||◌, cond, eqb, List, [], ◌∷◌, ◌++◌, length, get_or, take, ℤ, pos, inl, inr, refl, sym, ap, ◌∙◌, subst, arith, Some, add-one}
 use Rattle.std.specs.Prelude.{slice_get}
 use Rattle.std.specs.List.{count_by}
+use Rattle.std.proofs.Math.Bool.{or-false}
 use Rattle.std.proofs.lemmas.Bool.{cases_eq, cases_lt, cases_Bool, both_ways, ne_eqb, eq-eqb, lt-ltb, le-ltb}
 use Rattle.std.specs.FinSet as set
 use Rattle.std.proofs.lemmas.List.{length-take-le, take_more, same_from_push, length_push, take-append-le, take_all, get_or_push, get_or_append_left}
@@ -116,6 +117,9 @@ upcoming_take c (suc n) k le = elim (cases_eq k (suc n)) [
       take-append-le k (upcoming c n) (next_entity c n ∷ []) (omega (arith, upcoming_length c n)) ∙ upcoming_take c n k less
 ]
 
+pub some_same : (a b : Entity) → Some a ≡ Some b → a ≡ b
+some_same a b h = cc
+
 pub upcoming_is : (c : Census) (n t : ℕ) (e : Entity) → slice_get (upcoming c n) t ≡ Some e → (t < n) × (e ≡ next_entity c t)
 upcoming_is c n t e is = elim (cases_lt t n) [
   | inl lt ↦
@@ -123,9 +127,6 @@ upcoming_is c n t e is = elim (cases_lt t n) [
       (lt, some_same _ _ (sym is ∙ at) ∙ upcoming_at c n t e lt)
   | inr past ↦ let none = slice_get_past (upcoming c n) t (omega (arith, upcoming_length c n)) in absurd (cc)
 ]
-  where
-    some_same : (a b : Entity) → Some a ≡ Some b → a ≡ b
-    some_same a b h = cc
 
 has_push : (es : List Entity) (e : Entity) (i : ℕ) → has_index (es ++ e ∷ []) i ≡ (has_index es i || (eqb e.0 i || false))
 has_push es e i = list_any-append (λ x. eqb x.0 i) es (e ∷ [])
@@ -263,15 +264,11 @@ pub record IsBorne (c0 : Census) (k : ℕ) (s : Census) : Type 0 where
 
 pub borne_none : (c0 : Census) → IsBorne c0 0 c0
 borne_none c0 = record {
-  born = same_population _ _ (λ _. refl) (λ _. refl) (λ j. no_more (living_of c0.generations j && set.contains c0.raised j)) (λ _. refl);
+  born = same_population _ _ (λ _. refl) (λ _. refl) (λ j. sym (or-false (living_of c0.generations j && set.contains c0.raised j))) (λ _. refl);
   free = sym (take_all (length c0.free - 0) c0.free (omega arith));
   len = omega arith;
   room = refl;
 }
-  where
-    no_more : (b : Bool) → b ≡ (b || false)
-    no_more true = refl
-    no_more false = refl
 
 born_step : (c0 s s' : Census) (k i : ℕ) → IsStacked c0.generations c0.free → IsBorne c0 k s → i ≡ next_index c0 k → population s' ≡ born_pending (population s) i → population s' ≡ with_births (upcoming c0 (k + 1)) (population c0)
 born_step c0 s s' k i stack h is e =

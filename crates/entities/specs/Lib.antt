@@ -14,4 +14,5 @@ pub mod PhaseRule
 pub mod PhasePlan
 pub mod PhaseBoard
 pub mod PhaseCalls
+pub mod PhaseOpened
 pub mod PhaseLending

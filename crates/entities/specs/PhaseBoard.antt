@@ -1,5 +1,5 @@
 -- What a pass of an opened phase is.
-use Rattle.std.specs.Prelude.{◌≡◌, ℕ, true, false, List, [], ◌∷◌, ◌++◌, length, ◌<◌, ◌+◌, flat_map}
+use Rattle.std.specs.Prelude.{◌≡◌, ℕ, Bool, true, false, List, [], ◌∷◌, ◌++◌, length, ◌<◌, ◌+◌, flat_map}
 use Rattle.atomic_table.specs.Seated.{TableId}
 use Rattle.entities.specs.declared.phase.trace.Step.{Step}
 use Rattle.entities.specs.declared.phase.trace.Line.{Line}
@@ -14,6 +14,10 @@ steps_of_pass pass = steps_in pass.record.me.0
 
 abbrev pub number_of_pass : Pass → ℕ
 number_of_pass pass = number_of pass.record.me.0
+
+-- it found the reserve used up, and is given no more
+abbrev pub is_spent : Pass → Bool
+is_spent pass = pass.spent
 
 -- The pass is of this phase
 pub record IsPassOf (board : Board) (pass : Pass) : Type 0 where

@@ -14,7 +14,7 @@ use Rattle.entities.specs.Upcoming.{upcoming}
 use Rattle.entities.specs.PhaseReserve.{with_births, with_marks}
 use Rattle.entities.specs.PhaseTrace.{Phase, Each, Event, IsInterleaving, IsSound, run, start, has}
 use Rattle.entities.specs.PhaseRule.{Among, IsSeen, IsRecorded, lines_of, AmongLines}
-use Rattle.entities.specs.PhasePlan.{phase_of, AreLocated}
+use Rattle.entities.specs.PhasePlan.{AreLocated}
 use Rattle.entities.specs.PhaseBoard.{IsNext, steps_of_pass}
 
 -- The entities are as they were at the opening, with room for the reserve, which is of the next births
@@ -63,18 +63,18 @@ IsCountOf n f = (bound : ℕ) × ((i : ℕ) → f i ≡ true → i < bound) × (
 
 -- What a phase leaves, by one interleaving: the joined record of the passes that came back has their steps of it, and, if all came back,
 -- it has no others; the first entities of the reserve are pending births, and what was marked is marked
-pub record IsClosed (plan : Plan) (record_back : List Line) (before after : Population) (births marks : ℕ) : Type 0 where
+pub record IsClosed (o : Phase) (record_back : List Line) (before after : Population) (births marks : ℕ) : Type 0 where
   pub trace : List Event
-  pub leads : IsInterleaving (phase_of plan) trace
+  pub leads : IsInterleaving o trace
   pub recorded : IsRecorded trace record_back
   pub once : (p : ℕ) → lines_of p record_back ≤ 1
-  pub complete : length record_back ≡ plan.passes → Each (λ e. lines_of e.0 record_back ≡ 1) trace
+  pub complete : length record_back ≡ o.passes → Each (λ e. lines_of e.0 record_back ≡ 1) trace
   -- what the passes that came back were given is born, and what they were told is marked
   pub given_are_born : (t : ℕ) → AmongLines (Draw t) record_back → t < (run start trace).cursor
   pub told_are_marked : (i : ℕ) → AmongLines (Mark i) record_back → has i (run start trace).marks ≡ true
   -- and if all came back, nothing else is
-  pub births_were_given : length record_back ≡ plan.passes → (t : ℕ) → t < births → AmongLines (Draw t) record_back
-  pub marks_were_told : length record_back ≡ plan.passes → (i : ℕ) → has i (run start trace).marks ≡ true → AmongLines (Mark i) record_back
-  pub births_are : births ≡ min (run start trace).cursor (length plan.reserve.items)
-  pub leaves : after ≡ with_marks (λ i. has i (run start trace).marks) (with_births (take births plan.reserve.items) before)
+  pub births_were_given : length record_back ≡ o.passes → (t : ℕ) → t < births → AmongLines (Draw t) record_back
+  pub marks_were_told : length record_back ≡ o.passes → (i : ℕ) → has i (run start trace).marks ≡ true → AmongLines (Mark i) record_back
+  pub births_are : births ≡ min (run start trace).cursor (length o.reserve)
+  pub leaves : after ≡ with_marks (λ i. has i (run start trace).marks) (with_births (take births o.reserve) before)
   pub marks_are : IsCountOf marks (λ i. has i (run start trace).marks)

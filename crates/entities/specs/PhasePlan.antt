@@ -9,6 +9,10 @@ use Rattle.entities.specs.PhaseTrace.{Phase}
 abbrev pub phase_of : Plan → Phase
 phase_of plan = record { opening = population plan.opening.value; reserve = plan.reserve.items; passes = plan.passes }
 
+-- how many words of marks it has
+abbrev pub words_of_marks : Plan → ℕ
+words_of_marks plan = plan.width
+
 -- where an index would stand in the reserve
 abbrev pub place_of_index : List ℕ → ℕ → ℕ → ℕ → ℕ
 place_of_index places born revived i = if nat_lt i (length places) then slice_index places i else i - born + revived

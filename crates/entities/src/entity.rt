@@ -1,6 +1,7 @@
 //! Entities and generations.
 ghost use Rattle.std.specs.Prelude.{◌≡◌, ◌≢◌, ◌↔◌, pos, ◌<ℤ◌, IsTrue, Some, MatchOption};
 ghost use Rattle.std.specs.Ordering.{nat_cmp, int_cmp, then_cmp};
+ghost use Rattle.entities.specs.Population.{index_of, generation_of};
 ghost use Rattle.entities.specs.Texts.{generation_text, entity_text, wrong_text};
 
 use std::cmp::Ordering;
@@ -59,7 +60,7 @@ impl Generation {
 }
 
 impl Entity {
-    ghost use Rattle.entities.specs.Population.{index_of, generation_of, number_of};
+    ghost use Rattle.entities.specs.Population.{number_of};
 
     /// The entity of an index and a generation, or none for the generation 0. It need not live, nor ever have lived.
     #[inline]
@@ -126,7 +127,7 @@ impl error::Error for WrongGeneration {}
 
 /// The order of entities: by index, then by generation.
 pub fn order(a: Entity, b: Entity) -> Ordering
-    ensures { result ≡ then_cmp (λ x y. nat_cmp x.0 y.0) (λ x y. int_cmp x.1.0 y.1.0) a b }
+    ensures { result ≡ then_cmp (λ x y. nat_cmp (index_of x) (index_of y)) (λ x y. int_cmp (generation_of x) (generation_of y)) a b }
 {
     a.cmp(&b)
 }

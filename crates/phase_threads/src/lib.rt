@@ -4,6 +4,7 @@
 ghost use Rattle.std.specs.Prelude.{◌≡◌, ℕ, length};
 ghost use Rattle.std.specs.List.{All};
 ghost use Rattle.entities.specs.PhaseBoard.{IsPassOf};
+ghost use Rattle.entities.specs.PhaseOpened.{board_of};
 
 use entities::{EntitiesRes, Pass, Shared};
 use rayon::prelude::*;
@@ -12,15 +13,15 @@ use std::thread::Threads;
 
 /// Each pass creates once, in threads. How many were given an entity is told at the close.
 pub fn create_all(rt: &(impl Threads + Sync), shared: &Shared<'_>, passes: &mut [Pass])
-    requires { All (IsPassOf shared.now.board) passes.old }
-    ensures { All (IsPassOf shared.now.board) passes.new }
+    requires { All (IsPassOf (board_of shared.now)) passes.old }
+    ensures { All (IsPassOf (board_of shared.now)) passes.new }
 {
     par_for_each_mut(
         rt,
         passes,
         |_i: usize, pass: &mut Pass|
-            requires { IsPassOf shared.now.board pass.old }
-            ensures { IsPassOf shared.entry.now.board pass.new }
+            requires { IsPassOf (board_of shared.now) pass.old }
+            ensures { IsPassOf (board_of shared.entry.now) pass.new }
         {
             let _ = shared.create(pass);
         },

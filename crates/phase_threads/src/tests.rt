@@ -1,5 +1,6 @@
 //! What phases come to.
 ghost use Rattle.entities.specs.PhaseBoard.{IsPassOf};
+ghost use Rattle.entities.specs.PhaseOpened.{entities_of, board_of};
 ghost use Rattle.entities.specs.PhaseCalls.{IsOpen};
 
 use super::*;
@@ -26,9 +27,9 @@ fn entity(index: u32) -> Option<Entity> {
 
 /// A pass creates once, and says what it sees of the entity if it is the first that was given one.
 fn take_turn(shared: &Shared<'_>, pass: &mut Pass, answers: &mut Answers)
-    requires opened { IsOpen shared.now.entities.now shared.now.board }
-    requires pass { IsPassOf shared.now.board pass.old }
-    ensures { IsPassOf shared.now.board pass.new }
+    requires opened { IsOpen (entities_of shared.now) (board_of shared.now) }
+    requires pass { IsPassOf (board_of shared.now) pass.old }
+    ensures { IsPassOf (board_of shared.now) pass.new }
 {
     match shared.create(pass) {
         Ok(e) => {

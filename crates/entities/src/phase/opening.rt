@@ -40,11 +40,11 @@ impl From<AllocError> for OpenError {
 }
 
 impl EntitiesRes {
-    ghost use Rattle.entities.specs.PhaseLending.{OpenRests};
+    ghost use Rattle.entities.specs.PhaseLending.{OpenRests, name_of_phase};
     ghost use Rattle.entities.specs.PhaseReserve.{IsReserve, givable};
     ghost use Rattle.entities.specs.PhaseCalls.{IsOpen, EveryOrderIsSound};
     ghost use Rattle.entities.specs.PhaseBoard.{AreFresh, IsPassOf};
-    ghost use Rattle.entities.specs.PhasePlan.{phase_of};
+    ghost use Rattle.entities.specs.PhaseOpened.{entities_of, board_of, phase_opened};
     ghost use Rattle.std.specs.List.{All};
 
     /// Opens a phase, in which passes make and delete entities from several threads at once: `reserve` entities are set aside, which the
@@ -59,17 +59,18 @@ impl EntitiesRes {
         passes: usize,
     ) -> Result<(Shared<'_>, Vec<Pass>), OpenError>
         ensures* rests { sem 𝓛 (OpenRests self.entry result) }
-        ensures same_reference { IfOk result (λ r. r.0.entities.ghost_name ≡ self.entry.ghost_name) }
-        ensures open { IfOk result (λ r. IsOpen r.0.entities.now r.0.board) }
-        ensures same { IfOk result (λ r. population r.0.entities.now ≡ population self.old) }
-        ensures plan { IfOk result (λ r. (phase_of r.0.board.plan).opening ≡ population self.old) }
-        ensures sizes { IfOk result (λ r. (length r.0.board.plan.reserve.items ≡ reserve) × (r.0.board.plan.passes ≡ passes)) }
-        ensures reserve { IfOk result (λ r. IsReserve (population self.old) r.0.board.plan.reserve.items) }
-        ensures passes { IfOk result (λ r. AreFresh r.0.board 0 r.1.items × (length r.1.items ≡ passes)) }
-        ensures of_phase { IfOk result (λ r. All (IsPassOf r.0.board) r.1.items) }
-        ensures law { IfOk result (λ r. EveryOrderIsSound (phase_of r.0.board.plan)) }
+        ensures same_reference { IfOk result (λ r. name_of_phase r ≡ self.entry.ghost_name) }
+        ensures open { IfOk result (λ r. IsOpen (entities_of r.0) (board_of r.0)) }
+        ensures same { IfOk result (λ r. population (entities_of r.0) ≡ population self.old) }
+        ensures plan { IfOk result (λ r. (phase_opened r.0).opening ≡ population self.old) }
+        ensures sizes { IfOk result (λ r. (length (phase_opened r.0).reserve ≡ reserve) × ((phase_opened r.0).passes ≡ passes)) }
+        ensures reserve { IfOk result (λ r. IsReserve (population self.old) (phase_opened r.0).reserve) }
+        ensures passes { IfOk result (λ r. AreFresh (board_of r.0) 0 r.1.items × (length r.1.items ≡ passes)) }
+        ensures of_phase { IfOk result (λ r. All (IsPassOf (board_of r.0)) r.1.items) }
+        ensures law { IfOk result (λ r. EveryOrderIsSound (phase_opened r.0)) }
         ensures many { IfErr result (λ e. e ≡ OpenError.TooManyPasses → MOST_PASSES < passes) }
-        ensures limit { IfErr result (λ e. e ≡ OpenError.IndexLimit → givable (population self.old) < reserve) }
+        ensures limit { IfErr result (λ e. e ≡ OpenError.IndexLimit → passes ≤ MOST_PASSES × givable (population self.old) < reserve) }
+        ensures memory { IfErr result (λ e. e ≡ OpenError.OutOfMemory → passes ≤ MOST_PASSES × reserve ≤ givable (population self.old)) }
         ensures few { IfOk result (λ _. passes ≤ MOST_PASSES × reserve ≤ givable (population self.old)) }
     {
         if passes > MOST_PASSES {

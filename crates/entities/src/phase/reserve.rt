@@ -65,6 +65,7 @@ pub(crate) fn plan_of(
     ensures passes { IfOk result (λ p. p.passes ≡ passes) }
     ensures width { IfOk result (λ p. (length p.opening.value.generations + (reserve - length p.opening.value.free) ≤ 64 * p.width) × (p.width < 2 ^ 26)) }
     ensures limit { IfErr result (λ e. e ≡ OpenError.IndexLimit → givable (population entities.old) < reserve) }
+    ensures memory { IfErr result (λ e. e ≡ OpenError.OutOfMemory → reserve ≤ givable (population entities.old)) }
     ensures kind { IfErr result (λ e. e ≡ OpenError.TooManyPasses → ⊥) }
     ensures enough { IfOk result (λ _. reserve ≤ givable (population entities.old)) }
 {

@@ -12,12 +12,12 @@ use std::marker::{Brand, PhantomData};
 pub struct Interleaved;
 
 impl TableRule<(), LinkedList<Line>, Plan> for Interleaved {
-    ghost use Rattle.entities.specs.PhasePlan.{phase_of};
+    ghost use Rattle.entities.specs.PhasePlan.{phase_of, words_of_marks};
     ghost use Rattle.entities.specs.PhaseRule.{kept, blank_lines};
 
-    ghost holds = { λ plan. kept (phase_of plan) plan.width };
+    ghost holds = { λ plan. kept (phase_of plan) (words_of_marks plan) };
 
-    ghost first = { λ plan. blank_lines 0 plan.passes };
+    ghost first = { λ plan. blank_lines 0 (phase_of plan).passes };
 }
 
 /// Names an index to the proofs of a step.

@@ -5,7 +5,8 @@ ghost use Rattle.entities.specs.declared.phase.trace.Step.TheVariants.{Draw, Loo
 ghost use Rattle.entities.specs.Census.{population};
 ghost use Rattle.entities.specs.Population.{generation_reported, index_of, number_of};
 ghost use Rattle.std.specs.List.{All};
-ghost use Rattle.entities.specs.PhaseBoard.{IsPassOf, IsNext, record_of};
+ghost use Rattle.entities.specs.PhaseBoard.{IsPassOf, IsNext, record_of, is_spent};
+ghost use Rattle.entities.specs.PhaseOpened.{entities_of, board_of, phase_opened};
 ghost use Rattle.entities.specs.PhaseCalls.{IsOpen, AliveSteps, MarkSteps, PendingSteps, IsClosed};
 
 use crate::entities_res::EntitiesRes;
@@ -42,7 +43,7 @@ pub struct Closed {
 impl<'a> Opened<'a, Board> {
     /// The entities as they were at the opening.
     pub fn entities(&self) -> &EntitiesRes
-        ensures { result.now ≡ self.now.entities.now }
+        ensures { result.now ≡ entities_of self.now }
     {
         self.entities
     }
@@ -51,11 +52,11 @@ impl<'a> Opened<'a, Board> {
     /// atomic addition, and of a spent pass no step.
     #[inline]
     pub fn create(&self, pass: &mut Pass) -> Result<Entity, Exhausted>
-        requires { IsPassOf self.now.board pass.old }
-        ensures pass { IsPassOf self.now.board pass.new }
-        ensures given { IfOk result (λ e. (t : ℕ) × IsNext pass.old pass.new (Draw t ∷ []) × (slice_get self.now.board.plan.reserve.items t ≡ Some e)) }
-        ensures unspent { IfOk result (λ _. (pass.old.spent ≡ false) × (pass.new.spent ≡ false)) }
-        ensures spent { IfErr result (λ _. (pass.new.spent ≡ true) × (pass.old.spent ≡ true → pass.new ≡ pass.old) × (pass.old.spent ≡ false → (t : ℕ) × IsNext pass.old pass.new (Draw t ∷ []) × (length self.now.board.plan.reserve.items ≤ t))) }
+        requires { IsPassOf (board_of self.now) pass.old }
+        ensures pass { IsPassOf (board_of self.now) pass.new }
+        ensures given { IfOk result (λ e. (t : ℕ) × IsNext pass.old pass.new (Draw t ∷ []) × (slice_get (phase_opened self.now).reserve t ≡ Some e)) }
+        ensures unspent { IfOk result (λ _. (is_spent pass.old ≡ false) × (is_spent pass.new ≡ false)) }
+        ensures spent { IfErr result (λ _. (is_spent pass.new ≡ true) × (is_spent pass.old ≡ true → pass.new ≡ pass.old) × (is_spent pass.old ≡ false → (t : ℕ) × IsNext pass.old pass.new (Draw t ∷ []) × (length (phase_opened self.now).reserve ≤ t))) }
     {
         if pass.spent {
             return Err(Exhausted);
@@ -71,11 +72,11 @@ impl<'a> Opened<'a, Board> {
     /// Whether the entity lives: one of the reserve if it was given out, which is one atomic load, any other if it lived at the opening.
     #[inline]
     pub fn is_alive(&self, pass: &mut Pass, entity: Entity) -> bool
-        requires open { IsOpen self.now.entities.now self.now.board }
-        requires pass { IsPassOf self.now.board pass.old }
-        ensures pass { IsPassOf self.now.board pass.new }
-        ensures spent { pass.new.spent ≡ pass.old.spent }
-        ensures steps { AliveSteps self.now.board pass.old pass.new entity result }
+        requires open { IsOpen (entities_of self.now) (board_of self.now) }
+        requires pass { IsPassOf (board_of self.now) pass.old }
+        ensures pass { IsPassOf (board_of self.now) pass.new }
+        ensures spent { is_spent pass.new ≡ is_spent pass.old }
+        ensures steps { AliveSteps (board_of self.now) pass.old pass.new entity result }
     {
         match self.board.plan.place_of(entity) {
             Some(place) => (place as u64) < self.board.look(pass),
@@ -87,13 +88,13 @@ impl<'a> Opened<'a, Board> {
     /// refused, with the generation that its index had at the opening.
     #[inline]
     pub fn delete(&self, pass: &mut Pass, entity: Entity) -> Result<(), WrongGeneration>
-        requires open { IsOpen self.now.entities.now self.now.board }
-        requires pass { IsPassOf self.now.board pass.old }
-        ensures pass { IsPassOf self.now.board pass.new }
-        ensures spent { pass.new.spent ≡ pass.old.spent }
-        ensures marked { IfOk result (λ _. MarkSteps self.now.board pass.old pass.new entity) }
-        ensures refused { IfErr result (λ w. AliveSteps self.now.board pass.old pass.new entity false × (w.entity ≡ entity)) }
-        ensures actual { IfErr result (λ w. number_of w.actual_gen ≡ generation_reported (population self.now.entities.now) (index_of entity)) }
+        requires open { IsOpen (entities_of self.now) (board_of self.now) }
+        requires pass { IsPassOf (board_of self.now) pass.old }
+        ensures pass { IsPassOf (board_of self.now) pass.new }
+        ensures spent { is_spent pass.new ≡ is_spent pass.old }
+        ensures marked { IfOk result (λ _. MarkSteps (board_of self.now) pass.old pass.new entity) }
+        ensures refused { IfErr result (λ w. AliveSteps (board_of self.now) pass.old pass.new entity false × (w.entity ≡ entity)) }
+        ensures actual { IfErr result (λ w. number_of w.actual_gen ≡ generation_reported (population (entities_of self.now)) (index_of entity)) }
         ensures action { IfErr result (λ w. w.action.now ≡ DELETE.now) }
     {
         if !self.is_alive(pass, entity) {
@@ -106,11 +107,11 @@ impl<'a> Opened<'a, Board> {
     /// Whether the entity lives, as `is_alive` finds it, and is marked, before the opening or in the phase, by one atomic load more.
     #[inline]
     pub fn pending(&self, pass: &mut Pass, entity: Entity) -> bool
-        requires open { IsOpen self.now.entities.now self.now.board }
-        requires pass { IsPassOf self.now.board pass.old }
-        ensures pass { IsPassOf self.now.board pass.new }
-        ensures spent { pass.new.spent ≡ pass.old.spent }
-        ensures steps { PendingSteps self.now.board pass.old pass.new entity result }
+        requires open { IsOpen (entities_of self.now) (board_of self.now) }
+        requires pass { IsPassOf (board_of self.now) pass.old }
+        ensures pass { IsPassOf (board_of self.now) pass.new }
+        ensures spent { is_spent pass.new ≡ is_spent pass.old }
+        ensures steps { PendingSteps (board_of self.now) pass.old pass.new entity result }
     {
         if !self.is_alive(pass, entity) {
             return false;
@@ -122,11 +123,11 @@ impl<'a> Opened<'a, Board> {
     /// Ends the phase, with the passes that came back: the first of the reserve are born, pending, and what was marked is marked. It takes
     /// no memory, and time in proportion to the births, the marks, and the words of marks, each of which is of 64 indices.
     pub fn close(self, passes: Vec<Pass>) -> Closed
-        requires open { IsOpen self.entities.now self.board }
-        requires passes { All (IsPassOf self.board) passes.items }
-        ensures closed { IsClosed self.entry.board.plan (record_of passes.items) (population self.entry.entities.now) (population self.exit.0.now) result.births result.marks }
+        requires open { IsOpen (entities_of self) (board_of self) }
+        requires passes { All (IsPassOf (board_of self)) passes.items }
+        ensures closed { IsClosed (phase_opened self.entry) (record_of passes.items) (population (entities_of self.entry)) (population self.exit.0.now) result.births result.marks }
         ensures back { result.passes_back ≡ length passes.items }
-        ensures spent { (k : ℕ) (d : Pass) → k < length passes.items → (slice_index_or passes.items k d).spent ≡ true → result.births ≡ length self.entry.board.plan.reserve.items }
+        ensures spent { (k : ℕ) (d : Pass) → k < length passes.items → is_spent (slice_index_or passes.items k d) ≡ true → result.births ≡ length (phase_opened self.entry).reserve }
     {
         let Opened { entities, board } = self;
         let passes_back = passes.len();

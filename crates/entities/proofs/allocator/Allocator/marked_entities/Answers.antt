@@ -1,9 +1,8 @@
 use Rattle.std.proofs.Common.{◌≡◌, ◌∙◌, ◌≤◌, subst, ◌&&◌, true, Bool, ℕ, ap, sym, refl, arith, map, append_assoc, length}
 use Rattle.std.proofs.lemmas.Bool.{both_ways}
 use Rattle.std.proofs.lemmas.List.{append-nil}
-use Rattle.hibits.specs.declared.limits.TheConstants.{INDEX_LIMIT}
 use Rattle.hibits.specs.Left.{left}
-use Rattle.hibits.specs.Sets.{has_part, has_part_zero}
+use Rattle.hibits.specs.Sets.{has_part_zero}
 use Rattle.entities.specs.Census.{Census, population, has, living_of}
 use Rattle.entities.specs.Merges.{living_entity}
 use Rattle.entities.proofs.Merging.{entity_is, layer_is, marked_below}

@@ -46,6 +46,7 @@ returns c =
         law = subst (λ (p : Plan). EveryOrderIsSound (phase_of p)) (sym is) (sound (phase_of plan) (rw same reserve));
         many = tt;
         limit = tt;
+        memory = tt;
         few = (omega arith, c.in-Ok.ensures.enough);
       },
     )
@@ -65,7 +66,8 @@ returns-in-Err c = (
     of_phase = tt;
     law = tt;
     many = λ e. absurd (c.in-Err.ensures.kind e);
-    limit = c.in-Err.ensures.limit;
+    limit = λ e. (omega arith, c.in-Err.ensures.limit e);
+    memory = λ e. (omega arith, c.in-Err.ensures.memory e);
     few = tt;
   },
 )
