@@ -82,6 +82,7 @@ impl BitSet {
     }
 
     /// Gets room for an index, and for no block after its own: after it is Ok, each later `add` of this index is Ok.
+    #[inline(always)]
     pub fn reserve_for(&mut self, id: Index) -> Result<(), SetError>
         ensures members { self.new.members ≡ self.old.members }
         ensures ok { OnOk result (HasRoom self.new id × id < INDEX_LIMIT) }

@@ -74,7 +74,7 @@ impl<T: Component> MaskedStorage<T> {
     }
 
     /// The indices that have a component.
-    #[inline]
+    #[inline(always)]
     pub fn mask(&self) -> &BitSet
         ensures { (q : ℕ) → set.contains result.now.members q ≡ map.contains_key self.now.map q }
     {
@@ -82,7 +82,7 @@ impl<T: Component> MaskedStorage<T> {
     }
 
     /// The storage without its mask.
-    #[inline]
+    #[inline(always)]
     pub fn unprotected_storage(&self) -> &T::Storage
         ensures present { (q : ℕ) → IsSome (map.get self.now.map q) → (T.Storage.meaning result.now).at q ≡ map.get self.now.map q }
         ensures absent { (q : ℕ) → map.get self.now.map q ≡ None → (T.Storage.meaning result.now).is_free q ≡ true }
@@ -101,7 +101,7 @@ impl<T: Component> MaskedStorage<T> {
     }
 
     /// Whether no index has a component.
-    #[inline]
+    #[inline(always)]
     pub fn is_empty(&self) -> bool
         ensures { IsTrue result ↔ (self.now.map ≡ map.empty) }
     {
@@ -109,7 +109,7 @@ impl<T: Component> MaskedStorage<T> {
     }
 
     /// Whether an index has a component.
-    #[inline]
+    #[inline(always)]
     pub fn contains(&self, id: Index) -> bool
         ensures { result ≡ map.contains_key self.now.map id }
     {
@@ -117,7 +117,7 @@ impl<T: Component> MaskedStorage<T> {
     }
 
     /// The component of an index.
-    #[inline]
+    #[inline(always)]
     pub fn get(&self, id: Index) -> Option<&T>
         ensures { option_copied result ≡ map.get self.now.map id }
     {
@@ -129,7 +129,7 @@ impl<T: Component> MaskedStorage<T> {
     }
 
     /// The component of an index that has one, to write to.
-    #[inline]
+    #[inline(always)]
     pub fn present_mut(&mut self, id: Index) -> Result<&mut T, AllocError>
         requires { IsSome (map.get self.old.map id) }
         ensures* writes_back { sem 𝓛 (lends_present T.row T.Storage.row T.Storage.meaning T.Storage.IsDefault self.entry id result) }
@@ -140,7 +140,7 @@ impl<T: Component> MaskedStorage<T> {
     }
 
     // `present_mut`, which hands a component that is not needed back with an error.
-    #[inline]
+    #[inline(always)]
     pub(crate) fn present_mut_or(&mut self, id: Index, value: T) -> Result<&mut T, (AllocError, T)>
     where
         T: Drop,
@@ -157,7 +157,7 @@ impl<T: Component> MaskedStorage<T> {
     }
 
     // `present_mut`, with an error that can hand a component back.
-    #[inline]
+    #[inline(always)]
     pub(crate) fn present_mut_or_none(
         &mut self,
         id: Index,
@@ -175,7 +175,7 @@ impl<T: Component> MaskedStorage<T> {
     }
 
     /// The component of an index, to write to.
-    #[inline]
+    #[inline(always)]
     pub fn get_mut(&mut self, id: Index) -> Result<&mut T, NotLent>
         ensures* writes_back { sem 𝓛 (lends_present T.row T.Storage.row T.Storage.meaning T.Storage.IsDefault self.entry id result) }
         ensures value { IfOk result (λ x. map.get self.old.map id ≡ Some x.now) }
@@ -193,7 +193,7 @@ impl<T: Component> MaskedStorage<T> {
 
     /// Inserts a component at an index that has none. Where memory is refused nothing has changed, and the component
     /// is handed back.
-    #[inline]
+    #[inline(always)]
     pub fn insert(&mut self, id: Index, value: T) -> Result<(), (AllocError, T)>
         requires absent { map.get self.old.map id ≡ None }
         requires limit { IsIndex id }
@@ -214,7 +214,7 @@ impl<T: Component> MaskedStorage<T> {
 
     /// Puts a component at an index, and answers the one that was there. It takes memory only where there was none, or
     /// for a tracked storage's event. Where memory is refused nothing has changed, and the component is handed back.
-    #[inline]
+    #[inline(always)]
     pub fn put(&mut self, id: Index, value: T) -> Result<Option<T>, (AllocError, T)>
         requires { IsIndex id }
         ensures before { IfOk result (λ before. before ≡ map.get self.old.map id) }
@@ -237,7 +237,7 @@ impl<T: Component> MaskedStorage<T> {
     }
 
     // `put`, which gives the storage back.
-    #[inline]
+    #[inline(always)]
     pub(crate) fn replaced(
         &mut self,
         id: Index,
@@ -262,7 +262,7 @@ impl<T: Component> MaskedStorage<T> {
 
     /// Inserts a component at an index that has none, and lends it to write to. A tracked storage emits an insertion
     /// and a modification. Where memory is refused nothing has changed, and the component is handed back.
-    #[inline]
+    #[inline(always)]
     pub fn insert_mut(&mut self, id: Index, value: T) -> Result<&mut T, (AllocError, T)>
         requires absent { map.get self.old.map id ≡ None }
         requires limit { IsIndex id }
@@ -286,7 +286,7 @@ impl<T: Component> MaskedStorage<T> {
 
     /// The component of an index, to write to, which is a default value if there was none. A tracked storage emits a
     /// modification, after an insertion if there was none. Where memory is refused nothing has changed.
-    #[inline]
+    #[inline(always)]
     pub fn get_mut_or_default(&mut self, id: Index) -> Result<&mut T, NotLent>
     where
         T: Default + Drop,
@@ -304,7 +304,7 @@ impl<T: Component> MaskedStorage<T> {
     }
 
     // A default value at an index that has none, to write to.
-    #[inline]
+    #[inline(always)]
     fn insert_default(&mut self, id: Index) -> Result<&mut T, NotLent>
     where
         T: Default + Drop,
@@ -324,7 +324,7 @@ impl<T: Component> MaskedStorage<T> {
     }
 
     // `insert_mut`, with an error that hands the component back as an option.
-    #[inline]
+    #[inline(always)]
     pub(crate) fn insert_mut_or_some(
         &mut self,
         id: Index,
@@ -346,7 +346,7 @@ impl<T: Component> MaskedStorage<T> {
     }
 
     /// Takes the component of an index that has one out. After an error nothing has changed.
-    #[inline]
+    #[inline(always)]
     pub fn remove_present(&mut self, id: Index) -> Result<T, AllocError>
         requires { IsSome (map.get self.old.map id) }
         ensures value { IfOk result (λ x. map.get self.old.map id ≡ Some x) }
@@ -360,7 +360,7 @@ impl<T: Component> MaskedStorage<T> {
     }
 
     /// Takes the component of an index out, if there is one. After an error nothing has changed.
-    #[inline]
+    #[inline(always)]
     pub fn remove(&mut self, id: Index) -> Result<Option<T>, AllocError>
         ensures value { IfOk result (λ x. x ≡ map.get self.old.map id) }
         ensures removed { IfOk result (λ x. IsSome x → Becomes self.old self.new (map.remove self.old.map id) (ComponentEvent.Removed id)) }
@@ -393,7 +393,7 @@ impl<T: Component> MaskedStorage<T> {
     }
 
     /// Takes the component of an index that has one out and lets it go, in room that is there for the event.
-    #[inline]
+    #[inline(always)]
     pub fn drop_present(&mut self, id: Index)
         requires present { IsSome (map.get self.old.map id) }
         requires ready { HasRoom self.old.room 1 }
@@ -426,7 +426,7 @@ impl<T: Component> MaskedStorage<T> {
     }
 
     /// Whether a call that emits an event can be refused.
-    #[inline]
+    #[inline(always)]
     pub fn needs_room(&self) -> bool
         ensures { result ≡ is_some self.now.room }
     {

@@ -45,7 +45,7 @@ impl<'a, T: Component> ReadStorage<'a, T> {
     }
 
     /// Whether the entity is alive and has a component.
-    #[inline]
+    #[inline(always)]
     pub fn contains(&self, entity: Entity) -> bool
         ensures { result ≡ is_some (found self.now entity) }
     {
@@ -53,7 +53,7 @@ impl<'a, T: Component> ReadStorage<'a, T> {
     }
 
     /// The component of an entity that is alive.
-    #[inline]
+    #[inline(always)]
     pub fn get(&self, entity: Entity) -> Option<&T>
         ensures { option_copied result ≡ found self.now entity }
     {
@@ -65,7 +65,7 @@ impl<'a, T: Component> ReadStorage<'a, T> {
     }
 
     // The storage.
-    #[inline]
+    #[inline(always)]
     pub(crate) fn storage(&self) -> &MaskedStorage<T>
         ensures { result.now ≡ slot self.now }
     {
@@ -73,7 +73,7 @@ impl<'a, T: Component> ReadStorage<'a, T> {
     }
 
     /// The indices that have a component.
-    #[inline]
+    #[inline(always)]
     pub fn mask(&self) -> &BitSet
         ensures { (q : ℕ) → set.contains result.now.members q ≡ map.contains_key (slot self.now).map q }
     {
@@ -88,7 +88,7 @@ impl<'a, T: Component> ReadStorage<'a, T> {
     }
 
     /// Whether no index has a component.
-    #[inline]
+    #[inline(always)]
     pub fn is_empty(&self) -> bool
         ensures { IsTrue result ↔ ((slot self.now).map ≡ map.empty) }
     {
@@ -107,7 +107,7 @@ impl<'a, T: Component> ReadStorage<'a, T> {
     }
 
     /// The entities.
-    #[inline]
+    #[inline(always)]
     pub fn fetched_entities(&self) -> &EntitiesRes
         ensures { result.now ≡ entities_of self.now }
     {

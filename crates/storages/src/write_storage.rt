@@ -60,7 +60,7 @@ impl<'a, T: Component> WriteStorage<'a, T> {
     }
 
     /// Whether the entity is alive and has a component.
-    #[inline]
+    #[inline(always)]
     pub fn contains(&self, entity: Entity) -> bool
         ensures { result ≡ is_some (found self.now entity) }
     {
@@ -68,7 +68,7 @@ impl<'a, T: Component> WriteStorage<'a, T> {
     }
 
     /// The component of an entity that is alive.
-    #[inline]
+    #[inline(always)]
     pub fn get(&self, entity: Entity) -> Option<&T>
         ensures { option_copied result ≡ found self.now entity }
     {
@@ -80,7 +80,7 @@ impl<'a, T: Component> WriteStorage<'a, T> {
     }
 
     /// The component of an entity that is alive, to write to.
-    #[inline]
+    #[inline(always)]
     pub fn get_mut(&mut self, entity: Entity) -> Result<&mut T, NotLent>
         ensures* writes_back { sem 𝓛 (lends_found T.row T.Storage.row T.Storage.meaning T.Storage.IsDefault self.entry entity result) }
         ensures value { IfOk result (λ x. found self.old entity ≡ Some x.now) }
@@ -95,7 +95,7 @@ impl<'a, T: Component> WriteStorage<'a, T> {
 
     /// The component of an entity that is alive, to write to, which is a default value if there was none. Ports
     /// `specs::storage::GenericWriteStorage::get_mut_or_default`.
-    #[inline]
+    #[inline(always)]
     pub fn get_mut_or_default(&mut self, entity: Entity) -> Result<&mut T, NotLent>
     where
         T: Default + Drop,
@@ -113,7 +113,7 @@ impl<'a, T: Component> WriteStorage<'a, T> {
 
     /// Puts a component at an entity that is alive, and answers the one that was there. It takes memory only where
     /// there was none, or for a tracked storage's event. After an error nothing has changed.
-    #[inline]
+    #[inline(always)]
     pub fn insert(&mut self, entity: Entity, value: T) -> Result<Option<T>, InsertError<T>>
         ensures same_reference { storage_name self.new ≡ storage_name self.old }
         ensures entities { entities_of self.new ≡ entities_of self.old }
@@ -148,7 +148,7 @@ impl<'a, T: Component> WriteStorage<'a, T> {
     }
 
     /// Takes the component of an entity that is alive out, if there is one. After an error nothing has changed.
-    #[inline]
+    #[inline(always)]
     pub fn remove(&mut self, entity: Entity) -> Result<Option<T>, AllocError>
         ensures same_reference { storage_name self.new ≡ storage_name self.old }
         ensures entities { entities_of self.new ≡ entities_of self.old }
@@ -177,7 +177,7 @@ impl<'a, T: Component> WriteStorage<'a, T> {
     }
 
     // The storage.
-    #[inline]
+    #[inline(always)]
     pub(crate) fn storage(&self) -> &MaskedStorage<T>
         ensures { result.now ≡ slot self.now }
     {
@@ -185,7 +185,7 @@ impl<'a, T: Component> WriteStorage<'a, T> {
     }
 
     /// The indices that have a component.
-    #[inline]
+    #[inline(always)]
     pub fn mask(&self) -> &BitSet
         ensures { (q : ℕ) → set.contains result.now.members q ≡ map.contains_key (slot self.now).map q }
     {
@@ -200,7 +200,7 @@ impl<'a, T: Component> WriteStorage<'a, T> {
     }
 
     /// Whether no index has a component.
-    #[inline]
+    #[inline(always)]
     pub fn is_empty(&self) -> bool
         ensures { IsTrue result ↔ ((slot self.now).map ≡ map.empty) }
     {
@@ -219,7 +219,7 @@ impl<'a, T: Component> WriteStorage<'a, T> {
     }
 
     /// The entities.
-    #[inline]
+    #[inline(always)]
     pub fn fetched_entities(&self) -> &EntitiesRes
         ensures { result.now ≡ entities_of self.now }
     {
@@ -227,7 +227,7 @@ impl<'a, T: Component> WriteStorage<'a, T> {
     }
 
     /// The storage without the entities.
-    #[inline]
+    #[inline(always)]
     pub fn masked_mut(&mut self) -> &mut MaskedStorage<T>
         ensures* lends { sem 𝓛 (lends_masked T.row T.Storage.row T.Storage.meaning T.Storage.IsDefault self.entry result) }
         ensures slot { result.now ≡ slot self.old }
@@ -237,7 +237,7 @@ impl<'a, T: Component> WriteStorage<'a, T> {
 
     /// The storage without the entities, if the entity is alive: its `entry` then has the component of the entity's
     /// index.
-    #[inline]
+    #[inline(always)]
     pub fn live(&mut self, entity: Entity) -> Result<&mut MaskedStorage<T>, WrongGeneration>
         ensures* lends { sem 𝓛 (lends_live T.row T.Storage.row T.Storage.meaning T.Storage.IsDefault self.entry result) }
         ensures alive { is_ok result ≡ is_alive (population (entities_of self.old)) entity }

@@ -1,5 +1,5 @@
 //! Values without gaps, with a table from ids to places and one back.
-ghost use Rattle.std.specs.Prelude.{◌≡◌, ◌<◌, ◌^◌, ℕ, slice_get, [], Some, OnErr, OnOk, vec_len};
+ghost use Rattle.std.specs.Prelude.{◌≡◌, ◌<◌, ◌^◌, ℕ, slice_get, [], Some, OnErr, OnOk, IfSome, vec_len};
 ghost use Rattle.storages.specs.Dense.{IsConsistent, value_of};
 
 use crate::slices::SliceAccess;
@@ -14,7 +14,7 @@ pub struct DenseVecStorage<T> {
     // the id of each value
     ids: Vec<u32>,
     // the place of each id that has a value, and anything at the others
-    places: Vec<usize>,
+    places: Vec<u32>,
     ghost consistent: { IsConsistent (vec_len values) ids.items places.items },
 }
 
@@ -45,17 +45,20 @@ impl<T: Drop> UnprotectedStorage<T> for DenseVecStorage<T> {
     #[inline(always)]
     fn get(&self, id: Index) -> &T {
         let place = self.places[id as usize];
-        &self.values[place]
+        &self.values[place as usize]
     }
 
     #[inline(always)]
     fn get_mut(&mut self, id: Index) -> Result<&mut T, AllocError> {
         let place = self.places[id as usize];
-        Ok(&mut self.values[place])
+        Ok(&mut self.values[place as usize])
     }
 
-    #[inline]
+    #[inline(always)]
     fn insert(&mut self, id: Index, value: T) -> Result<(), (AllocError, T)> {
+        let Some(place) = next_place(&self.values) else {
+            return Err((AllocError, value));
+        };
         if self.values.reserve(1).is_err() || self.ids.reserve(1).is_err() {
             return Err((AllocError, value));
         }
@@ -64,7 +67,7 @@ impl<T: Drop> UnprotectedStorage<T> for DenseVecStorage<T> {
             Ok(()) => {}
             Err(e) => return Err((e, value)),
         }
-        self.places[index] = self.values.len();
+        self.places[index] = place;
         match self.ids.push(id) {
             Ok(()) => {}
             Err(_) => unreachable!(),
@@ -76,16 +79,16 @@ impl<T: Drop> UnprotectedStorage<T> for DenseVecStorage<T> {
         Ok(())
     }
 
-    #[inline]
+    #[inline(always)]
     fn remove(&mut self, id: Index) -> Result<T, AllocError> {
         let place = self.places[id as usize];
         let last = self.ids[self.ids.len() - 1];
         self.places[last as usize] = place;
-        self.ids.swap_remove(place);
-        Ok(self.values.swap_remove(place))
+        self.ids.swap_remove(place as usize);
+        Ok(self.values.swap_remove(place as usize))
     }
 
-    #[inline]
+    #[inline(always)]
     fn drop(&mut self, id: Index) {
         match self.remove(id) {
             Ok(_) => {}
@@ -111,14 +114,22 @@ impl<T: Drop> SliceAccess<T> for DenseVecStorage<T> {
 
     ghost IsSlice = { λ at _ xs. IsArrangement at xs };
 
-    #[inline]
+    #[inline(always)]
     fn as_slice(&self) -> &[T] {
         &self.values
     }
 }
 
+// The place of the value that is pushed next. There is always one, since each value has an index of its own.
+#[inline(always)]
+fn next_place<T>(values: &Vec<T>) -> Option<u32>
+    ensures { IfSome result (λ place. place ≡ vec_len values.now) }
+{
+    u32::try_from(values.len()).ok()
+}
+
 // Makes the table reach a place, and changes no place that it has.
-fn reach(places: &mut Vec<usize>, index: usize) -> Result<(), AllocError>
+fn reach(places: &mut Vec<u32>, index: usize) -> Result<(), AllocError>
     requires { index < 2 ^ 32 }
     ensures ok { OnOk result (index < vec_len places.new) }
     ensures keeps { (q k : ℕ) → slice_get places.old.items q ≡ Some k → slice_get places.new.items q ≡ Some k }

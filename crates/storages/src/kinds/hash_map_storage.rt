@@ -52,7 +52,7 @@ impl<T: Drop> UnprotectedStorage<T> for HashMapStorage<T> {
         }
     }
 
-    #[inline]
+    #[inline(always)]
     fn insert(&mut self, id: Index, value: T) -> Result<(), (AllocError, T)> {
         match self.map.insert(id, value) {
             Ok(_) => Ok(()),
@@ -63,7 +63,7 @@ impl<T: Drop> UnprotectedStorage<T> for HashMapStorage<T> {
         }
     }
 
-    #[inline]
+    #[inline(always)]
     fn remove(&mut self, id: Index) -> Result<T, AllocError> {
         match self.map.remove(&id) {
             Some(value) => Ok(value),
@@ -71,7 +71,7 @@ impl<T: Drop> UnprotectedStorage<T> for HashMapStorage<T> {
         }
     }
 
-    #[inline]
+    #[inline(always)]
     fn drop(&mut self, id: Index) {
         let _ = self.map.remove(&id);
     }

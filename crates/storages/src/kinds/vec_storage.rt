@@ -52,7 +52,7 @@ impl<T: Drop> UnprotectedStorage<T> for VecStorage<T> {
         }
     }
 
-    #[inline]
+    #[inline(always)]
     fn insert(&mut self, id: Index, value: T) -> Result<(), (AllocError, T)> {
         let place = id as usize;
         if self.items.len() <= place {
@@ -65,7 +65,7 @@ impl<T: Drop> UnprotectedStorage<T> for VecStorage<T> {
         Ok(())
     }
 
-    #[inline]
+    #[inline(always)]
     fn remove(&mut self, id: Index) -> Result<T, AllocError> {
         match self.items[id as usize].take() {
             Some(value) => Ok(value),
@@ -73,7 +73,7 @@ impl<T: Drop> UnprotectedStorage<T> for VecStorage<T> {
         }
     }
 
-    #[inline]
+    #[inline(always)]
     fn drop(&mut self, id: Index) {
         self.items[id as usize] = None;
     }
@@ -96,7 +96,7 @@ impl<T: Drop> SliceAccess<T> for VecStorage<T> {
 
     ghost IsSlice = { λ at extent xs. IsOptionSlice at extent xs };
 
-    #[inline]
+    #[inline(always)]
     fn as_slice(&self) -> &[Option<T>] {
         &self.items
     }
