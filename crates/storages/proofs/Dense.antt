@@ -9,7 +9,7 @@ use Rattle.std.proofs.lemmas.Bool.{false≢true}
 use Rattle.std.proofs.lemmas.Option.{gets, get_or_from_slice_get, slice_get_within, slice_get-get_or}
 use Rattle.storages.specs.Dense.{has_there, value_there, value_of, IsConsistent, meaning_of}
 use Rattle.storages.specs.Meaning.{Puts, Frees, Shows}
-use Rattle.storages.specs.Slices.{IsArrangement}
+use Rattle.storages.specs.Slices.{Arranges}
 use Rattle.storages.specs.declared.event.ComponentEvent.TheVariants.{Inserted}
 
 -- what a list has at a place, after a push, a write and a cut
@@ -34,16 +34,16 @@ get-swap_remove_other xs i d k l e h b n = grind (arith, common_steps, gets)
 pub get-swap_remove_past : {X : Type 0} (xs : List X) (i : ℕ) (d : X) (k l : ℕ) → length xs ≡ l + 1 → i < length xs → l ≤ k → slice_get (swap_remove xs i d) k ≡ None
 get-swap_remove_past xs i d k l e h b = grind (arith, common_steps, gets)
 
-some_inj : {X : Type 0} (o : Option X) (x y : X) → o ≡ Some x → o ≡ Some y → x ≡ y
+pub some_inj : {X : Type 0} (o : Option X) (x y : X) → o ≡ Some x → o ≡ Some y → x ≡ y
 some_inj o x y p q = cc
 
 not_both : {X : Type 0} (o : Option X) (x : X) → o ≡ Some x → o ≡ None → ⊥
 not_both o x p q = cc
 
-itself : (a : ℕ) → nat_eq a a ≡ true
+pub itself : (a : ℕ) → nat_eq a a ≡ true
 itself a = grind (arith, nat_tests)
 
-same_id : (a b : ℕ) → nat_eq a b ≡ true → a ≡ b
+pub same_id : (a b : ℕ) → nat_eq a b ≡ true → a ≡ b
 same_id a b h = grind (arith, nat_tests)
 
 other_id : (a b : ℕ) → nat_eq a b ≡ false → a ≡ b → ⊥
@@ -337,7 +337,7 @@ some_within [] k h = absurd (omega arith)
 some_within (x ∷ xs) zero h = refl
 some_within (x ∷ xs) (suc k) h = some_within xs k (omega arith)
 
-none_not_some : {X : Type 0} (o : Option X) → is_none o ≡ true → is_some o ≡ true → ⊥
+pub none_not_some : {X : Type 0} (o : Option X) → is_none o ≡ true → is_some o ≡ true → ⊥
 none_not_some None h k = false≢true k
 none_not_some (Some x) h k = false≢true h
 
@@ -350,10 +350,9 @@ module _ (n : ℕ) (ids places : List ℕ) (C : IsConsistent n ids places) {T : 
     each_at k i e (Some x) p = sym (h.present i (ap is_some p)) ∙ value-present n ids places C values k i e
     each_at k i e None p = absurd (none_not_some (value_of values ids places i) (h.absent i p) (placed_some k i e))
 
-    -- the values are an arrangement of the map's
-    pub arrangement : IsArrangement at values
+    -- the ids arrange the map's values
+    pub arrangement : Arranges at ids values
     arrangement = record {
-      indices = ids;
       lengths = C.lengths ∙ sym len;
       each = λ k i e. each_at k i e (at i) refl;
       all = λ i some. at_of_value n ids places C values len i (ap is_some (h.present i some) ∙ some);

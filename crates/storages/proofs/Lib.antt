@@ -4,3 +4,4 @@ pub mod Slot
 pub mod Dense
 pub mod Removals
 pub mod Null
+pub mod SliceLends

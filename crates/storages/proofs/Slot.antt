@@ -41,6 +41,10 @@ same_any p r e (x ∷ xs) = rw (e x, same_any p r e xs)
 in_items : (s : set.FinSet nat_cmp) (q : ℕ) → list_any (λ y. nat_eq y q) (set.items s) ≡ set.contains s q
 in_items s q = same_any _ _ (λ y. turned y q ∙ sym (unsigned_tied q y)) (set.items s) ∙ sym (set.contains-items s q)
 
+-- the keys of a map
+pub in_keys : {T : Type 0} (m : map.FinMap nat_cmp T) (q : ℕ) → list_any (λ y. nat_eq y q) (map.keys m) ≡ map.contains_key m q
+in_keys m q = same_any _ _ (λ y. turned y q ∙ sym (unsigned_tied q y)) (map.keys m) ∙ sym (map.contains_key-keys m q)
+
 -- the mask after `add`
 pub contains-added : (s : set.FinSet nat_cmp) (id q : ℕ) → set.contains (set.insert s id) q ≡ (nat_eq id q || set.contains s q)
 contains-added s id q = set.contains-insert nat_cmp_total s id q ∙ ap (λ b. b || set.contains s q) (unsigned_tied q id ∙ turned q id)
@@ -91,7 +95,7 @@ module _ {T : Type 0} where
   none_there i q at true n e = ap at (sym (same_id i q e)) ∙ n
   none_there i q at false n e = refl
 
-  get-list : (ids : List ℕ) (at : ℕ → Option T) (q : ℕ) → map.get (map_of ids at) q ≡ cond (list_any (λ y. nat_eq y q) ids) (at q) None
+  pub get-list : (ids : List ℕ) (at : ℕ → Option T) (q : ℕ) → map.get (map_of ids at) q ≡ cond (list_any (λ y. nat_eq y q) ids) (at q) None
   get-list [] at q = map.get-empty nat_cmp q
   get-list (i ∷ is) at q =
       get-with_option (map_of is at) i q (at i) (cond (list_any (λ y. nat_eq y q) is) (at q) None) (get-list is at q) (λ n e. none_there i q at _ n e)

@@ -6,7 +6,7 @@ ghost use Rattle.storages.specs.Limit.{IsIndex};
 ghost use Rattle.storages.specs.Meaning.{HasRoom};
 ghost use Rattle.storages.specs.WriteView.{slot, found};
 
-use crate::components::{InDense, InVec};
+use crate::components::{InDefaultVec, InDense, InVec};
 use entities::Entity;
 use storages::{MaskedStorage, NotLent, StorageEntry, WriteStorage};
 
@@ -64,4 +64,19 @@ pub fn entry_or_seven(masked: &mut MaskedStorage<InVec>, id: u32) -> bool
         }
         Err(_) => false,
     }
+}
+
+/// Twice the number at each index.
+pub fn double_all(masked: &mut MaskedStorage<InDense>) {
+    for value in masked.as_mut_slice() {
+        value.0 = value.0.wrapping_mul(2);
+    }
+}
+
+/// Seven at an index that has a component, through the slice.
+pub fn seven_at_place(masked: &mut MaskedStorage<InDefaultVec>, id: u32)
+    requires { IsSome (map.get masked.old.map id) }
+    ensures { map.get masked.new.map id ≡ Some (record { 0 = 7 }) }
+{
+    masked.as_mut_slice()[id as usize] = InDefaultVec(7);
 }
