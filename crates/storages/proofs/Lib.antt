@@ -5,3 +5,4 @@ pub mod Dense
 pub mod Removals
 pub mod Null
 pub mod SliceLends
+pub mod Indices

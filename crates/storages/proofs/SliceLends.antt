@@ -16,7 +16,8 @@ use Rattle.storages.specs.Slot.{Slot, slot_of}
 use Rattle.storages.specs.Slices.{item_beside}
 use Rattle.storages.specs.SliceLends.{left_as, with_slice, Rewrites}
 use Rattle.storages.proofs.Slot.{in_keys, get-list, get-slot, get-present, absent_of_none, there_of_some, contains-slot, same_map}
-use Rattle.storages.proofs.Dense.{IsAt, found, one_place, value-present, value-absent, at_of_value, placed_some, none_not_some, some_inj, itself, same_id}
+use Rattle.storages.proofs.Dense.{IsAt, found, one_place, value-present, value-absent, at_of_value, placed_some, none_not_some, some_inj}
+use Rattle.storages.proofs.Indices.{itself, same_id}
 
 -- a dense table is consistent in one way
 pub IsConsistent-prop : (n : ℕ) (ids places : List ℕ) (a b : IsConsistent n ids places) → a ≡ b

@@ -1,10 +1,12 @@
 //! What an ordinary caller learns where a component was lent to it, without a proof file.
-ghost use Rattle.std.specs.Prelude.{◌≡◌, Some, None, true, IsSome, IsOk, OnOk, IfOk, is_some};
+ghost use Rattle.std.specs.Prelude.{◌≡◌, ℕ, Some, None, true, IsSome, IsOk, OnOk, IfOk, is_some};
 ghost use Rattle.std.specs.FinMap as map;
+ghost use Rattle.std.specs.Option.{option_map};
 ghost use Rattle.entities.specs.Population.{index_of};
 ghost use Rattle.storages.specs.Limit.{IsIndex};
 ghost use Rattle.storages.specs.Meaning.{HasRoom};
 ghost use Rattle.storages.specs.WriteView.{slot, found};
+ghost use Rattle.storages_tests.specs.Doubled.{doubled, all_doubled};
 
 use crate::components::{InDefaultVec, InDense, InVec};
 use entities::Entity;
@@ -66,10 +68,20 @@ pub fn entry_or_seven(masked: &mut MaskedStorage<InVec>, id: u32) -> bool
     }
 }
 
-/// Twice the number at each index.
-pub fn double_all(masked: &mut MaskedStorage<InDense>) {
-    for value in masked.as_mut_slice() {
-        value.0 = value.0.wrapping_mul(2);
+/// Twice the number at each index, past the greatest from 0 on.
+pub fn double_all(masked: &mut MaskedStorage<InDense>)
+    ensures { (q : ℕ) → map.get masked.new.map q ≡ option_map doubled (map.get masked.old.map q) }
+{
+    double_each(masked.as_mut_slice());
+}
+
+// Doubles each number.
+fn double_each(values: &mut [InDense])
+    ensures { values.new ≡ all_doubled values.old }
+{
+    for i in 0..values.len() {
+        let number = values[i].0;
+        values[i] = InDense(number.wrapping_add(number));
     }
 }
 
