@@ -8,9 +8,11 @@ use Rattle.std.proofs.lemmas.Bool.Decides.{nat_tests}
 use Rattle.std.proofs.lemmas.Bool.{false≢true}
 use Rattle.std.proofs.lemmas.Option.{gets, get_or_from_slice_get, slice_get_within, slice_get-get_or}
 use Rattle.storages.specs.Dense.{has_there, value_there, value_of, IsConsistent, meaning_of}
-use Rattle.storages.specs.Meaning.{Puts, Frees, Shows}
-use Rattle.storages.specs.Slices.{IsArrangement}
-use Rattle.storages.specs.declared.event.ComponentEvent.TheVariants.{Inserted}
+use Rattle.storages.specs.Meaning.{Touches, Puts, Frees, Shows, extent_after}
+use Rattle.storages.specs.Slices.{Arranges}
+use Rattle.storages.specs.declared.event.ComponentEvent.{ComponentEvent}
+use Rattle.storages.specs.declared.event.ComponentEvent.TheVariants.{Inserted, Removed}
+use Rattle.storages.proofs.Indices.{itself, same_id, same_or}
 
 -- what a list has at a place, after a push, a write and a cut
 pub get-push_last : {X : Type 0} (xs : List X) (x : X) → slice_get (xs ++ x ∷ []) (length xs) ≡ Some x
@@ -34,23 +36,11 @@ get-swap_remove_other xs i d k l e h b n = grind (arith, common_steps, gets)
 pub get-swap_remove_past : {X : Type 0} (xs : List X) (i : ℕ) (d : X) (k l : ℕ) → length xs ≡ l + 1 → i < length xs → l ≤ k → slice_get (swap_remove xs i d) k ≡ None
 get-swap_remove_past xs i d k l e h b = grind (arith, common_steps, gets)
 
-some_inj : {X : Type 0} (o : Option X) (x y : X) → o ≡ Some x → o ≡ Some y → x ≡ y
+pub some_inj : {X : Type 0} (o : Option X) (x y : X) → o ≡ Some x → o ≡ Some y → x ≡ y
 some_inj o x y p q = cc
 
 not_both : {X : Type 0} (o : Option X) (x : X) → o ≡ Some x → o ≡ None → ⊥
 not_both o x p q = cc
-
-itself : (a : ℕ) → nat_eq a a ≡ true
-itself a = grind (arith, nat_tests)
-
-same_id : (a b : ℕ) → nat_eq a b ≡ true → a ≡ b
-same_id a b h = grind (arith, nat_tests)
-
-other_id : (a b : ℕ) → nat_eq a b ≡ false → a ≡ b → ⊥
-other_id a b h e = grind (arith, nat_tests)
-
-same_or : (a b : ℕ) → (a ≡ b) ⊎ (a ≢ b)
-same_or a b = elim (nat_eq a b) as (λ r. nat_eq a b ≡ r → (a ≡ b) ⊎ (a ≢ b)) [ true ↦ λ h. inl (same_id a b h) | false ↦ λ h. inr (other_id a b h) ] refl
 
 -- an id stands at one place at most
 pub one_place : (n : ℕ) (ids places : List ℕ) → IsConsistent n ids places → (j k i : ℕ) → slice_get ids j ≡ Some i → slice_get ids k ≡ Some i → j ≡ k
@@ -103,8 +93,17 @@ module _ (n : ℕ) (ids places : List ℕ) (C : IsConsistent n ids places) where
       | inr m ↦ absurd (false≢true (sym (ap is_some (value-absent q m)) ∙ h))
     ]
 
-none_cannot : {X : Type 0} (x : X) → None ≡ Some x → ⊥
-none_cannot x p = cc
+-- a call that changes the value of one id alone
+touches-one : {T : Type 0} (values values' : List T) (ids ids' places places' : List ℕ) (id : ℕ) (e : ComponentEvent) → None ≡ extent_after e None
+    → ((q : ℕ) → q ≢ id → value_of values' ids' places' q ≡ value_of values ids places q) → Touches (meaning_of values ids places) (meaning_of values' ids' places') id e
+touches-one values values' ids ids' places places' id e extent others = record {
+  others = λ q ne _. others q ne;
+  free = λ q ne f. ap is_none (others q ne) ∙ f;
+  extent = extent;
+  channel = refl;
+  needs_room = refl;
+  room = λ k h. tt;
+}
 
 -- after an insertion
 module _ (n : ℕ) (ids places places' : List ℕ) (C : IsConsistent n ids places) (id : ℕ) (absent : IsAt ids id → ⊥) (there : slice_get places' id ≡ Some n)
@@ -153,14 +152,7 @@ module _ (n : ℕ) (ids places places' : List ℕ) (C : IsConsistent n ids place
 
     pub puts-pushed : Puts (meaning_of values ids places) (meaning_of (values ++ x ∷ []) (ids ++ id ∷ []) places') id x (Inserted id)
     puts-pushed = record {
-      touches = record {
-        others = λ q ne _. other_pushed q ne (found n ids places C q);
-        free = λ q ne f. ap is_none (other_pushed q ne (found n ids places C q)) ∙ f;
-        extent = refl;
-        channel = refl;
-        needs_room = refl;
-        room = λ k h. tt;
-      };
+      touches = touches-one values (values ++ x ∷ []) ids (ids ++ id ∷ []) places places' id (Inserted id) refl (λ q ne. other_pushed q ne (found n ids places C q));
       put = put-pushed;
     }
 
@@ -249,14 +241,7 @@ module _ (n l : ℕ) (ids places : List ℕ) (C : IsConsistent n ids places) (id
 
     pub frees-removed : Frees (meaning_of values ids places) (meaning_of (swap_remove values p x) (swap_remove ids p d) (slice_set places last p)) id
     frees-removed = record {
-      touches = record {
-        others = λ q ne _. other_removed q ne (found n ids places C q);
-        free = λ q ne f. ap is_none (other_removed q ne (found n ids places C q)) ∙ f;
-        extent = refl;
-        channel = refl;
-        needs_room = refl;
-        room = λ k h. tt;
-      };
+      touches = touches-one values (swap_remove values p x) ids (swap_remove ids p d) places (slice_set places last p) id (Removed id) refl (λ q ne. other_removed q ne (found n ids places C q));
       freed = ap is_none freed-removed;
     }
 
@@ -337,7 +322,7 @@ some_within [] k h = absurd (omega arith)
 some_within (x ∷ xs) zero h = refl
 some_within (x ∷ xs) (suc k) h = some_within xs k (omega arith)
 
-none_not_some : {X : Type 0} (o : Option X) → is_none o ≡ true → is_some o ≡ true → ⊥
+pub none_not_some : {X : Type 0} (o : Option X) → is_none o ≡ true → is_some o ≡ true → ⊥
 none_not_some None h k = false≢true k
 none_not_some (Some x) h k = false≢true h
 
@@ -350,10 +335,9 @@ module _ (n : ℕ) (ids places : List ℕ) (C : IsConsistent n ids places) {T : 
     each_at k i e (Some x) p = sym (h.present i (ap is_some p)) ∙ value-present n ids places C values k i e
     each_at k i e None p = absurd (none_not_some (value_of values ids places i) (h.absent i p) (placed_some k i e))
 
-    -- the values are an arrangement of the map's
-    pub arrangement : IsArrangement at values
+    -- the ids arrange the map's values
+    pub arrangement : Arranges at ids values
     arrangement = record {
-      indices = ids;
       lengths = C.lengths ∙ sym len;
       each = λ k i e. each_at k i e (at i) refl;
       all = λ i some. at_of_value n ids places C values len i (ap is_some (h.present i some) ∙ some);

@@ -4,3 +4,5 @@ pub mod Slot
 pub mod Dense
 pub mod Removals
 pub mod Null
+pub mod SliceLends
+pub mod Indices

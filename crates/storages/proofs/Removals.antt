@@ -12,7 +12,8 @@ use Rattle.storages.specs.Channel.{Channel, emitted, emitted_removals}
 use Rattle.storages.specs.Meaning.{HasRoom}
 use Rattle.storages.specs.Slot.{Slot, Becomes}
 use Rattle.storages.specs.Removals.{lost, without_one}
-use Rattle.storages.proofs.Slot.{get-remove, same_id}
+use Rattle.storages.proofs.Indices.{same_id}
+use Rattle.storages.proofs.Slot.{get-remove}
 
 channel_by : (b : Bool) (i : ℕ) (is : List ℕ) (c : Channel) → c.emission ≡ b → emitted_removals is (emitted (Removed i) c) ≡ emitted_removals (i ∷ is) c
 channel_by true i is c e = rw e refl

@@ -1,9 +1,8 @@
 -- On a storage with its mask.
-use Rattle.std.proofs.Common.{◌≡◌, ◌≢◌, ℕ, Bool, true, false, nat_eq, cond, List, [], ◌∷◌, refl, ap, sym, ◌∙◌, arith, ◌||◌, Some, None, IsTrue, is_some, not, ◌&&◌, subst}
+use Rattle.std.proofs.Common.{◌≡◌, ◌≢◌, ℕ, Bool, true, false, nat_eq, cond, List, [], ◌∷◌, refl, ap, sym, ◌∙◌, ◌||◌, Some, None, IsTrue, is_some, not, ◌&&◌, subst}
 use Rattle.std.specs.Prelude.{Option, Result, Ok, Err, IfOk, length}
 use Rattle.std.specs.Borrow.{MutBor}
 use Rattle.std.proofs.lemmas.Bool.{false≢true}
-use Rattle.std.proofs.lemmas.Bool.Decides.{nat_tests}
 use Rattle.std.specs.List.{list_any}
 use Rattle.std.specs.Ordering.{nat_cmp}
 use Rattle.std.specs.Cmp.{nat_cmp_total, unsigned_tied}
@@ -16,22 +15,11 @@ use Rattle.storages.specs.Meaning.{Meaning, HasRoom, Masks, Puts, Frees, Keeps, 
 use Rattle.storages.specs.Lending.{SlotWrites, SlotRefuses}
 use Rattle.storages.specs.Slot.{Slot, map_of, with_option, slot_of, indices_of, IsSame, Becomes, Inserts, Clears, SameKeys}
 use Rattle.hibits.specs.Left.{left}
-
-turned : (a b : ℕ) → nat_eq a b ≡ nat_eq b a
-turned a b = grind (arith, nat_tests)
-
-itself : (a : ℕ) → nat_eq a a ≡ true
-itself a = grind (arith, nat_tests)
+use Rattle.storages.proofs.Indices.{turned, itself, same_id, other_id}
 
 over : {X : Type 0} (b : Bool) (x y z : X) → cond b y (cond b x z) ≡ cond b y z
 over true x y z = refl
 over false x y z = refl
-
-pub same_id : (a b : ℕ) → nat_eq a b ≡ true → a ≡ b
-same_id a b h = grind (arith, nat_tests)
-
-pub other_id : (a b : ℕ) → nat_eq a b ≡ false → b ≢ a
-other_id a b h e = grind (arith, nat_tests)
 
 -- ---- the mask
 same_any : (p r : ℕ → Bool) → ((x : ℕ) → p x ≡ r x) → (xs : List ℕ) → list_any p xs ≡ list_any r xs
@@ -40,6 +28,10 @@ same_any p r e (x ∷ xs) = rw (e x, same_any p r e xs)
 
 in_items : (s : set.FinSet nat_cmp) (q : ℕ) → list_any (λ y. nat_eq y q) (set.items s) ≡ set.contains s q
 in_items s q = same_any _ _ (λ y. turned y q ∙ sym (unsigned_tied q y)) (set.items s) ∙ sym (set.contains-items s q)
+
+-- the keys of a map
+pub in_keys : {T : Type 0} (m : map.FinMap nat_cmp T) (q : ℕ) → list_any (λ y. nat_eq y q) (map.keys m) ≡ map.contains_key m q
+in_keys m q = same_any _ _ (λ y. turned y q ∙ sym (unsigned_tied q y)) (map.keys m) ∙ sym (map.contains_key-keys m q)
 
 -- the mask after `add`
 pub contains-added : (s : set.FinSet nat_cmp) (id q : ℕ) → set.contains (set.insert s id) q ≡ (nat_eq id q || set.contains s q)
@@ -91,7 +83,7 @@ module _ {T : Type 0} where
   none_there i q at true n e = ap at (sym (same_id i q e)) ∙ n
   none_there i q at false n e = refl
 
-  get-list : (ids : List ℕ) (at : ℕ → Option T) (q : ℕ) → map.get (map_of ids at) q ≡ cond (list_any (λ y. nat_eq y q) ids) (at q) None
+  pub get-list : (ids : List ℕ) (at : ℕ → Option T) (q : ℕ) → map.get (map_of ids at) q ≡ cond (list_any (λ y. nat_eq y q) ids) (at q) None
   get-list [] at q = map.get-empty nat_cmp q
   get-list (i ∷ is) at q =
       get-with_option (map_of is at) i q (at i) (cond (list_any (λ y. nat_eq y q) is) (at q) None) (get-list is at q) (λ n e. none_there i q at _ n e)

@@ -19,7 +19,7 @@ module _ {T : Type 0} where
   value_of values ids places q = value_there values ids q (slice_get places q)
 
   abbrev pub meaning_of : List T → List ℕ → List ℕ → Meaning T
-  meaning_of values ids places = record { at = value_of values ids places; is_free = λ q. is_none (value_of values ids places q); extent = None; channel = silent; room = None }
+  meaning_of values ids places = record { at = value_of values ids places; is_free = λ q. is_none (value_of values ids places q); extent = None; order = ids; channel = silent; room = None }
 
 -- each value has an id, and the place of that id is the value's
 pub record IsConsistent (n : ℕ) (ids places : List ℕ) : Type 0 where

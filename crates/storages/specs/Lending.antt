@@ -1,10 +1,11 @@
 -- What a storage with its mask ends as, where a `&mut` to a component is returned.
-use Rattle.std.specs.Prelude.{ℕ, Result, IsOk, OnErr}
+use Rattle.std.specs.Prelude.{ℕ, List, Option, Result, IsOk, OnErr}
 use Rattle.std.specs.FinMap as map
-use Rattle.std.specs.Borrow.{RattleType, MutBor, Fml, follows_so, name_if_ok, LendsSoOk}
+use Rattle.std.specs.Borrow.{RattleType, MutBor, Fml, Array, Lends, follows_so, name_if_ok, LendsSoOk}
 use Rattle.storages.specs.declared.event.ComponentEvent.TheVariants.{Modified}
 use Rattle.storages.specs.Meaning.{Meaning}
 use Rattle.storages.specs.Slot.{Slot, SameKeys, IsSame, Becomes, Inserts, Fills}
+use Rattle.storages.specs.SliceLends.{with_slice, left_as}
 use Rattle.storages.specs.contracts.masked.MaskedStorage.{the_row}
 
 -- what the slot is after a write of x through the reference that the call answered, if it did
@@ -38,3 +39,9 @@ module _ (T S : RattleType) (meaning : S.Denot → Meaning T.Denot) (IsDefault :
       LendsSoOk (the_row T S (record { meaning = meaning }) (record { IsDefault = IsDefault })) T s r
       (λ n x. Fills s.now n id x)
       (λ n. IsSame s.now n)
+
+-- once the borrow r ends, each index that has a component has what was left at its place, and nothing else changed
+abbrev pub lends_slice : (T S : RattleType) (meaning : S.Denot → Meaning T.Denot) (IsDefault : S.Denot → Type 0) (item_at : List ℕ → List T.Denot → ℕ → Option T.Denot)
+    → MutBor (Slot T.Denot) → MutBor (List T.Denot) → Fml
+lends_slice T S meaning IsDefault item_at s r =
+    Lends (the_row T S (record { meaning = meaning }) (record { IsDefault = IsDefault })) (Array T 0) s r (λ xs. with_slice item_at s.now (left_as r.now xs))

@@ -6,6 +6,7 @@ pub mod Dense
 pub mod DefaultVec
 pub mod Maps
 pub mod Null
+pub mod SliceLends
 pub mod Slices
 pub mod Slot
 pub mod Removals

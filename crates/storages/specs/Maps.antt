@@ -1,5 +1,5 @@
 -- What a map from indices to values means.
-use Rattle.std.specs.Prelude.{ℕ, Option, None, List, is_none, nat_eq, refl}
+use Rattle.std.specs.Prelude.{ℕ, Option, None, List, [], is_none, nat_eq, refl}
 use Rattle.std.proofs.Common.{ap}
 use Rattle.std.specs.Ordering.{nat_cmp}
 use Rattle.std.specs.HashMap as hash
@@ -11,7 +11,7 @@ use Rattle.storages.specs.Meaning.{Meaning, IsNew}
 module _ {T : Type 0} where
   -- a map as the function that finds the value at an index
   abbrev pub meaning_by : (ℕ → Option T) → Meaning T
-  meaning_by get = record { at = get; is_free = λ q. is_none (get q); extent = None; channel = silent; room = None }
+  meaning_by get = record { at = get; is_free = λ q. is_none (get q); extent = None; order = []; channel = silent; room = None }
 
   abbrev pub meaning_of_hash : {S : Type 0} → hash.HashMap ℕ T S → Meaning T
   meaning_of_hash m = meaning_by (hash.get nat_eq m)

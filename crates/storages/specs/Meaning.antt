@@ -9,11 +9,13 @@ use Rattle.storages.specs.Channel.{Channel, emitted, emitted_removals}
 
 -- What a storage is to its callers. `at` is what `get` shows at each index, and `is_free` tells where a value may be
 -- inserted. `extent` is the length of a slice that has each value at the place of its index, and `None` where there is
--- no such slice. `room` is for how many events there is room, and `None` where no event needs any.
+-- no such slice. `order` has the index of each place of a slice without gaps, and is
+-- empty where there is no such slice. `room` is for how many events there is room, and `None` where no event needs any.
 pub record Meaning (T : Type 0) : Type 0 where
   pub at : ℕ → Option T
   pub is_free : ℕ → Bool
   pub extent : Option ℕ
+  pub order : List ℕ
   pub channel : Channel
   pub room : Option ℕ
 

@@ -12,10 +12,11 @@ use Rattle.storages.specs.Channel.{Channel, emitted, emitted_removals}
 use Rattle.storages.specs.Meaning.{Meaning, HasRoom, extent_after, extent_cleared}
 
 -- the component at each index that has one, the length of a slice that has each component at the place of its index,
--- the channel, and for how many events there is room
+-- the index of each place of a slice without gaps, the channel, and for how many events there is room
 pub record Slot (T : Type 0) : Type 0 where
   pub map : map.FinMap nat_cmp T
   pub extent : Option ℕ
+  pub order : List ℕ
   pub channel : Channel
   pub room : Option ℕ
 
@@ -33,10 +34,10 @@ channel_code =
 abbrev pub slot_code : {T : Type 0} → Coded T → Coded (Slot T)
 slot_code {T} code =
     code_by
-    (map.FinMap nat_cmp T × (Option ℕ × (Channel × Option ℕ)))
-    (coded× (map.code coded_ℕ code) (coded× (coded_option coded_ℕ) (coded× channel_code (coded_option coded_ℕ))))
-    (λ s. (s.map, (s.extent, (s.channel, s.room))))
-    (λ p. record { map = p.0; extent = p.1.0; channel = p.1.1.0; room = p.1.1.1 })
+    (map.FinMap nat_cmp T × (Option ℕ × (List ℕ × (Channel × Option ℕ))))
+    (coded× (map.code coded_ℕ code) (coded× (coded_option coded_ℕ) (coded× (coded_list coded_ℕ) (coded× channel_code (coded_option coded_ℕ)))))
+    (λ s. (s.map, (s.extent, (s.order, (s.channel, s.room)))))
+    (λ p. record { map = p.0; extent = p.1.0; order = p.1.1.0; channel = p.1.1.1.0; room = p.1.1.1.1 })
     (λ _. refl)
 
 module _ {T : Type 0} where
@@ -52,7 +53,7 @@ module _ {T : Type 0} where
 
   -- the slot of a mask and a storage
   abbrev pub slot_of : set.FinSet nat_cmp → Meaning T → Slot T
-  slot_of mask m = record { map = map_of (set.items mask) m.at; extent = m.extent; channel = m.channel; room = m.room }
+  slot_of mask m = record { map = map_of (set.items mask) m.at; extent = m.extent; order = m.order; channel = m.channel; room = m.room }
 
   -- the indices that have a component, ascending
   abbrev pub indices_of : Slot T → List ℕ

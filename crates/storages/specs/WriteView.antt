@@ -1,6 +1,6 @@
 -- What a storage beside the entities means.
 use Rattle.std.specs.Prelude.{OnErr, IsOk, ◌≡◌, ℕ, ℤ, List, Bool, true, false, Option, Result, []}
-use Rattle.std.specs.Borrow.{RattleType, MutBor, GName, Fml, follows_so, name_if_ok, Lends, LendsIfOk}
+use Rattle.std.specs.Borrow.{RattleType, MutBor, GName, Fml, follows_so, name_if_ok, Lends, LendsIfOk, Array}
 use mir.Syntax.{named}
 use Rattle.entities.specs.Census.{Census}
 use Rattle.entities.specs.declared.entity.Entity.{Entity}
@@ -13,6 +13,7 @@ use Rattle.storages.specs.contracts.masked.MaskedStorage as masked
 use Rattle.storages.specs.Meaning.{Meaning}
 use Rattle.storages.specs.Slot.{Slot, IsSame, Fills}
 use Rattle.storages.specs.Lending.{SlotWrites, SlotRefuses}
+use Rattle.storages.specs.SliceLends.{with_slice, left_as}
 use Rattle.storages.specs.Found.{found_in}
 
 module _ {T S : Type 0} where
@@ -89,3 +90,10 @@ module _ (T S : RattleType) (meaning : S.Denot → Meaning T.Denot) (IsDefault :
       follows_so (the_row (record { mir = named 1; lft = [] }) T S (record { meaning = meaning }) (record { IsDefault = IsDefault })) T v.ghost_name (name_if_ok (λ x. x.ghost_name) r)
       (λ x n. ViewFills r v.now n (index_of e) x)
       (λ n. ViewStays r v.now n)
+
+-- once the borrow r ends, each index that has a component has what was left at its place, and nothing else changed
+abbrev pub lends_slice : (T S : RattleType) (meaning : S.Denot → Meaning T.Denot) (IsDefault : S.Denot → Type 0) (item_at : List ℕ → List T.Denot → ℕ → Option T.Denot)
+    → MutBor (WriteStorage T.Denot S.Denot) → MutBor (List T.Denot) → Fml
+lends_slice T S meaning IsDefault item_at v r =
+    Lends (the_row (record { mir = named 1; lft = [] }) T S (record { meaning = meaning }) (record { IsDefault = IsDefault })) (Array T 0) v r
+    (λ xs. with_slot v.now (with_slice item_at (slot v.now) (left_as r.now xs)))

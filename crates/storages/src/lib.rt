@@ -28,6 +28,6 @@ pub use kinds::{
 };
 pub use masked::{MaskedStorage, NotLent, Replaced};
 pub use read_storage::ReadStorage;
-pub use slices::SliceAccess;
+pub use slices::{SliceAccess, SliceAccessMut};
 pub use unprotected::{Component, TryDefault, UnprotectedStorage};
 pub use write_storage::{InsertError, WriteStorage};

@@ -31,7 +31,7 @@ pub enum NotLent {
 #[derive(Drop)]
 pub struct MaskedStorage<T: Component> {
     mask: BitSet,
-    inner: T::Storage,
+    pub(crate) inner: T::Storage,
 }
 
 impl<T: Component> Model for MaskedStorage<T> {
@@ -64,6 +64,7 @@ impl<T: Component> MaskedStorage<T> {
         requires { (q : ℕ) → (T.Storage.meaning inner).is_free q ≡ true }
         ensures map { result.map ≡ map.empty }
         ensures extent { result.extent ≡ (T.Storage.meaning inner).extent }
+        ensures order { result.order ≡ (T.Storage.meaning inner).order }
         ensures channel { result.channel ≡ (T.Storage.meaning inner).channel }
         ensures room { result.room ≡ (T.Storage.meaning inner).room }
     {
@@ -87,6 +88,7 @@ impl<T: Component> MaskedStorage<T> {
         ensures present { (q : ℕ) → IsSome (map.get self.now.map q) → (T.Storage.meaning result.now).at q ≡ map.get self.now.map q }
         ensures absent { (q : ℕ) → map.get self.now.map q ≡ None → (T.Storage.meaning result.now).is_free q ≡ true }
         ensures extent { (T.Storage.meaning result.now).extent ≡ self.now.extent }
+        ensures order { (T.Storage.meaning result.now).order ≡ self.now.order }
         ensures channel { (T.Storage.meaning result.now).channel ≡ self.now.channel }
         ensures room { (T.Storage.meaning result.now).room ≡ self.now.room }
     {

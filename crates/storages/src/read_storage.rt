@@ -100,6 +100,7 @@ impl<'a, T: Component> ReadStorage<'a, T> {
         ensures present { (q : ℕ) → IsSome (map.get (slot self.now).map q) → (T.Storage.meaning result.now).at q ≡ map.get (slot self.now).map q }
         ensures absent { (q : ℕ) → map.get (slot self.now).map q ≡ None → (T.Storage.meaning result.now).is_free q ≡ true }
         ensures extent { (T.Storage.meaning result.now).extent ≡ (slot self.now).extent }
+        ensures order { (T.Storage.meaning result.now).order ≡ (slot self.now).order }
         ensures channel { (T.Storage.meaning result.now).channel ≡ (slot self.now).channel }
         ensures room { (T.Storage.meaning result.now).room ≡ (slot self.now).room }
     {

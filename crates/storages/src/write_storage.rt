@@ -22,7 +22,7 @@ use std::alloc::AllocError;
 use std::mem;
 
 // What a refused insertion was to do.
-const INSERT: &str = "insert component for entity";
+pub(crate) const INSERT: &str = "insert component for entity";
 
 // What a refused entry was to do.
 const ENTRY: &str = "attempting to get an entry to a storage";
@@ -212,6 +212,7 @@ impl<'a, T: Component> WriteStorage<'a, T> {
         ensures present { (q : ℕ) → IsSome (map.get (slot self.now).map q) → (T.Storage.meaning result.now).at q ≡ map.get (slot self.now).map q }
         ensures absent { (q : ℕ) → map.get (slot self.now).map q ≡ None → (T.Storage.meaning result.now).is_free q ≡ true }
         ensures extent { (T.Storage.meaning result.now).extent ≡ (slot self.now).extent }
+        ensures order { (T.Storage.meaning result.now).order ≡ (slot self.now).order }
         ensures channel { (T.Storage.meaning result.now).channel ≡ (slot self.now).channel }
         ensures room { (T.Storage.meaning result.now).room ≡ (slot self.now).room }
     {

@@ -1,6 +1,7 @@
 //! Components of each kind of storage.
 ghost use Rattle.std.specs.Prelude.{◌≡◌, refl};
 
+use std::rc::Rc;
 use storages::{
     BTreeStorage, Component, DefaultVecStorage, DenseVecStorage, HashMapStorage, NullComponent,
     NullStorage, VecStorage,
@@ -38,11 +39,19 @@ pub struct InHash(pub u32);
 #[derive(Clone, Copy, Default)]
 pub struct InBTree(pub u32);
 
+/// A value in a `VecStorage` that several components share.
+#[derive(Drop)]
+pub struct Shared<T>(pub Rc<T>);
+
 /// A component without data.
 #[derive(Clone, Copy, Default)]
 pub struct Flag;
 
 impl Component for InVec {
+    type Storage = VecStorage<Self>;
+}
+
+impl<T: Drop> Component for Shared<T> {
     type Storage = VecStorage<Self>;
 }
 

@@ -1,15 +1,11 @@
-//! Each kind of storage.
-use crate::components::{Flag, InBTree, InDefaultVec, InDense, InHash, InVec, Number};
-use crate::kinds::all_tests;
+//! Each kind of storage, and the dense vector.
+use crate::components::{Flag, InBTree, InDefaultVec, InDense, InHash, InVec};
+use crate::kinds::{all_tests, are, number_at, put, test_clear, test_one};
+use crate::loans::double_all;
 use crate::world::{empty, living};
 use entities::EntitiesRes;
 use std::test::Fail;
 use storages::{AnyStorage, WriteStorage};
-
-#[test]
-fn vec_storage_meets_all(rt: HostRuntime) -> Result<(), Fail> {
-    all_tests::<InVec>(&rt, rt.alloc())
-}
 
 #[test]
 fn dense_vec_storage_meets_all(rt: HostRuntime) -> Result<(), Fail> {
@@ -17,22 +13,20 @@ fn dense_vec_storage_meets_all(rt: HostRuntime) -> Result<(), Fail> {
 }
 
 #[test]
-fn default_vec_storage_meets_all(rt: HostRuntime) -> Result<(), Fail> {
-    all_tests::<InDefaultVec>(&rt, rt.alloc())
+fn one_component_in_each_kind(rt: HostRuntime) -> Result<(), Fail> {
+    test_one::<InVec>(&rt, rt.alloc())?;
+    test_one::<InDefaultVec>(&rt, rt.alloc())?;
+    test_one::<InHash>(&rt, rt.alloc())?;
+    test_one::<InBTree>(&rt, rt.alloc())
 }
 
 #[test]
-fn hash_map_storage_meets_all(rt: HostRuntime) -> Result<(), Fail> {
-    all_tests::<InHash>(&rt, rt.alloc())
+fn dummy_test_clear(rt: HostRuntime) -> Result<(), Fail> {
+    test_clear(&rt, rt.alloc(), Flag)
 }
 
 #[test]
-fn btree_storage_meets_all(rt: HostRuntime) -> Result<(), Fail> {
-    all_tests::<InBTree>(&rt, rt.alloc())
-}
-
-#[test]
-fn null_insert_twice(rt: HostRuntime) -> Result<(), Fail> {
+fn test_null_insert_twice(rt: HostRuntime) -> Result<(), Fail> {
     let mut entities = EntitiesRes::new(rt.alloc());
     let list = living(rt.alloc(), &mut entities, 2)?;
     assert_eq!(rt; list.len(), 2);
@@ -45,24 +39,6 @@ fn null_insert_twice(rt: HostRuntime) -> Result<(), Fail> {
     assert!(rt; view.remove(list[0])?.is_none());
     assert!(rt; view.get(list[0]).is_none());
     Ok(())
-}
-
-// Whether these are the numbers.
-fn are<T: Number>(values: &[T], numbers: &[u32]) -> bool {
-    values.len() == numbers.len()
-        && values
-            .iter()
-            .zip(numbers)
-            .all(|(value, number)| value.number() == *number)
-}
-
-// Whether there is a component at each place.
-fn are_some(values: &[Option<InVec>], wanted: &[bool]) -> bool {
-    values.len() == wanted.len()
-        && values
-            .iter()
-            .zip(wanted)
-            .all(|(value, some)| value.is_some() == *some)
 }
 
 #[test]
@@ -95,25 +71,31 @@ fn dense_pages(rt: HostRuntime) -> Result<(), Fail> {
 }
 
 #[test]
-fn default_vector_fills_up(rt: HostRuntime) -> Result<(), Fail> {
-    let mut masked = empty::<InDefaultVec>(rt.alloc())?;
-    assert!(rt; masked.put(1, InDefaultVec(1)).is_ok());
-    assert!(rt; masked.put(3, InDefaultVec(3)).is_ok());
-    assert!(rt; are(masked.as_slice(), &[0, 1, 0, 3]));
-    assert!(rt; masked.remove(3)?.is_some());
-    assert!(rt; are(masked.as_slice(), &[0, 1, 0, 0]));
-    masked.clear()?;
-    assert!(rt; are(masked.as_slice(), &[]));
+fn dense_is_written_as_a_slice(rt: HostRuntime) -> Result<(), Fail> {
+    let mut masked = empty::<InDense>(rt.alloc())?;
+    for id in 0..4u32 {
+        assert!(rt; masked.put(id, InDense(id)).is_ok());
+    }
+    assert!(rt; masked.remove(1)?.is_some());
+    double_all(&mut masked);
+    assert!(rt; are(masked.as_slice(), &[0, 6, 4]));
+    assert!(rt; matches!(masked.get(3), Some(InDense(6))));
+    assert!(rt; matches!(masked.get(2), Some(InDense(4))));
+    assert!(rt; masked.get(1).is_none());
     Ok(())
 }
 
 #[test]
-fn vector_slice_has_options(rt: HostRuntime) -> Result<(), Fail> {
+fn insert_same_key(rt: HostRuntime) -> Result<(), Fail> {
+    let mut entities = EntitiesRes::new(rt.alloc());
+    let list = living(rt.alloc(), &mut entities, 10_000)?;
     let mut masked = empty::<InVec>(rt.alloc())?;
-    assert!(rt; masked.put(2, InVec(5)).is_ok());
-    assert!(rt; are_some(masked.as_slice(), &[false, false, true]));
-    assert!(rt; masked.remove(2)?.is_some());
-    assert!(rt; are_some(masked.as_slice(), &[false, false, false]));
+    let mut view = WriteStorage::new(&entities, &mut masked);
+    for e in list.as_slice() {
+        assert_eq!(rt; put(&mut view, *e, 0), Some(None));
+        assert_eq!(rt; put(&mut view, *e, e.id()), Some(Some(0)));
+        assert_eq!(rt; number_at(&view, *e), Some(e.id()));
+    }
     Ok(())
 }
 

@@ -5,7 +5,7 @@ use entities::{EntitiesRes, Entity};
 use std::alloc::Global;
 use std::process::Abort;
 use std::test::Fail;
-use storages::WriteStorage;
+use storages::{Component, WriteStorage};
 
 /// The number of an entity.
 pub fn number_at<T: Number>(view: &WriteStorage<'_, T>, e: Entity) -> Option<u32> {
@@ -59,8 +59,17 @@ pub fn add_or_default<T: Number>(view: &mut WriteStorage<'_, T>, e: Entity, numb
     }
 }
 
+/// Whether these are the numbers.
+pub fn are<T: Number>(values: &[T], numbers: &[u32]) -> bool {
+    values.len() == numbers.len()
+        && values
+            .iter()
+            .zip(numbers)
+            .all(|(value, number)| value.number() == *number)
+}
+
 /// One component is inserted, replaced, counted and removed.
-pub fn one_component<T: Number>(rt: &impl Abort, alloc: Global) -> Result<(), Fail> {
+pub fn test_one<T: Number>(rt: &impl Abort, alloc: Global) -> Result<(), Fail> {
     let mut entities = EntitiesRes::new(alloc);
     let e = entities.create().ok().ok_or("no entity")?;
     let mut masked = empty::<T>(alloc)?;
@@ -75,27 +84,51 @@ pub fn one_component<T: Number>(rt: &impl Abort, alloc: Global) -> Result<(), Fa
     Ok(())
 }
 
-/// A thousand are inserted, found again, written to, and removed once each; those of a generation to come reach nothing.
-pub fn thousand<T: Number>(rt: &impl Abort, alloc: Global) -> Result<(), Fail> {
+/// A thousand are inserted and found again.
+pub fn test_add<T: Number>(rt: &impl Abort, alloc: Global) -> Result<(), Fail> {
     let mut entities = EntitiesRes::new(alloc);
     let list = living(alloc, &mut entities, 1000)?;
     let mut masked = empty::<T>(alloc)?;
     let mut view = WriteStorage::new(&entities, &mut masked);
-    fill(&mut view, list.as_slice(), 2000)?;
+    fill(&mut view, list.as_slice(), 2718)?;
     for e in list.as_slice() {
-        let later = Entity::from_parts(e.id(), 2).ok_or("no generation")?;
-        assert_eq!(rt; put(&mut view, later, 31415), None);
-        assert_eq!(rt; number_at(&view, later), None);
-        assert!(rt; add_at(&mut view, *e, 718));
         assert_eq!(rt; number_at(&view, *e), Some(e.id().wrapping_add(2718)));
+    }
+    Ok(())
+}
+
+/// A thousand are inserted and removed, once each.
+pub fn test_sub<T: Number>(rt: &impl Abort, alloc: Global) -> Result<(), Fail> {
+    let mut entities = EntitiesRes::new(alloc);
+    let list = living(alloc, &mut entities, 1000)?;
+    let mut masked = empty::<T>(alloc)?;
+    let mut view = WriteStorage::new(&entities, &mut masked);
+    fill(&mut view, list.as_slice(), 2718)?;
+    for e in list.as_slice() {
         assert_eq!(rt; take(&mut view, *e), Some(e.id().wrapping_add(2718)));
         assert_eq!(rt; take(&mut view, *e), None);
     }
     Ok(())
 }
 
+/// A thousand are inserted and written to.
+pub fn test_get_mut<T: Number>(rt: &impl Abort, alloc: Global) -> Result<(), Fail> {
+    let mut entities = EntitiesRes::new(alloc);
+    let list = living(alloc, &mut entities, 1000)?;
+    let mut masked = empty::<T>(alloc)?;
+    let mut view = WriteStorage::new(&entities, &mut masked);
+    fill(&mut view, list.as_slice(), 2000)?;
+    for e in list.as_slice() {
+        assert!(rt; add_at(&mut view, *e, 718));
+    }
+    for e in list.as_slice() {
+        assert_eq!(rt; number_at(&view, *e), Some(e.id().wrapping_add(2718)));
+    }
+    Ok(())
+}
+
 /// Of a thousand living entities the first 500 have a component; each is added its index, or gets it.
-pub fn half_defaults<T: Number>(rt: &impl Abort, alloc: Global) -> Result<(), Fail> {
+pub fn test_get_mut_or_default<T: Number>(rt: &impl Abort, alloc: Global) -> Result<(), Fail> {
     let mut entities = EntitiesRes::new(alloc);
     let list = living(alloc, &mut entities, 1000)?;
     let mut masked = empty::<T>(alloc)?;
@@ -111,16 +144,67 @@ pub fn half_defaults<T: Number>(rt: &impl Abort, alloc: Global) -> Result<(), Fa
         let wanted = if id < 500 { id.wrapping_add(id) } else { id };
         assert_eq!(rt; number_at(&view, *e), Some(wanted));
     }
+    Ok(())
+}
+
+/// A thousand are inserted; those of a generation to come can't be, and are not found.
+pub fn test_add_gen<T: Number>(rt: &impl Abort, alloc: Global) -> Result<(), Fail> {
+    let mut entities = EntitiesRes::new(alloc);
+    let list = living(alloc, &mut entities, 1000)?;
+    let mut masked = empty::<T>(alloc)?;
+    let mut view = WriteStorage::new(&entities, &mut masked);
+    fill(&mut view, list.as_slice(), 2718)?;
+    for e in list.as_slice() {
+        let later = Entity::from_parts(e.id(), 2).ok_or("no generation")?;
+        assert_eq!(rt; put(&mut view, later, 31415), None);
+        assert_eq!(rt; number_at(&view, later), None);
+        assert_eq!(rt; number_at(&view, *e), Some(e.id().wrapping_add(2718)));
+    }
+    Ok(())
+}
+
+/// Those of a generation to come can't be inserted, and there is nothing to remove.
+pub fn test_sub_gen<T: Number>(rt: &impl Abort, alloc: Global) -> Result<(), Fail> {
+    let mut entities = EntitiesRes::new(alloc);
+    let list = living(alloc, &mut entities, 1000)?;
+    let mut masked = empty::<T>(alloc)?;
+    let mut view = WriteStorage::new(&entities, &mut masked);
+    for e in list.as_slice() {
+        let later = Entity::from_parts(e.id(), 2).ok_or("no generation")?;
+        assert_eq!(rt; put(&mut view, later, 2718), None);
+        assert_eq!(rt; take(&mut view, *e), None);
+    }
+    Ok(())
+}
+
+/// Ten are inserted, and none is found after `clear`.
+pub fn test_clear<T: Component + Copy + Drop>(
+    rt: &impl Abort,
+    alloc: Global,
+    component: T,
+) -> Result<(), Fail> {
+    let mut entities = EntitiesRes::new(alloc);
+    let list = living(alloc, &mut entities, 10)?;
+    let mut masked = empty::<T>(alloc)?;
+    let mut view = WriteStorage::new(&entities, &mut masked);
+    for e in list.as_slice() {
+        assert!(rt; view.insert(*e, component).is_ok());
+    }
     view.clear()?;
     for e in list.as_slice() {
-        assert_eq!(rt; number_at(&view, *e), None);
+        assert!(rt; view.get(*e).is_none());
     }
     Ok(())
 }
 
 /// All of the above.
 pub fn all_tests<T: Number>(rt: &impl Abort, alloc: Global) -> Result<(), Fail> {
-    one_component::<T>(rt, alloc)?;
-    thousand::<T>(rt, alloc)?;
-    half_defaults::<T>(rt, alloc)
+    test_one::<T>(rt, alloc)?;
+    test_add::<T>(rt, alloc)?;
+    test_sub::<T>(rt, alloc)?;
+    test_get_mut::<T>(rt, alloc)?;
+    test_get_mut_or_default::<T>(rt, alloc)?;
+    test_add_gen::<T>(rt, alloc)?;
+    test_sub_gen::<T>(rt, alloc)?;
+    test_clear(rt, alloc, T::of(10))
 }

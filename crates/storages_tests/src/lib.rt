@@ -3,6 +3,8 @@
 
 mod components;
 #[cfg(test)]
+mod default_vec_tests;
+#[cfg(test)]
 mod entry_tests;
 #[cfg(test)]
 mod kind_tests;
@@ -10,9 +12,16 @@ mod kind_tests;
 mod kinds;
 mod loans;
 #[cfg(test)]
+mod map_tests;
+#[cfg(test)]
+mod vec_tests;
+#[cfg(test)]
 mod view_tests;
 #[cfg(test)]
 mod world;
 
-pub use components::{Flag, InBTree, InDefaultVec, InDense, InHash, InVec, Number};
-pub use loans::{entry_or_seven, seven_through_entry, seven_through_storage, seven_through_view};
+pub use components::{Flag, InBTree, InDefaultVec, InDense, InHash, InVec, Number, Shared};
+pub use loans::{
+    double_all, entry_or_seven, seven_at_place, seven_through_entry, seven_through_storage,
+    seven_through_view,
+};

@@ -1,12 +1,14 @@
 //! What an ordinary caller learns where a component was lent to it, without a proof file.
-ghost use Rattle.std.specs.Prelude.{◌≡◌, Some, None, true, IsSome, IsOk, OnOk, IfOk, is_some};
+ghost use Rattle.std.specs.Prelude.{◌≡◌, ℕ, Some, None, true, IsSome, IsOk, OnOk, IfOk, is_some};
 ghost use Rattle.std.specs.FinMap as map;
+ghost use Rattle.std.specs.Option.{option_map};
 ghost use Rattle.entities.specs.Population.{index_of};
 ghost use Rattle.storages.specs.Limit.{IsIndex};
 ghost use Rattle.storages.specs.Meaning.{HasRoom};
 ghost use Rattle.storages.specs.WriteView.{slot, found};
+ghost use Rattle.storages_tests.specs.Doubled.{doubled, all_doubled};
 
-use crate::components::{InDense, InVec};
+use crate::components::{InDefaultVec, InDense, InVec};
 use entities::Entity;
 use storages::{MaskedStorage, NotLent, StorageEntry, WriteStorage};
 
@@ -64,4 +66,29 @@ pub fn entry_or_seven(masked: &mut MaskedStorage<InVec>, id: u32) -> bool
         }
         Err(_) => false,
     }
+}
+
+/// Twice the number at each index, past the greatest from 0 on.
+pub fn double_all(masked: &mut MaskedStorage<InDense>)
+    ensures { (q : ℕ) → map.get masked.new.map q ≡ option_map doubled (map.get masked.old.map q) }
+{
+    double_each(masked.as_mut_slice());
+}
+
+// Doubles each number.
+fn double_each(values: &mut [InDense])
+    ensures { values.new ≡ all_doubled values.old }
+{
+    for i in 0..values.len() {
+        let number = values[i].0;
+        values[i] = InDense(number.wrapping_add(number));
+    }
+}
+
+/// Seven at an index that has a component, through the slice.
+pub fn seven_at_place(masked: &mut MaskedStorage<InDefaultVec>, id: u32)
+    requires { IsSome (map.get masked.old.map id) }
+    ensures { map.get masked.new.map id ≡ Some (record { 0 = 7 }) }
+{
+    masked.as_mut_slice()[id as usize] = InDefaultVec(7);
 }

@@ -2,14 +2,15 @@
 ghost use Rattle.std.specs.Prelude.{◌≡◌, ◌<◌, ◌≤◌, ◌+◌, ℕ, Some, [], OnErr, OnOk, IsOk, vec_len, length, slice_get};
 ghost use Rattle.storages.specs.DefaultVec.{meaning_of};
 
-use crate::slices::SliceAccess;
+use crate::slices::{SliceAccess, SliceAccessMut};
 use crate::unprotected::{TryDefault, UnprotectedStorage};
 use hibits::{BitSet, Index};
 use std::alloc::{AllocError, Global};
 use std::mem;
 
-/// Components at the places of their indices, and default values at the others: its slice has a value at each place,
-/// and ends at the greatest index that was inserted since it was last cleared.
+/// Components at the places of their indices, and default values at the others, unless something else was left there
+/// through `as_mut_slice`: its slice has a value at each place, and ends at the greatest index that was inserted since
+/// it was last cleared.
 ///
 /// Ports `specs::storage::DefaultVecStorage`.
 #[derive(Drop)]
@@ -87,11 +88,24 @@ impl<T: Default + Drop> SliceAccess<T> for DefaultVecStorage<T> {
 
     type Element = T;
 
-    ghost IsSlice = { λ at extent xs. IsFullSlice at extent xs };
+    ghost IsSlice = { λ at extent _ xs. IsFullSlice at extent xs };
 
     #[inline]
     fn as_slice(&self) -> &[T] {
         &self.items
+    }
+}
+
+impl<T: Default + Drop> SliceAccessMut<T> for DefaultVecStorage<T> {
+    ghost use Rattle.std.specs.Vec.{with_items as with_values};
+
+    ghost item_at = { λ _ xs q. slice_get xs q };
+
+    ghost with_items = { λ s xs. record s { items = with_values s.items xs } };
+
+    #[inline]
+    fn as_mut_slice(&mut self) -> &mut [T] {
+        &mut self.items
     }
 }
 

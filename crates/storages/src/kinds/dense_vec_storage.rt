@@ -2,7 +2,7 @@
 ghost use Rattle.std.specs.Prelude.{◌≡◌, ◌<◌, ◌^◌, ℕ, slice_get, [], Some, OnErr, OnOk, IfSome, vec_len};
 ghost use Rattle.storages.specs.Dense.{IsConsistent, value_of};
 
-use crate::slices::SliceAccess;
+use crate::slices::{SliceAccess, SliceAccessMut};
 use crate::unprotected::{TryDefault, UnprotectedStorage};
 use hibits::{BitSet, Index};
 use std::alloc::{AllocError, Global};
@@ -108,15 +108,29 @@ impl<T: Drop> UnprotectedStorage<T> for DenseVecStorage<T> {
 }
 
 impl<T: Drop> SliceAccess<T> for DenseVecStorage<T> {
-    ghost use Rattle.storages.specs.Slices.{IsArrangement};
+    ghost use Rattle.storages.specs.Slices.{Arranges};
 
     type Element = T;
 
-    ghost IsSlice = { λ at _ xs. IsArrangement at xs };
+    ghost IsSlice = { λ at _ order xs. Arranges at order xs };
 
     #[inline(always)]
     fn as_slice(&self) -> &[T] {
         &self.values
+    }
+}
+
+impl<T: Drop> SliceAccessMut<T> for DenseVecStorage<T> {
+    ghost use Rattle.std.specs.Vec.{with_items as with_values};
+    ghost use Rattle.storages.specs.Slices.{item_beside};
+
+    ghost item_at = { λ order xs q. item_beside order xs q };
+
+    ghost with_items = { λ s xs. record s { values = with_values s.values xs; consistent = s.consistent } };
+
+    #[inline]
+    fn as_mut_slice(&mut self) -> &mut [T] {
+        &mut self.values
     }
 }
 

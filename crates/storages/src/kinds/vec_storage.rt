@@ -94,7 +94,7 @@ impl<T: Drop> SliceAccess<T> for VecStorage<T> {
 
     type Element = Option<T>;
 
-    ghost IsSlice = { λ at extent xs. IsOptionSlice at extent xs };
+    ghost IsSlice = { λ at extent _ xs. IsOptionSlice at extent xs };
 
     #[inline(always)]
     fn as_slice(&self) -> &[Option<T>] {

@@ -1,0 +1,96 @@
+-- On components that are lent as a slice.
+use Rattle.std.proofs.Common.{◌≡◌, ℕ, ◌<◌, Bool, true, false, nat_eq, cond, List, [], ◌∷◌, length, refl, ap, sym, ◌∙◌, zero, suc, arith, Some, None, is_some, IsTrue, ◌⊎◌, inl, inr}
+use Rattle.std.specs.Prelude.{Option}
+use Rattle.std.specs.Coded.{Coded-set, coded_ℕ, coded_option}
+use Rattle.std.specs.List.{slice_get, zip, refill}
+use Rattle.std.specs.Map.{lookup}
+use Rattle.std.specs.FinMap as map
+use Rattle.std.specs.FinSet as set
+use Rattle.std.specs.Ordering.{nat_cmp}
+use Rattle.std.specs.Option.{is_none}
+use Rattle.std.proofs.lemmas.Bool.{false≢true}
+use Rattle.std.proofs.lemmas.Option.{slice_get_within}
+use Rattle.storages.specs.Dense.{IsConsistent, value_of, meaning_of}
+use Rattle.storages.specs.Meaning.{Meaning, Masks, Shows}
+use Rattle.storages.specs.Slot.{Slot, slot_of}
+use Rattle.storages.specs.Slices.{item_beside}
+use Rattle.storages.specs.SliceLends.{left_as, with_slice, Rewrites}
+use Rattle.storages.proofs.Slot.{in_keys, get-list, get-slot, get-present, absent_of_none, there_of_some, contains-slot, same_map}
+use Rattle.storages.proofs.Dense.{IsAt, found, one_place, value-present, value-absent, at_of_value, placed_some, none_not_some, some_inj}
+use Rattle.storages.proofs.Indices.{itself, same_id}
+
+-- a dense table is consistent in one way
+pub IsConsistent-prop : (n : ℕ) (ids places : List ℕ) (a b : IsConsistent n ids places) → a ≡ b
+IsConsistent-prop n ids places a b = λ j. record {
+  lengths = Coded-set coded_ℕ _ _ a.lengths b.lengths j;
+  placed = λ k i e. Coded-set (coded_option coded_ℕ) _ _ (a.placed k i e) (b.placed k i e) j;
+}
+
+-- the value beside an index that stands at one place
+item-beside : {T : Type 0} (ids : List ℕ) (xs : List T) (k q : ℕ) → slice_get ids k ≡ Some q → ((j : ℕ) → slice_get ids j ≡ Some q → j ≡ k) → k < length xs → item_beside ids xs q ≡ slice_get xs k
+item-beside [] xs k q e one h = absurd (false≢true (ap is_some e))
+item-beside (i ∷ is) [] k q e one h = absurd (omega arith)
+item-beside (i ∷ is) (x ∷ xs) zero q e one h = ap (λ b. cond b (Some x) (lookup (nat_eq q) (zip is xs))) (ap (nat_eq q) (some_inj (Some i) i q refl e) ∙ itself q)
+item-beside (i ∷ is) (x ∷ xs) (suc k) q e one h = passed (nat_eq q i) refl ∙ item-beside is xs k q e (λ j f. let p = one (suc j) f in omega arith) (omega arith)
+  where
+    passed : (b : Bool) → nat_eq q i ≡ b → cond b (Some x) (lookup (nat_eq q) (zip is xs)) ≡ lookup (nat_eq q) (zip is xs)
+    passed true f = let p = one zero (ap Some (sym (same_id q i f))) in absurd (omega arith)
+    passed false f = refl
+
+module _ {T : Type 0} (n : ℕ) (ids places : List ℕ) (C : IsConsistent n ids places) where
+  -- each value stands beside its index
+  pub item-dense : (values : List T) → length values ≡ n → (q : ℕ) → IsTrue (is_some (value_of values ids places q)) → item_beside ids values q ≡ value_of values ids places q
+  item-dense values len q h =
+      let k = at_of_value n ids places C values len q h in
+      item-beside ids values k.0 q k.1 (λ j e. one_place n ids places C j k.0 q e k.1) (let a = slice_get_within ids k.0 q k.1 in let b = C.lengths in omega arith)
+      ∙ sym (value-present n ids places C values k.0 q k.1)
+
+  module _ (values values' : List T) (len : length values ≡ n) (len' : length values' ≡ n) where
+    still : (q : ℕ) → IsTrue (is_some (value_of values ids places q)) → IsTrue (is_some (value_of values' ids places q))
+    still q h = let k = at_of_value n ids places C values len q h in placed_some n ids places C values' len' k.0 q k.1
+
+    still_free : (q : ℕ) → is_none (value_of values ids places q) ≡ true → IsAt ids q ⊎ (IsAt ids q → ⊥) → is_none (value_of values' ids places q) ≡ true
+    still_free q h (inl k) = absurd (none_not_some (value_of values ids places q) h (placed_some n ids places C values len k.0 q k.1))
+    still_free q h (inr m) = ap is_none (value-absent n ids places C values' q m)
+
+    -- other values under the same indices
+    pub rewrites-dense : Rewrites item_beside (meaning_of values ids places) (meaning_of values' ids places) values'
+    rewrites-dense = record {
+      presence = record { present = still; free = λ q h. still_free q h (found n ids places C q) };
+      extent = refl;
+      order = refl;
+      channel = refl;
+      room = refl;
+      at = λ q h. sym (item-dense values' len' q (still q h));
+    }
+
+-- the values that were left in the slice xs of a vector with the values ys
+pub left-refilled : {T : Type 0} (xs ys ws : List T) (n : ℕ) → xs ≡ ys → n ≡ length ys → refill n ys ws ≡ left_as xs ws
+left-refilled xs ys ws n e f = ap (λ m. refill m ys ws) f ∙ ap (λ (zs : List _). refill (length zs) zs ws) (sym e)
+
+-- the map of a storage with its mask
+pub shows-slot : {T : Type 0} (s : set.FinSet nat_cmp) (m : Meaning T) → Masks s m → Shows m (map.get (slot_of s m).map)
+shows-slot s m k = record {
+  present = λ q h. sym (get-present s m q (there_of_some s m k q h));
+  absent = λ q h. k.absent q (absent_of_none s m k q h);
+}
+
+module _ {T : Type 0} (item_at : List ℕ → List T → ℕ → Option T) where
+  -- what the map has then
+  pub get-with_slice : (s : Slot T) (xs : List T) (q : ℕ) → map.get (with_slice item_at s xs).map q ≡ cond (map.contains_key s.map q) (item_at s.order xs q) None
+  get-with_slice s xs q = get-list (map.keys s.map) (item_at s.order xs) q ∙ ap (λ b. cond b (item_at s.order xs q) None) (in_keys s.map q)
+
+  pub places-slot : (s : set.FinSet nat_cmp) (m : Meaning T) → Masks s m → (xs : List T) → ((q : ℕ) → IsTrue (is_some (m.at q)) → item_at m.order xs q ≡ m.at q)
+      → (q : ℕ) → is_some (map.get (slot_of s m).map q) ≡ true → item_at m.order xs q ≡ map.get (slot_of s m).map q
+  places-slot s m k xs p q h = let t = there_of_some s m k q h in p q (k.present q t) ∙ sym (get-present s m q t)
+
+  same_there : (s : set.FinSet nat_cmp) (m m' : Meaning T) (xs : List T) (q : ℕ) (b : Bool) → (b ≡ true → m'.at q ≡ item_at m.order xs q) → cond b (m'.at q) None ≡ cond b (item_at m.order xs q) None
+  same_there s m m' xs q true h = h refl
+  same_there s m m' xs q false h = refl
+
+  pub rewrites-slot : (s : set.FinSet nat_cmp) (m m' : Meaning T) → Masks s m → (xs : List T) → Rewrites item_at m m' xs → slot_of s m' ≡ with_slice item_at (slot_of s m) xs
+  rewrites-slot s m m' k xs p =
+      let same : (slot_of s m').map ≡ (with_slice item_at (slot_of s m) xs).map = same_map _ _ (λ q.
+      get-slot s m' q ∙ same_there s m m' xs q (set.contains s q) (λ h. p.at q (k.present q h))
+      ∙ sym (get-with_slice (slot_of s m) xs q ∙ ap (λ b. cond b (item_at m.order xs q) None) (contains-slot s m k q))) in
+      λ j. record { map = same j; extent = p.extent j; order = p.order j; channel = p.channel j; room = p.room j }
