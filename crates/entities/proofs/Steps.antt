@@ -168,20 +168,21 @@ all_may_die c es h = (λ k d lt. (lives_is c (get_or es k d).0 ∙ (h.0 k d lt).
 pub first_refused : (c : Census) (es : List Entity) (n : ℕ) (d : Entity) → n < length es → AreDistinctOf c.generations (take n es) → (IsOneOf c.generations (get_or es n d) → Contains (take n es) (get_or es n d)) → IsFirstRefused (population c) es (get_or es n d)
 first_refused c es n d lt h stopped = (n, (slice_get-get_or es n d lt, λ alive. stopped (sym (lives_is c (get_or es n d).0) ∙ alive.0, alive.1)), all_may_die c (take n es) h)
 
-pub sets_taken_up : (gs : List ℤ) (a r k a' r' : Layered) (i : ℕ) → AreSets gs a r k → has r.members i ≡ true → a'.members ≡ set.insert a.members i → r'.members ≡ set.remove r.members i → AreSets gs a' r' k
-sets_taken_up gs a r k a' r' i s is ea er = record {
-  merged = λ j. rw (ea, er, has-insert a.members i j, has-remove r.members i j, s.merged j) (moved (eqb j i) _ _ (λ e. ap (living_of gs) (eqb-true j i e) ∙ s.pending i is));
-  pending = λ j h. s.pending j (right_of (not (eqb j i)) _ (sym (has-remove r.members i j) ∙ rw er at h));
+pub sets_taken_up : (gs : List ℤ) (a r k a' r' : Layered) → AreSets gs a r k → ((j : ℕ) → has a'.members j ≡ (has a.members j || has r.members j)) → r'.members ≡ set.empty → AreSets gs a' r' k
+sets_taken_up gs a r k a' r' s ea er = record {
+  merged = λ j. ea j ∙ ap (λ b. b || has r.members j) (s.merged j) ∙ joined (living_of gs j) (has r.members j) (s.pending j) ∙ ap (λ b. living_of gs j && not b) (sym (none j));
+  pending = λ j h. absurd (both_ways _ (none j) h);
   marked = s.marked;
 }
   where
-    moved : (x l r : Bool) → (x ≡ true → l ≡ true) → (x || (l && not r)) ≡ (l && not (not x && r))
-    moved true l r h = rw (h refl) refl
-    moved false l r h = refl
+    none : (j : ℕ) → has r'.members j ≡ false
+    none j = ap (λ m. has m j) er ∙ set.contains-empty nat_cmp j
 
-    right_of : (a b : Bool) → (a && b) ≡ true → b ≡ true
-    right_of true b e = e
-    right_of false b e = cc
+    joined : (l r : Bool) → (r ≡ true → l ≡ true) → ((l && not r) || r) ≡ (l && not false)
+    joined true true h = refl
+    joined true false h = refl
+    joined false true h = sym (h refl)
+    joined false false h = refl
 
 pub sets_empty : (gs : List ℤ) (a r k : Layered) → gs ≡ [] → a.members ≡ set.empty → r.members ≡ set.empty → k.members ≡ set.empty → AreSets gs a r k
 sets_empty gs a r k e ea er ek = record {
@@ -189,11 +190,3 @@ sets_empty gs a r k e ea er ek = record {
   pending = λ j h. absurd (both_ways _ (set.contains-empty nat_cmp j) (rw er at h));
   marked = λ j h. absurd (both_ways _ (set.contains-empty nat_cmp j) (rw ek at h));
 }
-
--- what is left of a set without i
-pub still_there : (s s' : Members) (i j : ℕ) → s' ≡ set.remove s i → has s' j ≡ true → (j ≡ i → ⊥) × (has s j ≡ true)
-still_there s s' i j e h = parts (eqb j i) (has s j) (λ same. eq-eqb j i same) (sym (has-remove s i j) ∙ rw e at h)
-  where
-    parts : {P : Type 0} (x h : Bool) → (P → x ≡ true) → (not x && h) ≡ true → (P → ⊥) × (h ≡ true)
-    parts true h f e = (λ p. cc, cc)
-    parts false h f e = (λ p. let t = f p in cc, e)

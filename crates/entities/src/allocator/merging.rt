@@ -1,18 +1,18 @@
 //! The merge of pending births and of marks.
-ghost use Rattle.std.specs.Prelude.{◌≡◌, ℕ, ◌<◌, ◌≤◌, true, false, IfOk, IsOk, OnOk, OnErr, IfSome, MatchOption};
-ghost use Rattle.std.specs.FinSet as set;
-ghost use Rattle.hibits.specs.Walks.{IsNext};
+ghost use Rattle.std.specs.Prelude.{◌≡◌, ℕ, ◌<◌, ◌||◌, true, false, IfOk, IsOk, OnOk, OnErr};
+ghost use Rattle.hibits.specs.Sets.{HasRoom};
 ghost use Rattle.entities.specs.Census.{population, has};
 ghost use Rattle.entities.specs.Merges.{the_marked, merge};
 
 use crate::allocator::Allocator;
-use crate::entity::{Entity, Index};
-use hibits::{INDEX_LIMIT, Walk};
+use crate::entity::Entity;
+use hibits::{BitSet, INDEX_LIMIT, Walk};
 use std::alloc::{AllocError, Global};
 
 impl Allocator {
     /// Takes up the pending births, then the marked die: they are answered as they lived, ascending by index. It takes memory for that
-    /// list alone, got first: where that is refused, nothing changes. Its time goes by the pending and the marked alone.
+    /// list alone, got first: where that is refused, nothing changes. Its time goes by the pending and the marked, and where any is pending
+    /// the words of room of one set are written, each of which is of 64 indices.
     ///
     /// Ports `Allocator::merge`.
     pub fn merge(&mut self, alloc: Global) -> Result<Vec<Entity>, AllocError>
@@ -46,30 +46,21 @@ impl Allocator {
         ensures killed { self.new.killed ≡ self.old.killed }
         ensures none { (j : ℕ) → has self.new.raised j ≡ true → ⊥ }
     {
-        let mut from = 0;
-        while let Some(i) = self.first_pending(from) {
-            self.take_up_one(i);
-            from = i + 1;
+        if !self.raised.is_empty() {
+            add_all(&mut self.alive, &self.raised);
+            self.raised.clear();
         }
     }
+}
 
-    #[inline]
-    fn take_up_one(&mut self, index: Index)
-        requires { has self.old.raised index ≡ true }
-        ensures generations { self.new.generations ≡ self.old.generations }
-        ensures killed { self.new.killed ≡ self.old.killed }
-        ensures raised { self.new.raised ≡ set.remove self.old.raised index }
-    {
-        self.raised.remove(index);
-        let _ = self.alive.add(index);
-    }
-
-    /// The least pending index, where none is below `from`.
-    fn first_pending(&self, from: Index) -> Option<Index>
-        requires { (j : ℕ) → j < from → has self.now.raised j ≡ true → ⊥ }
-        ensures next { MatchOption result ((j : ℕ) → from ≤ j → has self.now.raised j ≡ true → ⊥) (IsNext (has self.now.raised) from) }
-        ensures limit { IfSome result (λ i. i < INDEX_LIMIT) }
-    {
-        self.raised.first_from(from)
+/// Adds the indices of another set, for which there is room.
+fn add_all(indices: &mut BitSet, others: &BitSet)
+    requires { (i : ℕ) → has others.now.members i ≡ true → HasRoom indices.old i × i < INDEX_LIMIT }
+    ensures members { (i : ℕ) → has indices.new.members i ≡ (has indices.old.members i || has others.now.members i) }
+    ensures room { (i : ℕ) → HasRoom indices.old i → HasRoom indices.new i }
+{
+    let mut walk = Walk::new(others);
+    while let Some(i) = walk.next(others) {
+        let _ = indices.add(i);
     }
 }
