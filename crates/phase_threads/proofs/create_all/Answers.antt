@@ -1,5 +1,4 @@
-use Rattle.std.proofs.Common.{rules}
-use denote.Param.Send.{sendable, param_sync}
+use denote.Param.Send.{sendable}
 use Rattle.std.proofs.Crossing.{crosses}
 use Rattle.entities.proofs.PhaseShares.{board_sync}
 use Rattle.entities.proofs.phase.shared.Opened.TheSendSync as opened
