@@ -1,7 +1,6 @@
-use Rattle.std.proofs.Common.{◌≡◌, ◌<◌, ◌||◌, ℕ, true, eqb, eq-eqb, inl, inr, ⊎_elim, sym, ap, ◌∙◌, arith}
+use Rattle.std.proofs.Common.{◌≡◌, ◌||◌, ℕ, true, eqb, eq-eqb, inl, inr, ⊎_elim, sym, ap, ◌∙◌, arith}
 use Rattle.std.proofs.lemmas.Bool.{cases_eq, cases_lt, cases_Bool, ne_eqb, or_left, or_right}
 use Rattle.std.specs.Cmp.{both_ways}
-use Rattle.std.specs.FinSet as set
 use Rattle.hibits.specs.Sets.{has_part_zero}
 use Rattle.entities.specs.Census.{has}
 use Rattle.entities.proofs.Sets.{has-insert, on_ok}
