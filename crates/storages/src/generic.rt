@@ -12,12 +12,13 @@ ghost use Rattle.storages.specs.Found.{found_in};
 ghost use Rattle.storages.specs.Meaning.{HasRoom};
 ghost use Rattle.storages.specs.Slot.{IsSame, Becomes};
 ghost use Rattle.storages.specs.Generic.{Sight, lends_seen, lends_seen_or_default};
+ghost use Rattle.storages.specs.WriteView.{IsInsertError};
 
 use crate::event::ComponentEvent;
 use crate::masked::NotLent;
 use crate::read_storage::ReadStorage;
 use crate::unprotected::Component;
-use crate::write_storage::{InsertError, WriteStorage};
+use crate::write_storage::{INSERT, InsertError, WriteStorage};
 use entities::Entity;
 use std::alloc::AllocError;
 
@@ -83,7 +84,8 @@ pub trait GenericWriteStorage {
     fn get_mut(&mut self, entity: Entity) -> Result<&mut Self::Component, NotLent>
         ensures* writes_back { sem 𝓛 (lends_seen Self.row Self.Component.row sight self.entry entity result) }
         ensures value { IfOk result (λ x. found_in (sight self.old).entities (sight self.old).slot entity ≡ Some x.now) }
-        ensures absent { (result ≡ Err NotLent.Absent) ↔ (found_in (sight self.old).entities (sight self.old).slot entity ≡ None) };
+        ensures absent { (result ≡ Err NotLent.Absent) ↔ (found_in (sight self.old).entities (sight self.old).slot entity ≡ None) }
+        ensures succeeds { IsSome (found_in (sight self.old).entities (sight self.old).slot entity) → HasRoom (sight self.old).slot.room 1 → IsOk result };
 
     /// The component of an entity that is alive, to write to, which is a default value if there was none.
     fn get_mut_or_default(&mut self, entity: Entity) -> Result<&mut Self::Component, NotLent>
@@ -91,7 +93,9 @@ pub trait GenericWriteStorage {
         Self::Component: Default + Drop,
         ensures* writes_back { sem 𝓛 (lends_seen_or_default Self.row Self.Component.row sight self.entry entity result) }
         ensures old { IfOk result (λ x. (y : Self.Component) → found_in (sight self.old).entities (sight self.old).slot entity ≡ Some y → x.now ≡ y) }
-        ensures absent { (result ≡ Err NotLent.Absent) ↔ (is_alive (population (sight self.old).entities) entity ≡ false) };
+        ensures new { found_in (sight self.old).entities (sight self.old).slot entity ≡ None → IfOk result (λ x. Self.Component.is_default x.now) }
+        ensures absent { (result ≡ Err NotLent.Absent) ↔ (is_alive (population (sight self.old).entities) entity ≡ false) }
+        ensures succeeds { IsSome (found_in (sight self.old).entities (sight self.old).slot entity) → HasRoom (sight self.old).slot.room 1 → IsOk result };
 
     /// Puts a component at an entity that is alive, and answers the one that was there. After an error nothing has
     /// changed.
@@ -106,7 +110,9 @@ pub trait GenericWriteStorage {
         ensures ok { OnOk result (Becomes (sight self.old).slot (sight self.new).slot
             (map.insert (sight self.old).slot.map (index_of entity) component)
             (cond (is_some (found_in (sight self.old).entities (sight self.old).slot entity)) (ComponentEvent.Modified (index_of entity)) (ComponentEvent.Inserted (index_of entity)))) }
-        ensures err { OnErr result (IsSame (sight self.old).slot (sight self.new).slot) };
+        ensures err { OnErr result (IsSame (sight self.old).slot (sight self.new).slot) }
+        ensures succeeds { IsSome (found_in (sight self.old).entities (sight self.old).slot entity) → HasRoom (sight self.old).slot.room 1 → IsOk result }
+        ensures refused { IfErr result (λ e. IsInsertError e entity component INSERT.now (is_alive (population (sight self.old).entities) entity) (generation_now (population (sight self.old).entities) (index_of entity))) };
 
     /// Takes the component of an entity that is alive out, if there is one, and lets it go. After an error nothing has
     /// changed.
@@ -116,7 +122,8 @@ pub trait GenericWriteStorage {
         ensures entities { (sight self.new).entities ≡ (sight self.old).entities }
         ensures removed { OnOk result (IsSome (found_in (sight self.old).entities (sight self.old).slot entity) → Becomes (sight self.old).slot (sight self.new).slot (map.remove (sight self.old).slot.map (index_of entity)) (ComponentEvent.Removed (index_of entity))) }
         ensures absent { found_in (sight self.old).entities (sight self.old).slot entity ≡ None → (sight self.new).slot ≡ (sight self.old).slot }
-        ensures err { OnErr result (IsSame (sight self.old).slot (sight self.new).slot) };
+        ensures err { OnErr result (IsSame (sight self.old).slot (sight self.new).slot) }
+        ensures succeeds { HasRoom (sight self.old).slot.room 1 → IsOk result };
 }
 
 impl<'a, T: Component + Drop> GenericWriteStorage for WriteStorage<'a, T> {

@@ -1,5 +1,5 @@
 //! A vector with default values at its unused places.
-ghost use Rattle.std.specs.Prelude.{◌≡◌, ◌<◌, ◌≤◌, ◌+◌, ℕ, Some, [], OnErr, OnOk, IsOk, vec_len, length, slice_get};
+ghost use Rattle.std.specs.Prelude.{◌≡◌, ◌<◌, ◌≤◌, ◌+◌, ℕ, Some, [], IsTrue, is_some, IfOk, IfSome, OnErr, OnOk, IsOk, vec_len, length, slice_get};
 ghost use Rattle.storages.specs.DefaultVec.{meaning_of};
 
 use crate::slices::{SliceAccess, SliceAccessMut};
@@ -30,6 +30,7 @@ impl<T> TryDefault for DefaultVecStorage<T> {
 
 impl<T: Default + Drop> UnprotectedStorage<T> for DefaultVecStorage<T> {
     ghost use Rattle.storages.specs.DefaultVec.{new_of_empty};
+    ghost use Rattle.storages.specs.Meaning.{Frees, Keeps, IsReady};
 
     ghost meaning = { λ s. meaning_of s.items.items };
 
@@ -62,13 +63,25 @@ impl<T: Default + Drop> UnprotectedStorage<T> for DefaultVecStorage<T> {
     }
 
     #[inline]
-    fn remove(&mut self, id: Index) -> Result<T, AllocError> {
+    fn remove(&mut self, id: Index) -> Result<T, AllocError>
+        requires { IsTrue (is_some ((meaning_of self.old.items.items).at id)) }
+        ensures value { IfOk result (λ x. (meaning_of self.old.items.items).at id ≡ Some x) }
+        ensures ok { OnOk result (Frees (meaning_of self.old.items.items) (meaning_of self.new.items.items) id) }
+        ensures default { OnOk result (IfSome ((meaning_of self.new.items.items).at id) T.is_default) }
+        ensures err { OnErr result (Keeps (meaning_of self.old.items.items) (meaning_of self.new.items.items)) }
+        ensures succeeds { IsReady (meaning_of self.old.items.items) → IsOk result }
+    {
         let place = &mut self.items[id as usize];
         Ok(mem::replace(place, T::default()))
     }
 
     #[inline]
-    fn drop(&mut self, id: Index) {
+    fn drop(&mut self, id: Index)
+        requires present { IsTrue (is_some ((meaning_of self.old.items.items).at id)) }
+        requires ready { IsReady (meaning_of self.old.items.items) }
+        ensures freed { Frees (meaning_of self.old.items.items) (meaning_of self.new.items.items) id }
+        ensures default { IfSome ((meaning_of self.new.items.items).at id) T.is_default }
+    {
         self.items[id as usize] = T::default();
     }
 
