@@ -84,14 +84,6 @@ fn test_gen(rt: HostRuntime) -> Result<(), Fail> {
     Ok(())
 }
 
-#[test]
-fn insert_same_key(rt: HostRuntime) -> Result<(), Fail> {
-    let mut tale = positions(rt.alloc(), 10_000)?;
-    get_each(rt.alloc(), &mut tale, 10_000)?;
-    tale.assert_holds(&rt, rt.alloc());
-    Ok(())
-}
-
 /// Where specs panics, the insertion is refused.
 #[test]
 fn wrap(rt: HostRuntime) -> Result<(), Fail> {

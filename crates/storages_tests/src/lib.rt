@@ -14,6 +14,8 @@ mod loans;
 #[cfg(test)]
 mod map_tests;
 #[cfg(test)]
+mod memory_tests;
+#[cfg(test)]
 mod vec_tests;
 #[cfg(test)]
 mod view_tests;
