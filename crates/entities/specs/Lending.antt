@@ -1,5 +1,7 @@
 -- What the entities of a world end as, once their allocator was lent.
-use Rattle.std.specs.Prelude.{◌≡◌, ℕ, Result}
+use Rattle.std.specs.Prelude.{◌≡◌, ℕ, Result, Ok, Err, Option, Some, None}
+use Rattle.entities.specs.Census.{population}
+use Rattle.entities.specs.Population.{MarkedIfAlive}
 use Rattle.std.specs.Borrow.{Lends, RestsIfErr, MutBor, Fml}
 use Rattle.entities.specs.Census.{Census}
 use Rattle.entities.specs.declared.allocator.births.CreateError.{CreateError}
@@ -29,3 +31,12 @@ name_of_builder b = (lent_to_builder b).ghost_name
 -- without a builder they end as they were
 abbrev pub BuilderRests : MutBor Census → Result EntityResBuilder CreateError → Fml
 BuilderRests s r = RestsIfErr whole.the_row s name_of_builder r (Unchanged s)
+
+-- where an outcome was an error, the entity of a builder is marked, if it lives
+abbrev pub KeptRests : {E : Type 0} → EntityResBuilder → Result EntityResBuilder E → Fml
+KeptRests b r = RestsIfErr whole.the_row (lent_to_builder b) name_of_builder r (λ n. MarkedIfAlive (population (lent_to_builder b).now) (entity_built b) (population n))
+
+-- the error, if it is one
+abbrev pub err_of : {T E : Type 0} → Result T E → Option E
+err_of (Ok x) = None
+err_of (Err e) = Some e

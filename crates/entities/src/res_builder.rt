@@ -1,5 +1,7 @@
 //! A builder of one entity.
-ghost use Rattle.std.specs.Prelude.{◌≡◌};
+ghost use Rattle.std.specs.Prelude.{◌≡◌, IfOk};
+ghost use Rattle.std.specs.Borrow.{sem};
+ghost use Rattle.entities.specs.Lending.{KeptRests, err_of};
 ghost use Rattle.entities.specs.Population.{MarkedIfAlive};
 ghost use Rattle.entities.specs.Census.{population};
 
@@ -43,6 +45,24 @@ impl<'a> EntityResBuilder<'a> {
             entity,
         } = self;
         entity
+    }
+
+    /// The builder again, unless the outcome is an error: then its entity is marked, as where it is dropped.
+    pub fn kept_if<E>(self, outcome: Result<(), E>) -> Result<Self, E>
+        ensures* rests { sem 𝓛 (KeptRests self.entry result) }
+        ensures same_reference { IfOk result (λ b. (lent_to_builder b).ghost_name ≡ (lent_to_builder self.entry).ghost_name) }
+        ensures entity { IfOk result (λ b. entity_built b ≡ entity_built self.entry) }
+        ensures entities { IfOk result (λ b. (lent_to_builder b).now ≡ (lent_to_builder self.entry).now) }
+        ensures outcome { err_of result ≡ err_of outcome }
+    {
+        let EntityResBuilder { entities, entity } = self;
+        match outcome {
+            Ok(()) => Ok(EntityResBuilder { entities, entity }),
+            Err(e) => {
+                let _ = entities.delete(entity);
+                Err(e)
+            }
+        }
     }
 }
 

@@ -8,7 +8,7 @@ use Rattle.std.proofs.lemmas.Bool.Decides.{nat_tests}
 use Rattle.std.proofs.lemmas.Bool.{false≢true}
 use Rattle.std.proofs.lemmas.Option.{gets, get_or_from_slice_get, slice_get_within, slice_get-get_or}
 use Rattle.storages.specs.Dense.{has_there, value_there, value_of, IsConsistent, meaning_of}
-use Rattle.storages.specs.Meaning.{Touches, Puts, Frees, Shows, extent_after}
+use Rattle.storages.specs.Meaning.{Touches, Puts, Frees, Shows, OrderAfter, extent_after}
 use Rattle.storages.specs.Slices.{Arranges}
 use Rattle.storages.specs.declared.event.ComponentEvent.{ComponentEvent}
 use Rattle.storages.specs.declared.event.ComponentEvent.TheVariants.{Inserted, Removed}
@@ -94,12 +94,13 @@ module _ (n : ℕ) (ids places : List ℕ) (C : IsConsistent n ids places) where
     ]
 
 -- a call that changes the value of one id alone
-touches-one : {T : Type 0} (values values' : List T) (ids ids' places places' : List ℕ) (id : ℕ) (e : ComponentEvent) → None ≡ extent_after e None
+touches-one : {T : Type 0} (values values' : List T) (ids ids' places places' : List ℕ) (id : ℕ) (e : ComponentEvent) → None ≡ extent_after e None → OrderAfter e ids ids'
     → ((q : ℕ) → q ≢ id → value_of values' ids' places' q ≡ value_of values ids places q) → Touches (meaning_of values ids places) (meaning_of values' ids' places') id e
-touches-one values values' ids ids' places places' id e extent others = record {
+touches-one values values' ids ids' places places' id e extent order others = record {
   others = λ q ne _. others q ne;
   free = λ q ne f. ap is_none (others q ne) ∙ f;
   extent = extent;
+  order = order;
   channel = refl;
   needs_room = refl;
   room = λ k h. tt;
@@ -152,7 +153,7 @@ module _ (n : ℕ) (ids places places' : List ℕ) (C : IsConsistent n ids place
 
     pub puts-pushed : Puts (meaning_of values ids places) (meaning_of (values ++ x ∷ []) (ids ++ id ∷ []) places') id x (Inserted id)
     puts-pushed = record {
-      touches = touches-one values (values ++ x ∷ []) ids (ids ++ id ∷ []) places places' id (Inserted id) refl (λ q ne. other_pushed q ne (found n ids places C q));
+      touches = touches-one values (values ++ x ∷ []) ids (ids ++ id ∷ []) places places' id (Inserted id) refl tt (λ q ne. other_pushed q ne (found n ids places C q));
       put = put-pushed;
     }
 
@@ -241,7 +242,7 @@ module _ (n l : ℕ) (ids places : List ℕ) (C : IsConsistent n ids places) (id
 
     pub frees-removed : Frees (meaning_of values ids places) (meaning_of (swap_remove values p x) (swap_remove ids p d) (slice_set places last p)) id
     frees-removed = record {
-      touches = touches-one values (swap_remove values p x) ids (swap_remove ids p d) places (slice_set places last p) id (Removed id) refl (λ q ne. other_removed q ne (found n ids places C q));
+      touches = touches-one values (swap_remove values p x) ids (swap_remove ids p d) places (slice_set places last p) id (Removed id) refl tt (λ q ne. other_removed q ne (found n ids places C q));
       freed = ap is_none freed-removed;
     }
 

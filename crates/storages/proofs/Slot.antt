@@ -1,5 +1,5 @@
 -- On a storage with its mask.
-use Rattle.std.proofs.Common.{◌≡◌, ◌≢◌, ℕ, Bool, true, false, nat_eq, cond, List, [], ◌∷◌, refl, ap, sym, ◌∙◌, ◌||◌, Some, None, IsTrue, is_some, not, ◌&&◌, subst}
+use Rattle.std.proofs.Common.{◌≡◌, ◌+◌, ◌≢◌, ℕ, Bool, true, false, nat_eq, cond, List, [], ◌∷◌, refl, ap, sym, ◌∙◌, ◌||◌, Some, None, IsTrue, is_some, not, ◌&&◌, subst}
 use Rattle.std.specs.Prelude.{Option, Result, Ok, Err, IfOk, length}
 use Rattle.std.specs.Borrow.{MutBor}
 use Rattle.std.proofs.lemmas.Bool.{false≢true}
@@ -128,6 +128,7 @@ module _ {T : Type 0} where
         ∙ put_at (nat_eq id q) (set.contains s q) id q m.at m'.at x refl p.put (λ ne h. p.touches.others q ne (k.present q h))
         ∙ sym (get-insert (slot_of s m).map id x q ∙ ap (cond (nat_eq id q) (Some x)) (get-slot s m q)));
     extent = p.touches.extent;
+    order = p.touches.order;
     channel = p.touches.channel;
     needs_room = p.touches.needs_room;
     room = p.touches.room;
@@ -151,6 +152,7 @@ module _ {T : Type 0} where
         ∙ free_at (nat_eq id q) (set.contains (set.remove s id) q) (set.contains s q) id q m.at m'.at refl (λ e. ap (set.contains (set.remove s id)) (sym (same_id id q e)) ∙ not_there s id) (contains-others s id q) (λ ne h. p.touches.others q ne (k.present q h))
         ∙ sym (get-remove (slot_of s m).map id q ∙ ap (cond (nat_eq id q) None) (get-slot s m q)));
     extent = p.touches.extent;
+    order = p.touches.order;
     channel = p.touches.channel;
     needs_room = p.touches.needs_room;
     room = p.touches.room;
@@ -178,6 +180,7 @@ module _ {T : Type 0} where
   keeps-slot s m m' k = record {
     map = same_map _ _ (λ q. get-slot s m' q ∙ ap (λ v. cond (set.contains s q) v None) (k.at q) ∙ sym (get-slot s m q));
     extent = k.extent;
+    order = k.order;
     channel = k.channel;
     needs_room = k.needs_room;
     room = k.room;
@@ -246,6 +249,7 @@ module _ {T : Type 0} where
     extent = c.extent ∙ b.extent ∙ ap (extent_after (Inserted id)) a.extent;
     channel = c.channel ∙ ap (λ k. emitted (Modified id) k) b.channel ∙ ap (λ k. emitted (Modified id) (emitted (Inserted id) k)) a.channel;
     needs_room = c.needs_room ∙ b.needs_room ∙ a.needs_room;
+    room = λ n h. c.room n (b.room (n + 1) (a.room (n + 1 + 1) h));
   }
 
   pub some_same : (o : Option T) (x y : T) → o ≡ Some x → o ≡ Some y → x ≡ y

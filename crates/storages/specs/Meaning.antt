@@ -30,6 +30,12 @@ extent_after (Inserted i) n = option_map (max (i + 1)) n
 extent_after (Modified i) n = n
 extent_after (Removed i) n = n
 
+-- a write to a component leaves each index at its place, where there is a slice without gaps; of the other calls nothing is said
+abbrev pub OrderAfter : ComponentEvent → List ℕ → List ℕ → Type 0
+OrderAfter (Inserted i) o o' = Unit {0}
+OrderAfter (Modified i) o o' = o' ≡ o
+OrderAfter (Removed i) o o' = Unit {0}
+
 -- the slice is empty, if there is one
 abbrev pub extent_cleared : Option ℕ → Option ℕ
 extent_cleared n = option_map (λ _. 0) n
@@ -40,6 +46,7 @@ module _ {T : Type 0} where
     pub others : (q : ℕ) → q ≢ id → IsTrue (is_some (m.at q)) → m'.at q ≡ m.at q
     pub free : (q : ℕ) → q ≢ id → m.is_free q ≡ true → m'.is_free q ≡ true
     pub extent : m'.extent ≡ extent_after e m.extent
+    pub order : OrderAfter e m.order m'.order
     pub channel : m'.channel ≡ emitted e m.channel
     pub needs_room : is_some m'.room ≡ is_some m.room
     pub room : (n : ℕ) → HasRoom m.room (n + 1) → HasRoom m'.room n
@@ -59,6 +66,7 @@ module _ {T : Type 0} where
     pub at : (q : ℕ) → m'.at q ≡ m.at q
     pub free : (q : ℕ) → m.is_free q ≡ true → m'.is_free q ≡ true
     pub extent : m'.extent ≡ m.extent
+    pub order : m'.order ≡ m.order
     pub channel : m'.channel ≡ m.channel
     pub needs_room : is_some m'.room ≡ is_some m.room
     pub room : (n : ℕ) → HasRoom m.room n → HasRoom m'.room n

@@ -9,7 +9,7 @@ use Rattle.storages.specs.contracts.event.ComponentEvent as event
 use Rattle.storages.specs.declared.event.ComponentEvent.{ComponentEvent}
 use Rattle.storages.specs.declared.event.ComponentEvent.TheVariants.{Inserted, Modified}
 use Rattle.storages.specs.Channel.{Channel, emitted, emitted_removals}
-use Rattle.storages.specs.Meaning.{Meaning, HasRoom, extent_after, extent_cleared}
+use Rattle.storages.specs.Meaning.{Meaning, HasRoom, OrderAfter, extent_after, extent_cleared}
 
 -- the component at each index that has one, the length of a slice that has each component at the place of its index,
 -- the index of each place of a slice without gaps, the channel, and for how many events there is room
@@ -67,6 +67,7 @@ module _ {T : Type 0} where
   pub record IsSame (s s' : Slot T) : Type 0 where
     pub map : s'.map ≡ s.map
     pub extent : s'.extent ≡ s.extent
+    pub order : s'.order ≡ s.order
     pub channel : s'.channel ≡ s.channel
     pub needs_room : is_some s'.room ≡ is_some s.room
     pub room : (n : ℕ) → HasRoom s.room n → HasRoom s'.room n
@@ -75,6 +76,7 @@ module _ {T : Type 0} where
   pub record Becomes (s s' : Slot T) (m : map.FinMap nat_cmp T) (e : ComponentEvent) : Type 0 where
     pub map : s'.map ≡ m
     pub extent : s'.extent ≡ extent_after e s.extent
+    pub order : OrderAfter e s.order s'.order
     pub channel : s'.channel ≡ emitted e s.channel
     pub needs_room : is_some s'.room ≡ is_some s.room
     pub room : (n : ℕ) → HasRoom s.room (n + 1) → HasRoom s'.room n
@@ -85,6 +87,7 @@ module _ {T : Type 0} where
     pub extent : s'.extent ≡ extent_after (Inserted id) s.extent
     pub channel : s'.channel ≡ emitted (Modified id) (emitted (Inserted id) s.channel)
     pub needs_room : is_some s'.room ≡ is_some s.room
+    pub room : (n : ℕ) → HasRoom s.room (n + 1 + 1) → HasRoom s'.room n
 
   -- the map has x at the index, after a write to the component, or to one that was inserted where there was none
   pub record Fills (s s' : Slot T) (id : ℕ) (x : T) : Type 0 where

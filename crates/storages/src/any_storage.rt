@@ -27,10 +27,9 @@ pub trait AnyStorage {
 
     /// Takes the components of the indices of these entities out, in the list's order, whether the entities live or not.
     /// After an error nothing has changed.
-    fn drop(&mut self, list: &[Entity]) -> Result<(), AllocError>
-        ensures ok { OnOk result (HasLost self.old self.new list.now) }
-        ensures err { OnErr result (IsUnchanged self.old self.new) }
-        ensures succeeds { IsReadyFor self.old list.now → IsOk result };
+    fn drop(&mut self, list: &[Entity])
+        requires { IsReadyFor self.old list.now }
+        ensures { HasLost self.old self.new list.now };
 }
 
 impl<T: Component> AnyStorage for MaskedStorage<T> {
@@ -47,10 +46,8 @@ impl<T: Component> AnyStorage for MaskedStorage<T> {
         self.reserve_events(list.len())
     }
 
-    fn drop(&mut self, list: &[Entity]) -> Result<(), AllocError> {
-        self.reserve_events(list.len())?;
+    fn drop(&mut self, list: &[Entity]) {
         self.drop_all(list);
-        Ok(())
     }
 }
 
