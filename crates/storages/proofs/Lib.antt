@@ -6,3 +6,6 @@ pub mod Removals
 pub mod Null
 pub mod SliceLends
 pub mod Indices
+pub mod Unread
+pub mod Readers
+pub mod Telling

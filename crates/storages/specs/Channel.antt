@@ -1,7 +1,8 @@
 -- What a channel of events means.
-use Rattle.std.specs.Prelude.{ℕ, Bool, List, [], ◌∷◌, ◌++◌, cond, false}
+use Rattle.std.specs.Prelude.{ℕ, Bool, List, [], ◌∷◌, cond, false}
 use Rattle.storages.specs.declared.event.ComponentEvent.{ComponentEvent}
 use Rattle.storages.specs.declared.event.ComponentEvent.TheVariants.{Removed}
+use Rattle.storages.specs.Unread.{written}
 
 -- how many readers were ever registered, the registered ones with their unread events, and whether events are emitted
 pub record Channel : Type 0 where
@@ -12,11 +13,6 @@ pub record Channel : Type 0 where
 -- a channel that nobody can read, as of a storage that is not tracked
 abbrev pub silent : Channel
 silent = record { registered = 0; readers = []; emission = false }
-
--- one event more for each reader
-abbrev pub written : ComponentEvent → List (ℕ × List ComponentEvent) → List (ℕ × List ComponentEvent)
-written e [] = []
-written e (r ∷ rs) = (r.0, r.1 ++ e ∷ []) ∷ written e rs
 
 -- the channel after an event, which nobody gets while emission is off
 abbrev pub emitted : ComponentEvent → Channel → Channel

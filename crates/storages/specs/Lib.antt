@@ -1,6 +1,10 @@
 pub mod Limit
+pub mod Unread
 pub mod Channel
 pub mod Meaning
+pub mod ChannelState
+pub mod Readers
+pub mod Flagged
 pub mod Vec
 pub mod Dense
 pub mod DefaultVec
@@ -9,6 +13,8 @@ pub mod Null
 pub mod SliceLends
 pub mod Slices
 pub mod Slot
+pub mod Tracking
+pub mod Lent
 pub mod Removals
 pub mod Lending
 pub mod Life

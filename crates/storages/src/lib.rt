@@ -5,22 +5,30 @@
 mod anti_storage;
 mod any_storage;
 mod builder;
+mod channel;
 mod entry;
 mod event;
+#[cfg(test)]
+mod event_tests;
+mod flagged;
 mod generic;
 mod kinds;
 mod life;
 mod masked;
 mod read_storage;
+mod reader_id;
 mod slices;
+mod tracked;
 mod unprotected;
 mod write_storage;
 
 pub use anti_storage::AntiStorage;
 pub use any_storage::AnyStorage;
 pub use builder::WithComponent;
+pub use channel::EventChannel;
 pub use entry::{OccupiedEntry, StorageEntry, VacantEntry};
 pub use event::ComponentEvent;
+pub use flagged::FlaggedStorage;
 pub use generic::{GenericReadStorage, GenericWriteStorage};
 pub use kinds::{
     BTreeStorage, DefaultVecStorage, DenseVecStorage, HashMapStorage, NullComponent, NullStorage,
@@ -28,6 +36,8 @@ pub use kinds::{
 };
 pub use masked::{MaskedStorage, NotLent, Replaced};
 pub use read_storage::ReadStorage;
+pub use reader_id::{ReaderId, UnknownReader};
 pub use slices::{SliceAccess, SliceAccessMut};
+pub use tracked::Tracked;
 pub use unprotected::{Component, TryDefault, UnprotectedStorage};
 pub use write_storage::{InsertError, WriteStorage};

@@ -22,11 +22,23 @@ impl<T> TryDefault for DenseVecStorage<T> {
     ghost IsDefault = { λ s. s.places.items ≡ [] };
 
     fn try_default(alloc: Global) -> Result<Self, String> {
-        Ok(DenseVecStorage {
+        Ok(DenseVecStorage::new(alloc))
+    }
+}
+
+impl<T> DenseVecStorage<T> {
+    ghost use Rattle.storages.specs.Dense.{meaning_of};
+    ghost use Rattle.storages.specs.Meaning.{IsNew};
+
+    /// A storage without values, which takes no memory.
+    pub fn new(alloc: Global) -> Self
+        ensures { IsNew (meaning_of result.values.items result.ids.items result.places.items) }
+    {
+        DenseVecStorage {
             values: Vec::new(alloc),
             ids: Vec::new(alloc),
             places: Vec::new(alloc),
-        })
+        }
     }
 }
 

@@ -1,0 +1,121 @@
+//! Values that were added to entities, until someone applies them.
+ghost use Rattle.std.specs.Prelude.{◌≡◌, ◌↔◌, ◌≤◌, ◌^◌, ℕ, Some, None, false, IsOk, IsSome, OnOk, OnErr, IfSome, is_some};
+ghost use Rattle.std.specs.FinMap as map;
+ghost use Rattle.entities.specs.Population.{index_of};
+ghost use Rattle.storages.specs.Limit.{IsIndex};
+ghost use Rattle.joins.specs.Changes.{with_change, all_changed, Stops, value_at};
+
+use crate::combine::Combine;
+use entities::Entity;
+use hibits::{INDEX_LIMIT, Index};
+use std::alloc::{AllocError, Global};
+use std::marker::Model;
+use storages::{Component, DenseVecStorage, MaskedStorage};
+
+/// Why a value was not added. The change set is as before.
+#[derive(Clone, Copy, Debug, PartialEq, Eq, thiserror::Error)]
+pub enum ChangeError {
+    /// The value that is there refused to take the new one in.
+    #[error("the value refuses to combine with another")]
+    Refused,
+    /// The entity's index is not below the limit of 16,777,216.
+    #[error("the index is not below the limit")]
+    IndexLimit,
+    /// Memory was refused for the entity's first value.
+    #[error("out of memory")]
+    OutOfMemory,
+}
+
+// What a change set keeps at an index.
+#[derive(Drop)]
+struct Change<T> {
+    value: T,
+}
+
+impl<T: Drop> Component for Change<T> {
+    type Storage = DenseVecStorage<Self>;
+}
+
+/// For each entity's index the values that were added there, combined in the order of the calls. Only the index of an entity counts.
+///
+/// Contracts see it as a finite map from indices to values. Ports `specs::changeset::ChangeSet`.
+#[derive(Drop)]
+pub struct ChangeSet<T: Drop> {
+    changes: MaskedStorage<Change<T>>,
+}
+
+impl<T: Drop> Model for ChangeSet<T> {
+    ghost use Rattle.std.specs.Prelude.{ℕ};
+    ghost use Rattle.std.specs.Coded.{coded_ℕ};
+    ghost use Rattle.std.specs.Ordering.{nat_cmp};
+    ghost use Rattle.joins.specs.Held.{held};
+
+    ghost Value = { map.FinMap nat_cmp T };
+
+    ghost coded = { map.code coded_ℕ T.code };
+
+    ghost view = { λ s. held s.changes.map };
+
+    ghost invariant = { λ s. is_some s.changes.room ≡ false };
+}
+
+impl<T: Combine + Drop> ChangeSet<T> {
+    /// Without values.
+    pub fn new(alloc: Global) -> Self
+        ensures { result ≡ map.empty }
+    {
+        ChangeSet {
+            changes: MaskedStorage::new(alloc, DenseVecStorage::new(alloc)),
+        }
+    }
+
+    /// Adds a value at an entity's index, to the one that is there, if there is one. It takes memory only where there is none.
+    #[inline(always)]
+    pub fn add(&mut self, entity: Entity, value: T) -> Result<(), ChangeError>
+        ensures ok { OnOk result (self.new ≡ with_change T.combined self.old (index_of entity) value) }
+        ensures err { OnErr result (self.new ≡ self.old) }
+        ensures refused { (result ≡ Err ChangeError.Refused) → value_at self.old (index_of entity) (λ x. T.may_refuse x value) }
+        ensures limit { (result ≡ Err ChangeError.IndexLimit) ↔ (2 ^ 24 ≤ index_of entity) }
+        ensures memory { (result ≡ Err ChangeError.OutOfMemory) → map.get self.old (index_of entity) ≡ None }
+    {
+        let id = entity.id();
+        if id >= INDEX_LIMIT {
+            return Err(ChangeError::IndexLimit);
+        }
+        if self.changes.contains(id) {
+            return self.combine_at(id, value);
+        }
+        match self.changes.insert(id, Change { value }) {
+            Ok(()) => Ok(()),
+            Err(_) => Err(ChangeError::OutOfMemory),
+        }
+    }
+
+    // Adds a value to the one that is there.
+    #[inline(always)]
+    fn combine_at(&mut self, id: Index, value: T) -> Result<(), ChangeError>
+        requires { IsSome (map.get self.old id) }
+        ensures ok { OnOk result (self.new ≡ with_change T.combined self.old id value) }
+        ensures err { OnErr result (self.new ≡ self.old) }
+        ensures refused { OnErr result (value_at self.old id (λ x. T.may_refuse x value)) }
+        ensures error { (result ≡ Ok ()) || (result ≡ Err ChangeError.Refused) }
+    {
+        let Ok(change) = self.changes.present_mut(id) else {
+            unreachable!()
+        };
+        match change.value.combine(value) {
+            Ok(()) => Ok(()),
+            Err(_) => Err(ChangeError::Refused),
+        }
+    }
+
+    /// Takes every value out.
+    pub fn clear(&mut self)
+        ensures { self.new ≡ map.empty }
+    {
+        match self.changes.clear() {
+            Ok(()) => {}
+            Err(_) => unreachable!(),
+        }
+    }
+}

@@ -1,0 +1,21 @@
+//! Values that take others of their kind in.
+ghost use Rattle.std.specs.Prelude.{◌≡◌, ◌+◌, OnOk, OnErr};
+
+/// A value did not take another in, and is as it was.
+#[derive(Clone, Copy, Debug, PartialEq, Eq)]
+pub struct Refused;
+
+/// A value that takes others of its kind in, one after another. It stands for `AddAssign` of specs, whose sums can overflow.
+pub trait Combine: Sized {
+    // What a value becomes that takes the other in.
+    ghost combined: { Self → Self → Self };
+
+    // Holds where a value may refuse to take the other in.
+    ghost may_refuse: { Self → Self → Type 0 };
+
+    /// Takes another value in, or leaves this one as it was.
+    fn combine(&mut self, other: Self) -> Result<(), Refused>
+        ensures ok { OnOk result (self.new ≡ combined self.old other) }
+        ensures err { OnErr result (self.new ≡ self.old) }
+        ensures refused { OnErr result (may_refuse self.old other) };
+}
