@@ -80,8 +80,10 @@ impl<P: Pointed> Moving<P> {
 
     /// Takes the components of entities out.
     pub fn strip(&mut self, list: &[Entity]) -> Result<()> {
-        AnyStorage::drop(&mut self.positions, list)?;
-        AnyStorage::drop(&mut self.velocities, list)?;
+        AnyStorage::reserve_drop(&mut self.positions, list)?;
+        AnyStorage::drop(&mut self.positions, list);
+        AnyStorage::reserve_drop(&mut self.velocities, list)?;
+        AnyStorage::drop(&mut self.velocities, list);
         Ok(())
     }
 

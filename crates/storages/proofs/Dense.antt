@@ -104,6 +104,8 @@ touches-one values values' ids ids' places places' id e extent order others = re
   channel = refl;
   needs_room = refl;
   room = λ k h. tt;
+  needs_inner = refl;
+  inner_room = λ k h. tt;
 }
 
 -- after an insertion

@@ -11,7 +11,7 @@ use Rattle.storages.specs.declared.event.ComponentEvent.TheVariants.{Removed}
 use Rattle.storages.specs.Channel.{Channel, emitted, emitted_removals}
 use Rattle.storages.specs.Meaning.{HasRoom}
 use Rattle.storages.specs.Slot.{Slot, Becomes}
-use Rattle.storages.specs.Removals.{lost, without_one}
+use Rattle.storages.specs.Removals.{lost, lost_of, without_one}
 use Rattle.storages.proofs.Indices.{same_id}
 use Rattle.storages.proofs.Slot.{get-remove}
 
@@ -54,6 +54,12 @@ module _ {T : Type 0} where
       ∙ emitted-cons (index_of e) (lost es (without_one (λ q. map.contains_key s.map q) (index_of e))) s.channel
       ∙ ap (λ c. emitted_removals (cond c (index_of e ∷ lost es (without_one (λ q. map.contains_key s.map q) (index_of e))) (lost es (λ q. map.contains_key s.map q))) s.channel) (sym h)
 
+  pub step-count : (e : Entity) (es : List Entity) (s t : Slot T) → map.contains_key s.map (index_of e) ≡ true → Becomes s t (map.remove s.map (index_of e)) (Removed (index_of e))
+      → length (lost_of (e ∷ es) s) ≡ suc (length (lost_of es t))
+  step-count e es s t h b =
+      ap (λ c. length (cond c (index_of e ∷ lost es (without_one (λ q. map.contains_key s.map q) (index_of e))) (lost es (λ q. map.contains_key s.map q)))) h
+      ∙ ap (λ (has : ℕ → Bool). suc (length (lost es has))) (sym (keys-removed s.map t.map (index_of e) b.map))
+
   none_of : (o : Option T) → is_some o ≡ false → (b : Bool) → cond b None o ≡ o
   none_of None h true = refl
   none_of (Some x) h true = cc
@@ -73,6 +79,16 @@ module _ {T : Type 0} where
       → emitted_removals (lost es (λ q. map.contains_key s.map q)) s.channel ≡ emitted_removals (lost (e ∷ es) (λ q. map.contains_key s.map q)) s.channel
   skip-channel e es s h = ap (λ c. emitted_removals (cond c (index_of e ∷ lost es (without_one (λ q. map.contains_key s.map q) (index_of e))) (lost es (λ q. map.contains_key s.map q))) s.channel) (sym h)
 
+  pub skip-count : (e : Entity) (es : List Entity) (s : Slot T) → map.contains_key s.map (index_of e) ≡ false → length (lost_of (e ∷ es) s) ≡ length (lost_of es s)
+  skip-count e es s h = ap (λ c. length (cond c (index_of e ∷ lost es (without_one (λ q. map.contains_key s.map q) (index_of e))) (lost es (λ q. map.contains_key s.map q)))) h
+
+-- room for one event and k more
+one_more : (r : Option ℕ) (a k n : ℕ) → a ≡ suc k → HasRoom r (a + n) → HasRoom r (k + n + 1)
+one_more r a k n e h = subst (HasRoom r) (moved k n) (subst (λ m. HasRoom r (m + n)) e h)
+  where
+    moved : (k n : ℕ) → suc k + n ≡ k + n + 1
+    moved k n = omega arith
+
 -- what is still to be taken out of s, where all of es₀ was to be taken out of s₀ and es is left
 pub record IsOnTheWay {T : Type 0} (s s₀ : Slot T) (es es₀ : List Entity) : Type 0 where
   pub get : (q : ℕ) → cond (has_index es q) None (map.get s.map q) ≡ cond (has_index es₀ q) None (map.get s₀.map q)
@@ -80,6 +96,9 @@ pub record IsOnTheWay {T : Type 0} (s s₀ : Slot T) (es es₀ : List Entity) : 
   pub channel : emitted_removals (lost es (λ q. map.contains_key s.map q)) s.channel ≡ emitted_removals (lost es₀ (λ q. map.contains_key s₀.map q)) s₀.channel
   pub needs_room : is_some s.room ≡ is_some s₀.room
   pub room : HasRoom s.room (length es)
+  pub remains : (n : ℕ) → HasRoom s₀.room (length (lost_of es₀ s₀) + n) → HasRoom s.room (length (lost_of es s) + n)
+  pub needs_inner : is_some s.inner_room ≡ is_some s₀.inner_room
+  pub inner_remains : (n : ℕ) → HasRoom s₀.inner_room (length (lost_of es₀ s₀) + n) → HasRoom s.inner_room (length (lost_of es s) + n)
 
 module _ {T : Type 0} (s s₀ : Slot T) (e : Entity) (es es₀ : List Entity) (w : IsOnTheWay s s₀ (e ∷ es) es₀) where
   pub way_on : (t : Slot T) → map.contains_key s.map (index_of e) ≡ true → Becomes s t (map.remove s.map (index_of e)) (Removed (index_of e)) → IsOnTheWay t s₀ es es₀
@@ -89,6 +108,9 @@ module _ {T : Type 0} (s s₀ : Slot T) (e : Entity) (es es₀ : List Entity) (w
     channel = step-channel e es s t h b ∙ w.channel;
     needs_room = b.needs_room ∙ w.needs_room;
     room = b.room (length es) (rw (add-one (length es)) w.room);
+    remains = λ n r. b.room (length (lost_of es t) + n) (one_more s.room _ _ n (step-count e es s t h b) (w.remains n r));
+    needs_inner = b.needs_inner ∙ w.needs_inner;
+    inner_remains = λ n r. b.inner_room (length (lost_of es t) + n) (one_more s.inner_room _ _ n (step-count e es s t h b) (w.inner_remains n r));
   }
 
   pub way_past : map.contains_key s.map (index_of e) ≡ false → IsOnTheWay s s₀ es es₀
@@ -98,6 +120,9 @@ module _ {T : Type 0} (s s₀ : Slot T) (e : Entity) (es es₀ : List Entity) (w
     channel = skip-channel e es s h ∙ w.channel;
     needs_room = w.needs_room;
     room = less_room s.room w.room;
+    remains = λ n r. subst (λ m. HasRoom s.room (m + n)) (skip-count e es s h) (w.remains n r);
+    needs_inner = w.needs_inner;
+    inner_remains = λ n r. subst (λ m. HasRoom s.inner_room (m + n)) (skip-count e es s h) (w.inner_remains n r);
   }
     where
       less_room : (r : Option ℕ) → HasRoom r (suc (length es)) → HasRoom r (length es)

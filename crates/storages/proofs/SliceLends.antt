@@ -61,6 +61,7 @@ module _ {T : Type 0} (n : ℕ) (ids places : List ℕ) (C : IsConsistent n ids 
       order = refl;
       channel = refl;
       room = refl;
+      inner_room = refl;
       at = λ q h. sym (item-dense values' len' q (still q h));
     }
 
@@ -93,4 +94,4 @@ module _ {T : Type 0} (item_at : List ℕ → List T → ℕ → Option T) where
       let same : (slot_of s m').map ≡ (with_slice item_at (slot_of s m) xs).map = same_map _ _ (λ q.
       get-slot s m' q ∙ same_there s m m' xs q (set.contains s q) (λ h. p.at q (k.present q h))
       ∙ sym (get-with_slice (slot_of s m) xs q ∙ ap (λ b. cond b (item_at m.order xs q) None) (contains-slot s m k q))) in
-      λ j. record { map = same j; extent = p.extent j; order = p.order j; channel = p.channel j; room = p.room j }
+      λ j. record { map = same j; extent = p.extent j; order = p.order j; channel = p.channel j; room = p.room j; inner_room = p.inner_room j }

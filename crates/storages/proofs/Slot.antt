@@ -13,7 +13,7 @@ use Rattle.storages.specs.declared.event.ComponentEvent.TheVariants.{Inserted, M
 use Rattle.storages.specs.Channel.{emitted, emitted_removals}
 use Rattle.storages.specs.Meaning.{Meaning, HasRoom, Masks, Puts, Frees, Keeps, Empties, Writes, Refuses, SamePresence, extent_after}
 use Rattle.storages.specs.Lending.{SlotWrites, SlotRefuses}
-use Rattle.storages.specs.Slot.{Slot, map_of, with_option, slot_of, indices_of, IsSame, Becomes, Inserts, Clears, SameKeys}
+use Rattle.storages.specs.Slot.{Slot, map_of, with_option, slot_of, indices_of, IsSame, Becomes, Inserts, Fills, Clears, SameKeys}
 use Rattle.hibits.specs.Left.{left}
 use Rattle.storages.proofs.Indices.{turned, itself, same_id, other_id}
 
@@ -132,6 +132,8 @@ module _ {T : Type 0} where
     channel = p.touches.channel;
     needs_room = p.touches.needs_room;
     room = p.touches.room;
+    needs_inner = p.touches.needs_inner;
+    inner_room = p.touches.inner_room;
   }
 
   pub inserts-slot : (s : set.FinSet nat_cmp) (m m' : Meaning T) (id : ℕ) (x : T) → Masks s m → Puts m m' id x (Inserted id)
@@ -156,6 +158,8 @@ module _ {T : Type 0} where
     channel = p.touches.channel;
     needs_room = p.touches.needs_room;
     room = p.touches.room;
+    needs_inner = p.touches.needs_inner;
+    inner_room = p.touches.inner_room;
   }
 
   -- the indices of the mask are those of the map
@@ -168,7 +172,13 @@ module _ {T : Type 0} where
     extent = p.extent;
     channel = p.channel ∙ ap (λ ids. emitted_removals ids m.channel) (indices-slot s m k);
     needs_room = p.needs_room;
+    room = λ n h. p.room n (as_many m.room n h);
+    needs_inner = p.needs_inner;
+    inner_room = λ n h. p.inner_room n (as_many m.inner_room n h);
   }
+    where
+      as_many : (r : Option ℕ) (n : ℕ) → HasRoom r (length (indices_of (slot_of s m)) + n) → HasRoom r (length (left (λ i. set.contains s i) 0) + n)
+      as_many r n h = subst (λ (ids : List ℕ). HasRoom r (length ids + n)) (sym (indices-slot s m k)) h
 
   pub masks-cleared : (m m' : Meaning T) (ids : List ℕ) → Empties m m' ids → Masks set.empty m'
   masks-cleared m m' ids p = record {
@@ -184,6 +194,8 @@ module _ {T : Type 0} where
     channel = k.channel;
     needs_room = k.needs_room;
     room = k.room;
+    needs_inner = k.needs_inner;
+    inner_room = k.inner_room;
   }
 
   -- what the mask is to the storage after each call
@@ -250,6 +262,33 @@ module _ {T : Type 0} where
     channel = c.channel ∙ ap (λ k. emitted (Modified id) k) b.channel ∙ ap (λ k. emitted (Modified id) (emitted (Inserted id) k)) a.channel;
     needs_room = c.needs_room ∙ b.needs_room ∙ a.needs_room;
     room = λ n h. c.room n (b.room (n + 1) (a.room (n + 1 + 1) h));
+    needs_inner = c.needs_inner ∙ b.needs_inner ∙ a.needs_inner;
+    inner_room = λ n h. c.inner_room n (b.inner_room (n + 1) (a.inner_room (n + 1 + 1) h));
+  }
+
+  -- a write where the index has a component, or an insertion and a write where it has none
+  pub fills_there : (s t : Slot T) (id : ℕ) (x : T) → map.contains_key s.map id ≡ true → Becomes s t (map.insert s.map id x) (Modified id) → Fills s t id x
+  fills_there s t id x h b = record {
+    extent = b.extent ∙ sym (ap (λ c. cond c s.extent (extent_after (Inserted id) s.extent)) h);
+    order = λ some. b.order;
+    channel = b.channel ∙ sym (ap (λ c. emitted (Modified id) (cond c s.channel (emitted (Inserted id) s.channel))) h);
+    needs_room = b.needs_room;
+    room = λ n r. b.room n (subst (λ c. HasRoom s.room (cond c (n + 1) (n + 1 + 1))) h r);
+    needs_inner = b.needs_inner;
+    inner_room = λ n r. b.inner_room n (subst (λ c. HasRoom s.inner_room (cond c (n + 1) (n + 1 + 1))) h r);
+    map = b.map;
+  }
+
+  pub fills_new : (s t : Slot T) (id : ℕ) (x : T) → map.contains_key s.map id ≡ false → Inserts s t id x → Fills s t id x
+  fills_new s t id x h b = record {
+    extent = b.extent ∙ sym (ap (λ c. cond c s.extent (extent_after (Inserted id) s.extent)) h);
+    order = λ some. absurd (false≢true (sym h ∙ some));
+    channel = b.channel ∙ sym (ap (λ c. emitted (Modified id) (cond c s.channel (emitted (Inserted id) s.channel))) h);
+    needs_room = b.needs_room;
+    room = λ n r. b.room n (subst (λ c. HasRoom s.room (cond c (n + 1) (n + 1 + 1))) h r);
+    needs_inner = b.needs_inner;
+    inner_room = λ n r. b.inner_room n (subst (λ c. HasRoom s.inner_room (cond c (n + 1) (n + 1 + 1))) h r);
+    map = b.map;
   }
 
   pub some_same : (o : Option T) (x y : T) → o ≡ Some x → o ≡ Some y → x ≡ y

@@ -11,7 +11,7 @@ use Rattle.storages.specs.Meaning.{Meaning, IsNew}
 module _ {T : Type 0} where
   -- a map as the function that finds the value at an index
   abbrev pub meaning_by : (ℕ → Option T) → Meaning T
-  meaning_by get = record { at = get; is_free = λ q. is_none (get q); extent = None; order = []; channel = silent; room = None }
+  meaning_by get = record { at = get; is_free = λ q. is_none (get q); extent = None; order = []; channel = silent; room = None; inner_room = None }
 
   abbrev pub meaning_of_hash : {S : Type 0} → hash.HashMap ℕ T S → Meaning T
   meaning_of_hash m = meaning_by (hash.get nat_eq m)
@@ -20,7 +20,7 @@ module _ {T : Type 0} where
   meaning_of_tree m = meaning_by (tree.get nat_cmp m)
 
   pub new_of_no_hash : {S : Type 0} (m : hash.HashMap ℕ T S) → hash.IsEmpty m → IsNew (meaning_of_hash m)
-  new_of_no_hash m e = record { free = λ q. ap (λ (es : List (ℕ × T)). is_none (lookup (nat_eq q) es)) e; extent = refl; registered = refl; readers = refl; room = refl }
+  new_of_no_hash m e = record { free = λ q. ap (λ (es : List (ℕ × T)). is_none (lookup (nat_eq q) es)) e; extent = refl; registered = refl; readers = refl; emission = refl; room = refl; inner_room = refl }
 
   pub new_of_no_tree : (m : tree.BTreeMap ℕ T) → tree.IsEmpty m → IsNew (meaning_of_tree m)
-  new_of_no_tree m e = record { free = λ q. ap (λ (es : List (ℕ × T)). is_none (lookup (tree.is_at (nat_cmp q)) es)) e; extent = refl; registered = refl; readers = refl; room = refl }
+  new_of_no_tree m e = record { free = λ q. ap (λ (es : List (ℕ × T)). is_none (lookup (tree.is_at (nat_cmp q)) es)) e; extent = refl; registered = refl; readers = refl; emission = refl; room = refl; inner_room = refl }

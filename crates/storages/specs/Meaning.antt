@@ -1,16 +1,18 @@
 -- What the state of a storage means, and what each call makes of it.
-use Rattle.std.specs.Prelude.{◌≡◌, ◌≢◌, ℕ, ◌+◌, ◌≤◌, max, Bool, true, false, Option, Some, None, List, [], is_some, option_map, IsTrue, Result, IsOk, OnErr}
+use Rattle.std.specs.Prelude.{◌≡◌, ◌≢◌, ℕ, ◌+◌, ◌≤◌, max, Bool, true, false, Option, Some, None, List, [], is_some, option_map, IsTrue, Result, IsOk, OnErr, length, ◌||◌}
 use Rattle.std.specs.Ordering.{nat_cmp}
 use Rattle.std.specs.FinSet as set
 use Rattle.std.specs.Borrow.{RattleType, MutBor, Fml, follows_so, name_if_ok}
 use Rattle.storages.specs.declared.event.ComponentEvent.{ComponentEvent}
 use Rattle.storages.specs.declared.event.ComponentEvent.TheVariants.{Inserted, Modified, Removed}
-use Rattle.storages.specs.Channel.{Channel, emitted, emitted_removals}
+use Rattle.storages.specs.Channel.{Channel, emitted, emitted_removals, is_heard}
 
 -- What a storage is to its callers. `at` is what `get` shows at each index, and `is_free` tells where a value may be
 -- inserted. `extent` is the length of a slice that has each value at the place of its index, and `None` where there is
 -- no such slice. `order` has the index of each place of a slice without gaps, and is
 -- empty where there is no such slice. `room` is for how many events there is room, and `None` where no event needs any.
+-- `inner_room` is the same of the storage that a tracked one holds, and so what `room` is while no event is emitted; it
+-- is `None` where a storage holds none.
 pub record Meaning (T : Type 0) : Type 0 where
   pub at : ℕ → Option T
   pub is_free : ℕ → Bool
@@ -18,6 +20,7 @@ pub record Meaning (T : Type 0) : Type 0 where
   pub order : List ℕ
   pub channel : Channel
   pub room : Option ℕ
+  pub inner_room : Option ℕ
 
 -- there is room for n events
 abbrev pub HasRoom : Option ℕ → ℕ → Type 0
@@ -50,6 +53,8 @@ module _ {T : Type 0} where
     pub channel : m'.channel ≡ emitted e m.channel
     pub needs_room : is_some m'.room ≡ is_some m.room
     pub room : (n : ℕ) → HasRoom m.room (n + 1) → HasRoom m'.room n
+    pub needs_inner : is_some m'.inner_room ≡ is_some m.inner_room
+    pub inner_room : (n : ℕ) → HasRoom m.inner_room (n + 1) → HasRoom m'.inner_room n
 
   -- the index has the value now
   pub record Puts (m m' : Meaning T) (id : ℕ) (x : T) (e : ComponentEvent) : Type 0 where
@@ -70,21 +75,33 @@ module _ {T : Type 0} where
     pub channel : m'.channel ≡ m.channel
     pub needs_room : is_some m'.room ≡ is_some m.room
     pub room : (n : ℕ) → HasRoom m.room n → HasRoom m'.room n
+    pub needs_inner : is_some m'.inner_room ≡ is_some m.inner_room
+    pub inner_room : (n : ℕ) → HasRoom m.inner_room n → HasRoom m'.inner_room n
 
-  -- every index is free, and the removals of the ids were emitted
+  -- every index is free, and the removals of the ids were emitted, which took room for as many events
   pub record Empties (m m' : Meaning T) (ids : List ℕ) : Type 0 where
     pub freed : (q : ℕ) → m'.is_free q ≡ true
     pub extent : m'.extent ≡ extent_cleared m.extent
     pub channel : m'.channel ≡ emitted_removals ids m.channel
     pub needs_room : is_some m'.room ≡ is_some m.room
+    pub room : (n : ℕ) → HasRoom m.room (length ids + n) → HasRoom m'.room n
+    pub needs_inner : is_some m'.inner_room ≡ is_some m.inner_room
+    pub inner_room : (n : ℕ) → HasRoom m.inner_room (length ids + n) → HasRoom m'.inner_room n
 
-  -- a storage as it begins: empty, with no reader
+  -- a storage as it begins: empty, with no reader, and a tracked one emits its events
   pub record IsNew (m : Meaning T) : Type 0 where
     pub free : (q : ℕ) → m.is_free q ≡ true
     pub extent : m.extent ≡ extent_cleared m.extent
     pub registered : m.channel.registered ≡ 0
     pub readers : m.channel.readers ≡ []
+    pub emission : m.channel.emission ≡ m.channel.tracked
     pub room : m.room ≡ None
+    pub inner_room : m.inner_room ≡ None
+
+  -- an event needs room exactly while the inner storage's does, or a reader gets it; and room for it is room there too
+  pub record IsWanted (m : Meaning T) : Type 0 where
+    pub wanted : is_some m.room ≡ (is_some m.inner_room || is_heard m.channel)
+    pub inner : (n : ℕ) → HasRoom m.room n → HasRoom m.inner_room n
 
   -- a call that writes one event cannot be refused
   abbrev pub IsReady : Meaning T → Type 0

@@ -25,6 +25,7 @@ module _ {T : Type 0} (item_at : List ℕ → List T → ℕ → Option T) where
     pub order : m'.order ≡ m.order
     pub channel : m'.channel ≡ m.channel
     pub room : m'.room ≡ m.room
+    pub inner_room : m'.inner_room ≡ m.inner_room
     pub at : (q : ℕ) → IsTrue (is_some (m.at q)) → m'.at q ≡ item_at m.order xs q
 
   -- the slot whose components are what xs has at their indices' places

@@ -2,7 +2,7 @@
 ghost use Rattle.std.specs.Prelude.{◌≡◌, ◌<◌, ◌+◌, ◌^◌, ◌++◌, ◌∷◌, ℕ, [], None, Some, is_some, IsOk, OnOk, OnErr, IfOk, IfErr, IfSome, MatchOption, MatchResult, true, false, map, length};
 ghost use Rattle.std.specs.List.{remove};
 ghost use Rattle.storages.specs.Unread.{written, unread_of, is_read, emptied, dropped, first_dropped};
-ghost use Rattle.storages.specs.Readers.{shown, least};
+ghost use Rattle.storages.specs.Readers.{shown, least_room};
 ghost use Rattle.storages.specs.Meaning.{HasRoom};
 
 use crate::reader_id::{ReaderId, UnknownReader};
@@ -40,13 +40,12 @@ impl<E> Model for EventChannel<E> {
 }
 
 impl<E: Copy> EventChannel<E> {
-    ghost use Rattle.storages.specs.ChannelState.{KeepsEvents};
+    ghost use Rattle.storages.specs.ChannelState.{KeepsEvents, room_in};
 
     /// A channel without readers.
     pub fn new(alloc: Global) -> Self
         ensures readers { result.readers ≡ [] }
         ensures registered { result.registered ≡ 0 }
-        ensures spare { result.spare ≡ None }
     {
         EventChannel {
             readers: Vec::new(alloc),
@@ -79,8 +78,8 @@ impl<E: Copy> EventChannel<E> {
     #[inline(always)]
     pub fn reserve(&mut self, n: usize) -> Result<(), AllocError>
         ensures keeps { KeepsEvents self.old self.new }
-        ensures ok { OnOk result (HasRoom self.new.spare n) }
-        ensures succeeds { HasRoom self.old.spare n → IsOk result }
+        ensures ok { OnOk result (HasRoom (room_in self.new) n) }
+        ensures succeeds { HasRoom (room_in self.old) n → IsOk result }
     {
         reserve_all(&mut self.readers, n)
     }
@@ -90,10 +89,10 @@ impl<E: Copy> EventChannel<E> {
     pub fn single_write(&mut self, event: E) -> Result<(), AllocError>
         ensures ok { OnOk result (self.new.readers ≡ written event self.old.readers) }
         ensures registered { self.new.registered ≡ self.old.registered }
-        ensures needs_room { is_some self.new.spare ≡ is_some self.old.spare }
-        ensures room { (n : ℕ) → HasRoom self.old.spare (n + 1) → HasRoom self.new.spare n }
+        ensures needs_room { is_some (room_in self.new) ≡ is_some (room_in self.old) }
+        ensures room { (n : ℕ) → HasRoom (room_in self.old) (n + 1) → HasRoom (room_in self.new) n }
         ensures err { OnErr result (KeepsEvents self.old self.new) }
-        ensures succeeds { HasRoom self.old.spare 1 → IsOk result }
+        ensures succeeds { HasRoom (room_in self.old) 1 → IsOk result }
     {
         self.reserve(1)?;
         self.write_reserved(event);
@@ -103,11 +102,11 @@ impl<E: Copy> EventChannel<E> {
     /// Writes an event in room that is there.
     #[inline(always)]
     pub fn write_reserved(&mut self, event: E)
-        requires { HasRoom self.old.spare 1 }
+        requires { HasRoom (room_in self.old) 1 }
         ensures readers { self.new.readers ≡ written event self.old.readers }
         ensures registered { self.new.registered ≡ self.old.registered }
-        ensures needs_room { is_some self.new.spare ≡ is_some self.old.spare }
-        ensures room { (n : ℕ) → HasRoom self.old.spare (n + 1) → HasRoom self.new.spare n }
+        ensures needs_room { is_some (room_in self.new) ≡ is_some (room_in self.old) }
+        ensures room { (n : ℕ) → HasRoom (room_in self.old) (n + 1) → HasRoom (room_in self.new) n }
     {
         write_all(&mut self.readers, event);
     }
@@ -118,7 +117,7 @@ impl<E: Copy> EventChannel<E> {
         ensures events { MatchResult result (λ v. unread_of id.now self.old.readers ≡ Some v.items) (λ _. unread_of id.now self.old.readers ≡ None) }
         ensures readers { self.new.readers ≡ emptied id.now self.old.readers }
         ensures registered { self.new.registered ≡ self.old.registered }
-        ensures needs_room { is_some self.new.spare ≡ is_some self.old.spare }
+        ensures needs_room { is_some (room_in self.new) ≡ is_some (room_in self.old) }
     {
         match take_unread(&mut self.readers, id.number, self.alloc) {
             Some(events) => Ok(events),
@@ -146,7 +145,7 @@ impl<E: Copy> EventChannel<E> {
     /// Whether there is a reader, so that an event needs room.
     #[inline(always)]
     pub fn has_readers(&self) -> bool
-        ensures exact { result ≡ is_some self.now.spare }
+        ensures exact { result ≡ is_some (room_in self.now) }
         ensures read { result ≡ is_read self.now.readers }
         ensures none { result ≡ false → self.now.readers ≡ [] }
     {
@@ -157,10 +156,10 @@ impl<E: Copy> EventChannel<E> {
 #[inline(always)]
 fn reserve_all<E>(readers: &mut [Reader<E>], n: usize) -> Result<(), AllocError>
     ensures shown { map shown readers.new ≡ map shown readers.old }
-    ensures needs_room { is_some (least readers.new) ≡ is_some (least readers.old) }
-    ensures room { (k : ℕ) → HasRoom (least readers.old) k → HasRoom (least readers.new) k }
-    ensures ok { OnOk result (HasRoom (least readers.new) n) }
-    ensures succeeds { HasRoom (least readers.old) n → IsOk result }
+    ensures needs_room { is_some (least_room readers.new) ≡ is_some (least_room readers.old) }
+    ensures room { (k : ℕ) → HasRoom (least_room readers.old) k → HasRoom (least_room readers.new) k }
+    ensures ok { OnOk result (HasRoom (least_room readers.new) n) }
+    ensures succeeds { HasRoom (least_room readers.old) n → IsOk result }
 {
     if let Some((first, rest)) = readers.split_first_mut() {
         first.unread.reserve(n)?;
@@ -171,10 +170,10 @@ fn reserve_all<E>(readers: &mut [Reader<E>], n: usize) -> Result<(), AllocError>
 
 #[inline(always)]
 fn write_all<E: Copy>(readers: &mut [Reader<E>], event: E)
-    requires { HasRoom (least readers.old) 1 }
+    requires { HasRoom (least_room readers.old) 1 }
     ensures shown { map shown readers.new ≡ written event (map shown readers.old) }
-    ensures needs_room { is_some (least readers.new) ≡ is_some (least readers.old) }
-    ensures room { (n : ℕ) → HasRoom (least readers.old) (n + 1) → HasRoom (least readers.new) n }
+    ensures needs_room { is_some (least_room readers.new) ≡ is_some (least_room readers.old) }
+    ensures room { (n : ℕ) → HasRoom (least_room readers.old) (n + 1) → HasRoom (least_room readers.new) n }
 {
     if let Some((first, rest)) = readers.split_first_mut() {
         match first.unread.push(event) {
@@ -189,7 +188,7 @@ fn write_all<E: Copy>(readers: &mut [Reader<E>], event: E)
 fn take_unread<E>(readers: &mut [Reader<E>], number: u64, alloc: Global) -> Option<Vec<E>>
     ensures events { MatchOption result (unread_of number (map shown readers.old) ≡ None) (λ v. unread_of number (map shown readers.old) ≡ Some v.items) }
     ensures shown { map shown readers.new ≡ emptied number (map shown readers.old) }
-    ensures needs_room { is_some (least readers.new) ≡ is_some (least readers.old) }
+    ensures needs_room { is_some (least_room readers.new) ≡ is_some (least_room readers.old) }
 {
     if let Some((first, rest)) = readers.split_first_mut() {
         if first.number == number {

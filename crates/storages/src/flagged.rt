@@ -1,10 +1,11 @@
 //! A storage that tells of each change.
-ghost use Rattle.std.specs.Prelude.{◌≡◌, ◌&&◌, ◌||◌, true, length, is_some};
+ghost use Rattle.std.specs.Prelude.{◌≡◌, ◌+◌, ◌&&◌, ◌||◌, ℕ, true, length, is_some};
 ghost use Rattle.storages.specs.Unread.{is_read};
 ghost use Rattle.hibits.specs.Left.{left};
 ghost use Rattle.hibits.specs.Sets.{has_part};
 ghost use Rattle.storages.specs.Channel.{written_removals};
 ghost use Rattle.storages.specs.Meaning.{HasRoom};
+ghost use Rattle.storages.specs.ChannelState.{room_in};
 
 use crate::channel::EventChannel;
 use crate::event::ComponentEvent;
@@ -28,7 +29,7 @@ pub struct FlaggedStorage<C, T = DenseVecStorage<C>> {
 impl<C, T: TryDefault> TryDefault for FlaggedStorage<C, T> {
     ghost use Rattle.storages.specs.Flagged.{IsNewFlagged};
 
-    ghost IsDefault = { λ s. IsNewFlagged T.IsDefault s.storage s.channel };
+    ghost IsDefault = { λ s. IsNewFlagged T.IsDefault s.storage s.channel s.event_emission };
 
     fn try_default(alloc: Global) -> Result<Self, String> {
         Ok(FlaggedStorage {
@@ -41,7 +42,7 @@ impl<C, T: TryDefault> TryDefault for FlaggedStorage<C, T> {
 }
 
 impl<C: Drop, T: UnprotectedStorage<C>> UnprotectedStorage<C> for FlaggedStorage<C, T> {
-    ghost use Rattle.storages.specs.Flagged.{flagged, new_of_new};
+    ghost use Rattle.storages.specs.Flagged.{flagged, new_of_new, wanted_by_readers};
 
     ghost meaning = { λ s. flagged s.event_emission s.channel (T.meaning s.storage) };
 
@@ -62,11 +63,12 @@ impl<C: Drop, T: UnprotectedStorage<C>> UnprotectedStorage<C> for FlaggedStorage
 
     #[inline(always)]
     fn get_mut(&mut self, id: Index) -> Result<&mut C, AllocError> {
-        if self.event_emission {
-            self.channel.reserve(1)?;
-            self.storage.reserve_events(1)?;
-            self.channel.write_reserved(ComponentEvent::Modified(id));
+        if !self.event_emission {
+            return self.storage.get_mut(id);
         }
+        self.channel.reserve(1)?;
+        self.storage.reserve_events(1)?;
+        self.channel.write_reserved(ComponentEvent::Modified(id));
         self.storage.get_mut(id)
     }
 
@@ -122,7 +124,9 @@ impl<C: Drop, T: UnprotectedStorage<C>> UnprotectedStorage<C> for FlaggedStorage
         (self.event_emission && self.channel.has_readers()) || self.storage.needs_room()
     }
 
-    ghost default_is_new = { λ s e. new_of_new (T.default_is_new s.storage e.storage) e.registered e.readers e.spare };
+    ghost default_is_new = { λ s e. new_of_new s.event_emission s.channel (T.meaning s.storage) (T.default_is_new s.storage e.storage) e.registered e.readers e.emission_is_on };
+
+    ghost room_is_wanted = { λ s. wanted_by_readers s.event_emission s.channel (T.meaning s.storage) };
 }
 
 impl<C: Drop, T: UnprotectedStorage<C>> Tracked<C> for FlaggedStorage<C, T> {
@@ -160,10 +164,11 @@ impl<C: Drop, T: UnprotectedStorage<C>> Tracked<C> for FlaggedStorage<C, T> {
 
 // Writes the removals of the members of a set, ascending, in room that is there.
 fn write_removals(channel: &mut EventChannel<ComponentEvent>, has: &BitSet)
-    requires { HasRoom channel.old.spare (length (left (has_part has.now.members 0) 0)) }
+    requires { HasRoom (room_in channel.old) (length (left (has_part has.now.members 0) 0)) }
     ensures readers { channel.new.readers ≡ written_removals (left (has_part has.now.members 0) 0) channel.old.readers }
     ensures registered { channel.new.registered ≡ channel.old.registered }
-    ensures needs_room { is_some channel.new.spare ≡ is_some channel.old.spare }
+    ensures needs_room { is_some (room_in channel.new) ≡ is_some (room_in channel.old) }
+    ensures room { (n : ℕ) → HasRoom (room_in channel.old) (length (left (has_part has.now.members 0) 0) + n) → HasRoom (room_in channel.new) n }
 {
     for id in has.iter() {
         channel.write_reserved(ComponentEvent::Removed(id));

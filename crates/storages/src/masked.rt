@@ -1,11 +1,12 @@
 //! A storage with the set of the indices at which it has a component.
-ghost use Rattle.std.specs.Prelude.{◌≡◌, ◌↔◌, ◌<◌, ℕ, Some, None, true, IfOk, IfErr, IsOk, OnOk, OnErr, IsSome, is_some, length, option_copied, IsTrue, cond};
+ghost use Rattle.std.specs.Prelude.{◌≡◌, ◌↔◌, ◌<◌, ℕ, Some, None, true, IfOk, IfErr, IsOk, OnOk, OnErr, IsSome, is_some, length, option_copied, IsTrue, cond, ◌||◌};
 ghost use Rattle.std.specs.Borrow.{sem};
 ghost use Rattle.std.specs.FinMap as map;
 ghost use Rattle.std.specs.FinSet as set;
 ghost use Rattle.storages.specs.declared.event.ComponentEvent.TheVariants.{Inserted, Modified, Removed};
 ghost use Rattle.storages.specs.declared.event.ComponentEvent.{ComponentEvent};
 ghost use Rattle.storages.specs.Limit.{IsIndex};
+ghost use Rattle.storages.specs.Channel.{is_heard};
 ghost use Rattle.storages.specs.Meaning.{HasRoom};
 
 use crate::event::ComponentEvent;
@@ -67,6 +68,7 @@ impl<T: Component> MaskedStorage<T> {
         ensures order { result.order ≡ (T.Storage.meaning inner).order }
         ensures channel { result.channel ≡ (T.Storage.meaning inner).channel }
         ensures room { result.room ≡ (T.Storage.meaning inner).room }
+        ensures inner_room { result.inner_room ≡ (T.Storage.meaning inner).inner_room }
     {
         MaskedStorage {
             mask: BitSet::new(alloc),
@@ -91,6 +93,7 @@ impl<T: Component> MaskedStorage<T> {
         ensures order { (T.Storage.meaning result.now).order ≡ self.now.order }
         ensures channel { (T.Storage.meaning result.now).channel ≡ self.now.channel }
         ensures room { (T.Storage.meaning result.now).room ≡ self.now.room }
+        ensures inner_room { (T.Storage.meaning result.now).inner_room ≡ self.now.inner_room }
     {
         &self.inner
     }
@@ -289,6 +292,7 @@ impl<T: Component> MaskedStorage<T> {
     /// The component of an index, to write to, which is a default value if there was none. A tracked storage emits a
     /// modification, after an insertion if there was none. Where memory is refused nothing has changed.
     #[inline(always)]
+    #[tactic(auto, using(crate::proofs::Slot::fills_there, crate::proofs::Slot::fills_new))]
     pub fn get_mut_or_default(&mut self, id: Index) -> Result<&mut T, NotLent>
     where
         T: Default + Drop,
@@ -427,10 +431,13 @@ impl<T: Component> MaskedStorage<T> {
         self.inner.reserve_events(n)
     }
 
-    /// Whether a call that emits an event can be refused.
+    /// Whether a call that emits an event can be refused: while the inner storage's can, or a reader is registered and
+    /// events are emitted.
     #[inline(always)]
     pub fn needs_room(&self) -> bool
-        ensures { result ≡ is_some self.now.room }
+        ensures told { result ≡ is_some self.now.room }
+        ensures wanted { result ≡ (is_some self.now.inner_room || is_heard self.now.channel) }
+        ensures inner { (n : ℕ) → HasRoom self.now.room n → HasRoom self.now.inner_room n }
     {
         self.inner.needs_room()
     }

@@ -103,6 +103,7 @@ impl<'a, T: Component> ReadStorage<'a, T> {
         ensures order { (T.Storage.meaning result.now).order ≡ (slot self.now).order }
         ensures channel { (T.Storage.meaning result.now).channel ≡ (slot self.now).channel }
         ensures room { (T.Storage.meaning result.now).room ≡ (slot self.now).room }
+        ensures inner_room { (T.Storage.meaning result.now).inner_room ≡ (slot self.now).inner_room }
     {
         self.data.unprotected_storage()
     }

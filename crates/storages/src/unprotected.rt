@@ -7,7 +7,7 @@ ghost use Rattle.hibits.specs.Left.{left};
 ghost use Rattle.storages.specs.declared.event.ComponentEvent.{ComponentEvent};
 ghost use Rattle.storages.specs.declared.event.ComponentEvent.TheVariants.{Inserted};
 ghost use Rattle.storages.specs.Limit.{IsIndex};
-ghost use Rattle.storages.specs.Meaning.{Meaning, Puts, Frees, Keeps, Empties, IsNew, IsReady, HasRoom, Masks, lends_at};
+ghost use Rattle.storages.specs.Meaning.{Meaning, Puts, Frees, Keeps, Empties, IsNew, IsReady, HasRoom, IsWanted, Masks, lends_at};
 
 use crate::event::ComponentEvent;
 use hibits::{BitSet, Index};
@@ -88,7 +88,11 @@ pub trait UnprotectedStorage<T>: TryDefault + Drop {
     fn needs_room(&self) -> bool
         ensures { result ≡ is_some (meaning self.now).room };
 
-    // A first value is empty, and has no reader.
+    // A call that emits an event can be refused exactly while the inner storage's can, or a reader is registered and
+    // events are emitted.
+    ghost room_is_wanted: { (s : Self) → IsWanted (meaning s) };
+
+    // A first value is empty and has no reader; one that is tracked emits its events.
     ghost default_is_new: { (s : Self) → Self.IsDefault s → IsNew (meaning s) };
 }
 

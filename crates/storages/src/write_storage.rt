@@ -215,6 +215,7 @@ impl<'a, T: Component> WriteStorage<'a, T> {
         ensures order { (T.Storage.meaning result.now).order ≡ (slot self.now).order }
         ensures channel { (T.Storage.meaning result.now).channel ≡ (slot self.now).channel }
         ensures room { (T.Storage.meaning result.now).room ≡ (slot self.now).room }
+        ensures inner_room { (T.Storage.meaning result.now).inner_room ≡ (slot self.now).inner_room }
     {
         self.data.unprotected_storage()
     }

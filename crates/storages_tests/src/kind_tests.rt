@@ -109,7 +109,7 @@ fn drops_a_list(rt: HostRuntime) -> Result<(), Fail> {
         assert!(rt; masked.put(id, InHash(id)).is_ok());
     }
     AnyStorage::reserve_drop(&mut masked, list.as_slice())?;
-    AnyStorage::drop(&mut masked, [list[0], list[2], list[0], list[3]].as_slice())?;
+    AnyStorage::drop(&mut masked, [list[0], list[2], list[0], list[3]].as_slice());
     assert!(rt; !masked.contains(0));
     assert!(rt; masked.contains(1));
     assert!(rt; !masked.contains(2));

@@ -1,5 +1,5 @@
 //! A vector with default values at its unused places.
-ghost use Rattle.std.specs.Prelude.{◌≡◌, ◌<◌, ◌≤◌, ◌+◌, ℕ, Some, [], IsTrue, is_some, IfOk, IfSome, OnErr, OnOk, IsOk, vec_len, length, slice_get};
+ghost use Rattle.std.specs.Prelude.{refl, ◌≡◌, ◌<◌, ◌≤◌, ◌+◌, ℕ, Some, [], IsTrue, is_some, IfOk, IfSome, OnErr, OnOk, IsOk, vec_len, length, slice_get};
 ghost use Rattle.storages.specs.DefaultVec.{meaning_of};
 
 use crate::slices::{SliceAccess, SliceAccessMut};
@@ -92,6 +92,8 @@ impl<T: Default + Drop> UnprotectedStorage<T> for DefaultVecStorage<T> {
     fn needs_room(&self) -> bool {
         false
     }
+
+    ghost room_is_wanted = { λ s. record { wanted = refl; inner = λ n h. h } };
 
     ghost default_is_new = { λ s e. new_of_empty s.items.items e };
 }

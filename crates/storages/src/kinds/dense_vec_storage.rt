@@ -1,5 +1,5 @@
 //! Values without gaps, with a table from ids to places and one back.
-ghost use Rattle.std.specs.Prelude.{◌≡◌, ◌<◌, ◌^◌, ℕ, slice_get, [], Some, OnErr, OnOk, IfSome, vec_len};
+ghost use Rattle.std.specs.Prelude.{refl, ◌≡◌, ◌<◌, ◌^◌, ℕ, slice_get, [], Some, OnErr, OnOk, IfSome, vec_len};
 ghost use Rattle.storages.specs.Dense.{IsConsistent, value_of};
 
 use crate::slices::{SliceAccess, SliceAccessMut};
@@ -22,7 +22,11 @@ impl<T> TryDefault for DenseVecStorage<T> {
     ghost IsDefault = { λ s. s.places.items ≡ [] };
 
     fn try_default(alloc: Global) -> Result<Self, String> {
-        Ok(DenseVecStorage::new(alloc))
+        Ok(DenseVecStorage {
+            values: Vec::new(alloc),
+            ids: Vec::new(alloc),
+            places: Vec::new(alloc),
+        })
     }
 }
 
@@ -115,6 +119,8 @@ impl<T: Drop> UnprotectedStorage<T> for DenseVecStorage<T> {
     fn needs_room(&self) -> bool {
         false
     }
+
+    ghost room_is_wanted = { λ s. record { wanted = refl; inner = λ n h. h } };
 
     ghost default_is_new = { λ s e. new_of_empty s.values.items s.ids.items s.places.items e };
 }

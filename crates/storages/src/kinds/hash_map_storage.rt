@@ -1,5 +1,5 @@
 //! A hash map from indices to components.
-ghost use Rattle.std.specs.Prelude.{◌≡◌, ℕ, [], Some, IsOk};
+ghost use Rattle.std.specs.Prelude.{refl, ◌≡◌, ℕ, [], Some, IsOk};
 ghost use Rattle.std.specs.HashMap.{IsEmpty};
 ghost use Rattle.storages.specs.Maps.{meaning_of_hash};
 
@@ -83,6 +83,8 @@ impl<T: Drop> UnprotectedStorage<T> for HashMapStorage<T> {
     fn needs_room(&self) -> bool {
         false
     }
+
+    ghost room_is_wanted = { λ s. record { wanted = refl; inner = λ n h. h } };
 
     ghost default_is_new = { λ s e. new_of_no_hash s.map e };
 }

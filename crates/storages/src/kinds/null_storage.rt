@@ -1,5 +1,5 @@
 //! A storage for components without data.
-ghost use Rattle.std.specs.Prelude.{◌≡◌, ℕ, Some, IsOk, ⊤};
+ghost use Rattle.std.specs.Prelude.{refl, ◌≡◌, ℕ, Some, IsOk, ⊤};
 ghost use Rattle.storages.specs.Null.{meaning_of};
 
 use crate::unprotected::{TryDefault, UnprotectedStorage};
@@ -71,6 +71,8 @@ impl<T: NullComponent> UnprotectedStorage<T> for NullStorage<T> {
     fn needs_room(&self) -> bool {
         false
     }
+
+    ghost room_is_wanted = { λ s. record { wanted = refl; inner = λ n h. h } };
 
     ghost default_is_new = { λ s e. new_of_value s.value };
 }

@@ -1,5 +1,5 @@
 //! A vector of options, with the component of an index at that place.
-ghost use Rattle.std.specs.Prelude.{◌≡◌, ◌≤◌, ◌+◌, ℕ, [], OnErr, OnOk, vec_len, length};
+ghost use Rattle.std.specs.Prelude.{refl, ◌≡◌, ◌≤◌, ◌+◌, ℕ, [], OnErr, OnOk, vec_len, length};
 ghost use Rattle.storages.specs.Vec.{value_at, meaning_of};
 
 use crate::slices::SliceAccess;
@@ -85,6 +85,8 @@ impl<T: Drop> UnprotectedStorage<T> for VecStorage<T> {
     fn needs_room(&self) -> bool {
         false
     }
+
+    ghost room_is_wanted = { λ s. record { wanted = refl; inner = λ n h. h } };
 
     ghost default_is_new = { λ s e. new_of_empty s.items.items e };
 }
