@@ -1,10 +1,13 @@
 //! A component of one's own, from insertion to removal.
 ghost use Rattle.std.specs.Prelude.{◌≡◌, ◌≢◌, None, Some, true, false, IfOk, IfSome, IsSome, OnOk};
 ghost use Rattle.std.specs.FinMap as map;
+ghost use Rattle.entities.specs.Census.{population};
 ghost use Rattle.entities.specs.Population.{index_of};
+ghost use Rattle.storages.specs.Life.{is_alive};
+ghost use Rattle.storages.specs.ReadView.{entities_of};
 ghost use Rattle.storages.specs.WriteView.{slot, found};
 
-use entities::{EntitiesRes, Entity, WrongGeneration};
+use entities::Entity;
 use std::alloc::{AllocError, Global};
 use storages::{
     Component, DenseVecStorage, InsertError, MaskedStorage, ReadStorage, TryDefault, WriteStorage,
@@ -28,10 +31,7 @@ pub fn healths(alloc: Global) -> Result<MaskedStorage<Health>, String>
     ensures map { IfOk result (λ s. s.map ≡ map.empty) }
     ensures room { IfOk result (λ s. s.room ≡ None) }
 {
-    Ok(MaskedStorage::new(
-        alloc,
-        DenseVecStorage::try_default(alloc)?,
-    ))
+    Ok(MaskedStorage::new(alloc, DenseVecStorage::try_default(alloc)?))
 }
 
 /// What was inserted is found.
@@ -42,7 +42,13 @@ pub fn inserted_and_found(
 ) -> Result<u32, InsertError<Health>>
     ensures { IfOk result (λ points. points ≡ 100) }
 {
-    view.insert(e, Health { points: 100, shield: 5 })?;
+    view.insert(
+        e,
+        Health {
+            points: 100,
+            shield: 5,
+        },
+    )?;
     match view.get(e) {
         Some(health) => Ok(health.points),
         None => unreachable!(),
@@ -87,17 +93,13 @@ pub fn removed_beside(
     Ok(())
 }
 
-/// An entity that died finds nothing, whatever the storage has at its index.
-#[tactic(auto, using(storages::specs::Finds::killed_is_not_alive, storages::specs::Finds::found_dead))]
-pub fn dead_and_gone(
-    entities: &mut EntitiesRes,
-    masked: &MaskedStorage<Health>,
-    e: Entity,
-) -> Result<bool, WrongGeneration>
-    ensures { IfOk result (λ there. there ≡ false) }
+/// An entity that is not alive finds nothing, whatever the storage has at its index.
+#[tactic(auto, using(storages::specs::Finds::found_dead))]
+pub fn dead_and_gone(view: &ReadStorage<'_, Health>, e: Entity) -> bool
+    requires { is_alive (population (entities_of view.now)) e ≡ false }
+    ensures { result ≡ false }
 {
-    entities.alloc_mut().kill(&[e])?;
-    Ok(ReadStorage::new(entities, masked).contains(e))
+    view.contains(e)
 }
 
 /// A second view is always there.

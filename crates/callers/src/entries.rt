@@ -34,7 +34,10 @@ pub fn ninety_at(view: &mut WriteStorage<'_, Health>, e: Entity) -> bool
 
 /// Three points at an index that has health, which is found there afterwards.
 #[tactic(auto, using(storages::specs::Finds::got_put))]
-pub fn three_and_found(masked: &mut MaskedStorage<Health>, id: u32) -> Result<Option<u32>, AllocError>
+pub fn three_and_found(
+    masked: &mut MaskedStorage<Health>,
+    id: u32,
+) -> Result<Option<u32>, AllocError>
     requires { IsIndex id }
     ensures { IfOk result (λ points. IfSome points (λ n. n ≡ 3)) }
 {

@@ -7,8 +7,8 @@ mod entries;
 mod sets;
 
 pub use components::{
-    dead_and_gone, healths, hit, inserted_and_found, taken_and_gone,
-    removed_beside, viewed_twice, Health,
+    Health, dead_and_gone, healths, hit, inserted_and_found, removed_beside, taken_and_gone,
+    viewed_twice,
 };
 pub use entries::{ninety_at, taken, three_and_found};
 pub use sets::{added_and_found, removed_and_gone};

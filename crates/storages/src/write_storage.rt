@@ -19,10 +19,8 @@ use crate::unprotected::{Component, UnprotectedStorage};
 use entities::{EntitiesRes, Entity, WrongGeneration};
 use hibits::BitSet;
 use std::alloc::AllocError;
-use std::error;
-use std::fmt;
 use std::fmt::Debug;
-use std::mem;
+use std::{error, fmt, mem};
 
 // What a refused insertion was to do.
 pub(crate) const INSERT: &str = "insert component for entity";
