@@ -2,6 +2,13 @@
 //! them could not prove would be a hole in a contract.
 #![tactic(auto)]
 
+mod components;
+mod entries;
 mod sets;
 
+pub use components::{
+    Health, dead_and_gone, healths, hit, inserted_and_found, removed_beside, taken_and_gone,
+    viewed_twice,
+};
+pub use entries::{ninety_at, taken, three_and_found};
 pub use sets::{added_and_found, removed_and_gone};

@@ -13,7 +13,7 @@ use Rattle.storages.specs.Meaning.{HasRoom}
 use Rattle.storages.specs.Slot.{Slot, Becomes}
 use Rattle.storages.specs.Removals.{lost, lost_of, without_one}
 use Rattle.storages.proofs.Indices.{same_id}
-use Rattle.storages.proofs.Slot.{get-remove}
+use Rattle.storages.specs.Finds.{get-remove}
 
 channel_by : (b : Bool) (i : ℕ) (is : List ℕ) (c : Channel) → c.emission ≡ b → emitted_removals is (emitted (Removed i) c) ≡ emitted_removals (i ∷ is) c
 channel_by true i is c e = rw e refl

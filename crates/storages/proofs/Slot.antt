@@ -12,6 +12,7 @@ use Rattle.storages.specs.declared.event.ComponentEvent.{ComponentEvent}
 use Rattle.storages.specs.declared.event.ComponentEvent.TheVariants.{Inserted, Modified, Removed}
 use Rattle.storages.specs.Channel.{emitted, emitted_removals}
 use Rattle.storages.specs.Meaning.{Meaning, HasRoom, Masks, Puts, Frees, Keeps, Empties, Writes, Refuses, SamePresence, extent_after}
+use Rattle.storages.specs.Finds.{get-insert, get-remove}
 use Rattle.storages.specs.Lending.{SlotWrites, SlotRefuses}
 use Rattle.storages.specs.Slot.{Slot, map_of, with_option, slot_of, indices_of, IsSame, Becomes, Inserts, Fills, Clears, SameKeys}
 use Rattle.hibits.specs.Left.{left}
@@ -59,14 +60,6 @@ pub contains-others : (s : set.FinSet nat_cmp) (id q : ℕ) → q ≢ id → set
 contains-others s id q n = contains-removed s id q ∙ others_there id q (nat_eq id q) (set.contains s q) refl n
 
 module _ {T : Type 0} where
-  pub get-insert : (m : map.FinMap nat_cmp T) (k : ℕ) (v : T) (q : ℕ) → map.get (map.insert m k v) q ≡ cond (nat_eq k q) (Some v) (map.get m q)
-  get-insert m k v q =
-      map.get-insert nat_cmp_total m k v q ∙ ap (λ b. cond b (Some v) (map.get m q)) (unsigned_tied q k ∙ turned q k)
-
-  pub get-remove : (m : map.FinMap nat_cmp T) (k q : ℕ) → map.get (map.remove m k) q ≡ cond (nat_eq k q) None (map.get m q)
-  get-remove m k q =
-      map.get-remove nat_cmp_total m k q ∙ ap (λ b. cond b None (map.get m q)) (unsigned_tied q k ∙ turned q k)
-
   pub same_map : (m n : map.FinMap nat_cmp T) → ((q : ℕ) → map.get m q ≡ map.get n q) → m ≡ n
   same_map = map.same_map nat_cmp_total map.nat_cmp-IsAntisymmetric
 

@@ -19,6 +19,8 @@ pub mod Removals
 pub mod Lending
 pub mod Life
 pub mod Found
+pub mod Finds
+pub mod Texts
 pub mod ReadView
 pub mod WriteView
 pub mod Generic

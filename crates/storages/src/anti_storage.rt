@@ -12,7 +12,10 @@ use std::ops::Not;
 /// The indices that are not in a storage's mask, as a part of a join: `!` on a reference to a view gives it. Ports
 /// `specs::storage::AntiStorage`.
 #[derive(Clone, Copy)]
-pub struct AntiStorage<'a>(pub &'a BitSet);
+pub struct AntiStorage<'a>(
+    /// The indices that have a component.
+    pub &'a BitSet,
+);
 
 impl<'a, 'b, T: Component> Not for &'b ReadStorage<'a, T> {
     ghost use Rattle.storages.specs.ReadView.{slot};

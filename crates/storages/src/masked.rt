@@ -15,13 +15,16 @@ use hibits::{BitSet, Index};
 use std::alloc::{AllocError, Global};
 use std::marker::Model;
 use std::mem;
+use thiserror::Error;
 
-/// Why no component was lent for writing.
-#[derive(Clone, Copy, PartialEq, Eq, Debug)]
+/// Why no component was lent for writing. The storage is as it was.
+#[derive(Clone, Copy, PartialEq, Eq, Debug, Error)]
 pub enum NotLent {
-    /// There is no component.
+    /// There is no component, or the entity is not alive.
+    #[error("there is no component")]
     Absent,
-    /// The event of a tracked storage found no memory. Nothing has changed.
+    /// There is no memory for the event of a tracked storage, or for a default component.
+    #[error("out of memory")]
     OutOfMemory,
 }
 
@@ -49,9 +52,13 @@ impl<T: Component> Model for MaskedStorage<T> {
 }
 
 /// What was at an index before a component was put there, and the storage.
+///
+/// `specs::storage::StorageEntry::replace` answers the component alone.
 #[derive(Drop)]
 pub struct Replaced<'a, T: Component> {
+    /// The component that was there, and `None` where there was none.
     pub before: Option<T>,
+    /// The storage, with the new component.
     pub masked: &'a mut MaskedStorage<T>,
 }
 

@@ -1,5 +1,5 @@
 //! A storage to read, beside the entities.
-ghost use Rattle.std.specs.Prelude.{length, ◌↔◌, IsTrue, ◌≡◌, ℕ, None, true, IsSome, is_some, option_copied};
+ghost use Rattle.std.specs.Prelude.{length, ◌↔◌, IsTrue, ◌≡◌, ℕ, None, true, IsSome, is_some, option_copied, ⊤};
 ghost use Rattle.std.specs.FinMap as map;
 ghost use Rattle.std.specs.FinSet as set;
 ghost use Rattle.storages.specs.Slot.{indices_of};
@@ -19,8 +19,11 @@ pub struct ReadStorage<'a, T: Component> {
     data: &'a MaskedStorage<T>,
 }
 
+/// A second view of the same storage. It takes no memory, and so is never refused.
 impl<T: Component> Clone for ReadStorage<'_, T> {
     ghost is_clone = { λ a b. a ≡ b };
+
+    ghost is_infallible = { λ _. ⊤ };
 
     fn clone(&self) -> Result<Self, AllocError> {
         Ok(ReadStorage {

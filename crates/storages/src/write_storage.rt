@@ -19,7 +19,8 @@ use crate::unprotected::{Component, UnprotectedStorage};
 use entities::{EntitiesRes, Entity, WrongGeneration};
 use hibits::BitSet;
 use std::alloc::AllocError;
-use std::mem;
+use std::fmt::Debug;
+use std::{error, fmt, mem};
 
 // What a refused insertion was to do.
 pub(crate) const INSERT: &str = "insert component for entity";
@@ -28,13 +29,31 @@ pub(crate) const INSERT: &str = "insert component for entity";
 const ENTRY: &str = "attempting to get an entry to a storage";
 
 /// Why a component was not inserted, with the component. Nothing has changed.
-#[derive(Drop)]
+///
+/// `specs::WriteStorage::insert` tells the first alone, and lets the component go.
+#[derive(Debug, Drop)]
 pub enum InsertError<T> {
-    /// The entity is not alive.
+    /// The entity is not alive: the refusal, with the generation that its index has now, and the component. The storage
+    /// is as it was.
     WrongGeneration(WrongGeneration, T),
-    /// Memory was refused.
+    /// There is no memory for the component, or for a tracked storage's event: the component. The storage is as it was.
     OutOfMemory(T),
 }
+
+impl<T> fmt::Display for InsertError<T> {
+    ghost use Rattle.storages.specs.Texts.{insert_text};
+
+    ghost output = { λ e. Some (insert_text e) };
+
+    fn fmt<W: fmt::Write>(&self, f: &mut fmt::Formatter<W>) -> fmt::Result {
+        match self {
+            InsertError::WrongGeneration(wrong, _) => write!(f, "{wrong}"),
+            InsertError::OutOfMemory(_) => write!(f, "out of memory"),
+        }
+    }
+}
+
+impl<T: Debug + Drop> error::Error for InsertError<T> {}
 
 /// A storage to write to, beside the entities that its components belong to. An entity that is not alive reaches
 /// nothing. Ports `specs::WriteStorage`.
@@ -238,7 +257,10 @@ impl<'a, T: Component> WriteStorage<'a, T> {
     }
 
     /// The storage without the entities, if the entity is alive: its `entry` then has the component of the entity's
-    /// index.
+    /// index. It stands for `specs::Storage::entry`.
+    ///
+    /// Where a place that the storage lent was written to, the view is known to have it once the storage is looked at
+    /// again: a caller writes `let _masked = &*masked;` after the last write.
     #[inline(always)]
     pub fn live(&mut self, entity: Entity) -> Result<&mut MaskedStorage<T>, WrongGeneration>
         ensures* lends { sem 𝓛 (lends_live T.row T.Storage.row T.Storage.meaning T.Storage.IsDefault self.entry result) }
