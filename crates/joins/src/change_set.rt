@@ -3,7 +3,7 @@ ghost use Rattle.std.specs.Prelude.{◌≡◌, ◌↔◌, ◌≤◌, ◌^◌, �
 ghost use Rattle.std.specs.FinMap as map;
 ghost use Rattle.entities.specs.Population.{index_of};
 ghost use Rattle.storages.specs.Limit.{IsIndex};
-ghost use Rattle.joins.specs.Changes.{with_change, all_changed, Stops, value_at};
+ghost use Rattle.joins.specs.Changes.{with_change, value_at};
 
 use crate::combine::Combine;
 use entities::Entity;

@@ -19,6 +19,7 @@ mod read_storage;
 mod reader_id;
 mod slices;
 mod tracked;
+mod tracked_views;
 mod unprotected;
 mod write_storage;
 

@@ -83,6 +83,29 @@ where
         self.inner.read(id)
     }
 
+    /// Ends a reader. Its number is not used again.
+    pub fn drop_reader(&mut self, id: ReaderId) -> Result<(), UnknownReader>
+        ensures ok { OnOk result (is_some (unread_of id self.old.channel.readers) ≡ true) }
+        ensures err { OnErr result (unread_of id self.old.channel.readers ≡ None) }
+        ensures turned { Turns self.old self.new (without_reader id self.old.channel) }
+    {
+        self.inner.drop_reader(id)
+    }
+
+    /// The channel.
+    pub fn channel(&self) -> &EventChannel<ComponentEvent>
+        ensures { emitting self.now.channel.emission result.now ≡ self.now.channel }
+    {
+        self.inner.channel()
+    }
+
+    /// Whether events are emitted.
+    pub fn event_emission(&self) -> bool
+        ensures { result ≡ self.now.channel.emission }
+    {
+        self.inner.event_emission()
+    }
+
     /// The channel, to write to.
     pub fn channel_mut(&mut self) -> Option<&mut EventChannel<ComponentEvent>>
         ensures* writes_back { sem 𝓛 (lends_slot_channel T.row T.Storage.row T.Storage.meaning T.Storage.IsDefault self.entry result) }

@@ -59,8 +59,8 @@ impl<T: Debug + Drop> error::Error for InsertError<T> {}
 /// nothing. Ports `specs::WriteStorage`.
 #[derive(Drop)]
 pub struct WriteStorage<'a, T: Component> {
-    entities: &'a EntitiesRes,
-    data: &'a mut MaskedStorage<T>,
+    pub(crate) entities: &'a EntitiesRes,
+    pub(crate) data: &'a mut MaskedStorage<T>,
 }
 
 impl<'a, T: Component> WriteStorage<'a, T> {
