@@ -1,5 +1,6 @@
 -- What added values make of a change set.
-use Rattle.std.specs.Prelude.{◌≡◌, ◌<◌, ℕ, Option, Some, None, List, [], ◌∷◌, take, length}
+use Rattle.std.specs.Prelude.{◌≡◌, ℕ, Option, Some, None, List, [], ◌∷◌, ◌++◌}
+
 use Rattle.std.specs.Ordering.{nat_cmp}
 use Rattle.std.specs.FinMap as map
 use Rattle.entities.specs.declared.entity.Entity.{Entity}
@@ -19,6 +20,14 @@ module _ {T : Type 0} where
   abbrev pub all_changed : (T → T → T) → List (Entity × T) → map.FinMap nat_cmp T → map.FinMap nat_cmp T
   all_changed combined [] m = m
   all_changed combined (e ∷ es) m = all_changed combined es (with_change combined m (index_of e.0) e.1)
+
+  -- the values of a list up to one that was refused were added
+  pub record StopsIn (combined : T → T → T) (es : List (Entity × T)) (m m' : map.FinMap nat_cmp T) : Type 0 where
+    pub accepted : List (Entity × T)
+    pub refused : Entity × T
+    pub rest : List (Entity × T)
+    pub list : es ≡ accepted ++ refused ∷ rest
+    pub before : m' ≡ all_changed combined accepted m
 
   -- there is a value at the index, of which P holds
   abbrev pub of_value : (T → Type 0) → Option T → Type 0

@@ -1,9 +1,9 @@
 //! Values that were added to entities, until someone applies them.
-ghost use Rattle.std.specs.Prelude.{◌≡◌, ◌↔◌, ◌≤◌, ◌^◌, ℕ, Some, None, false, IsOk, IsSome, OnOk, OnErr, IfSome, is_some};
+ghost use Rattle.std.specs.Prelude.{◌≡◌, ◌↔◌, ◌≤◌, ◌^◌, None, Err, IsSome, OnOk, OnErr, IfOk, IfErr};
 ghost use Rattle.std.specs.FinMap as map;
 ghost use Rattle.entities.specs.Population.{index_of};
 ghost use Rattle.storages.specs.Limit.{IsIndex};
-ghost use Rattle.joins.specs.Changes.{with_change, value_at};
+ghost use Rattle.joins.specs.Changes.{with_change, all_changed, StopsIn, value_at};
 
 use crate::combine::Combine;
 use entities::Entity;
@@ -45,9 +45,10 @@ pub struct ChangeSet<T: Drop> {
 }
 
 impl<T: Drop> Model for ChangeSet<T> {
-    ghost use Rattle.std.specs.Prelude.{ℕ};
+    ghost use Rattle.std.specs.Prelude.{◌≡◌, false, is_some};
     ghost use Rattle.std.specs.Coded.{coded_ℕ};
     ghost use Rattle.std.specs.Ordering.{nat_cmp};
+    ghost use Rattle.std.specs.FinMap as map;
     ghost use Rattle.joins.specs.Held.{held};
 
     ghost Value = { map.FinMap nat_cmp T };
@@ -86,9 +87,10 @@ impl<T: Combine + Drop> ChangeSet<T> {
             return self.combine_at(id, value);
         }
         match self.changes.insert(id, Change { value }) {
-            Ok(()) => Ok(()),
-            Err(_) => Err(ChangeError::OutOfMemory),
+            Ok(()) => {}
+            Err(_) => return Err(ChangeError::OutOfMemory),
         }
+        Ok(())
     }
 
     // Adds a value to the one that is there.
@@ -98,15 +100,36 @@ impl<T: Combine + Drop> ChangeSet<T> {
         ensures ok { OnOk result (self.new ≡ with_change T.combined self.old id value) }
         ensures err { OnErr result (self.new ≡ self.old) }
         ensures refused { OnErr result (value_at self.old id (λ x. T.may_refuse x value)) }
-        ensures error { (result ≡ Ok ()) || (result ≡ Err ChangeError.Refused) }
+        ensures error { IfErr result (λ e. e ≡ ChangeError.Refused) }
     {
         let Ok(change) = self.changes.present_mut(id) else {
             unreachable!()
         };
         match change.value.combine(value) {
-            Ok(()) => Ok(()),
-            Err(_) => Err(ChangeError::Refused),
+            Ok(()) => {}
+            Err(_) => return Err(ChangeError::Refused),
         }
+        Ok(())
+    }
+
+    /// Adds the values of a list, in its order, until one is refused. What came before it stays added.
+    pub fn extend(&mut self, list: Vec<(Entity, T)>) -> Result<(), ChangeError>
+        ensures ok { OnOk result (self.new ≡ all_changed T.combined list.items self.old) }
+        ensures err { OnErr result (StopsIn T.combined list.items self.old self.new) }
+    {
+        for (entity, value) in list {
+            self.add(entity, value)?;
+        }
+        Ok(())
+    }
+
+    /// A change set with the values of a list, added in its order. Where one is refused there is no change set.
+    pub fn from_list(alloc: Global, list: Vec<(Entity, T)>) -> Result<Self, ChangeError>
+        ensures { IfOk result (λ s. s ≡ all_changed T.combined list.items map.empty) }
+    {
+        let mut changes = ChangeSet::new(alloc);
+        changes.extend(list)?;
+        Ok(changes)
     }
 
     /// Takes every value out.

@@ -1,0 +1,7 @@
+use Rattle.std.proofs.Common.{ap, ◌∙◌}
+use Rattle.joins.specs.Held.{held}
+use Rattle.joins.proofs.Holding.{held-empty}
+use Rattle.joins.proofs.change_set.ChangeSet.clear.Goals as goal
+
+pub returns : goal.returns
+returns g c = ap held c.in-Ok.ensures.ok.map ∙ held-empty
