@@ -3,10 +3,10 @@
 /// What happened to the component at an index. Ports `specs::storage::ComponentEvent`.
 #[derive(Clone, Copy, PartialEq, Eq, Debug)]
 pub enum ComponentEvent {
-    /// A component was inserted where there was none.
+    /// A component was inserted at this index, which had none.
     Inserted(u32),
-    /// A component was lent for writing, or replaced.
+    /// The component of this index was lent for writing, or replaced.
     Modified(u32),
-    /// A component was taken out.
+    /// The component of this index was taken out.
     Removed(u32),
 }

@@ -1,11 +1,22 @@
 //! Each kind of storage, and the dense vector.
 use crate::components::{Flag, InBTree, InDefaultVec, InDense, InHash, InVec};
-use crate::kinds::{all_tests, are, number_at, put, test_clear, test_one};
+use crate::kinds::{all_tests, are, number_at, put, put_all, take_out, test_clear};
 use crate::loans::double_all;
-use crate::world::{empty, living};
-use entities::EntitiesRes;
+use crate::world::{World, empty};
+use entities::Entity;
+use std::alloc::AllocError;
 use std::test::Fail;
-use storages::{AnyStorage, WriteStorage};
+use storages::{AnyStorage, MaskedStorage, WriteStorage};
+
+#[test]
+fn vec_storage_meets_all(rt: HostRuntime) -> Result<(), Fail> {
+    all_tests::<InVec>(&rt, rt.alloc())
+}
+
+#[test]
+fn default_vec_storage_meets_all(rt: HostRuntime) -> Result<(), Fail> {
+    all_tests::<InDefaultVec>(&rt, rt.alloc())
+}
 
 #[test]
 fn dense_vec_storage_meets_all(rt: HostRuntime) -> Result<(), Fail> {
@@ -13,108 +24,121 @@ fn dense_vec_storage_meets_all(rt: HostRuntime) -> Result<(), Fail> {
 }
 
 #[test]
-fn one_component_in_each_kind(rt: HostRuntime) -> Result<(), Fail> {
-    test_one::<InVec>(&rt, rt.alloc())?;
-    test_one::<InDefaultVec>(&rt, rt.alloc())?;
-    test_one::<InHash>(&rt, rt.alloc())?;
-    test_one::<InBTree>(&rt, rt.alloc())
+fn hash_map_storage_meets_all(rt: HostRuntime) -> Result<(), Fail> {
+    all_tests::<InHash>(&rt, rt.alloc())
+}
+
+#[test]
+fn btree_storage_meets_all(rt: HostRuntime) -> Result<(), Fail> {
+    all_tests::<InBTree>(&rt, rt.alloc())
 }
 
 #[test]
 fn dummy_test_clear(rt: HostRuntime) -> Result<(), Fail> {
-    test_clear(&rt, rt.alloc(), Flag)
+    let mut world = World::<Flag>::of(rt.alloc(), 10)?;
+    let (mut view, list) = world.parts();
+    assert!(rt; test_clear(&mut view, list, Flag));
+    Ok(())
 }
 
 #[test]
 fn test_null_insert_twice(rt: HostRuntime) -> Result<(), Fail> {
-    let mut entities = EntitiesRes::new(rt.alloc());
-    let list = living(rt.alloc(), &mut entities, 2)?;
+    let mut world = World::<Flag>::of(rt.alloc(), 2)?;
+    let (mut view, list) = world.parts();
     assert_eq!(rt; list.len(), 2);
-    let mut masked = empty::<Flag>(rt.alloc())?;
-    let mut view = WriteStorage::new(&entities, &mut masked);
-    assert!(rt; matches!(view.insert(list[0], Flag), Ok(None)));
-    assert!(rt; matches!(view.insert(list[0], Flag), Ok(Some(_))));
-    assert!(rt; view.get(list[1]).is_none());
-    assert!(rt; view.remove(list[0])?.is_some());
-    assert!(rt; view.remove(list[0])?.is_none());
-    assert!(rt; view.get(list[0]).is_none());
+    assert!(rt; flag_is_set_twice(&mut view, list[0], list[1])?);
     Ok(())
 }
 
-#[test]
-fn dense_removal_moves_the_last(rt: HostRuntime) -> Result<(), Fail> {
-    let mut masked = empty::<InDense>(rt.alloc())?;
-    for id in 0..3u32 {
-        assert!(rt; masked.put(id, InDense(id + 1)).is_ok());
-    }
-    assert!(rt; masked.remove(0)?.is_some());
-    assert!(rt; are(masked.as_slice(), &[3, 2]));
+// The flag of the first is inserted, replaced, and removed; the other has none.
+fn flag_is_set_twice(
+    view: &mut WriteStorage<'_, Flag>,
+    e: Entity,
+    other: Entity,
+) -> Result<bool, AllocError> {
+    let first = matches!(view.insert(e, Flag), Ok(None));
+    let second = matches!(view.insert(e, Flag), Ok(Some(_)));
+    let lent = view.get_mut(e).is_ok() && view.get(other).is_none();
+    let removed = view.remove(e)?.is_some() && view.remove(e)?.is_none();
+    Ok(first && second && lent && removed && view.get(e).is_none())
+}
+
+// The last value moves to the place of the one that was taken out.
+fn the_last_is_moved(masked: &mut MaskedStorage<InDense>) -> Result<bool, AllocError> {
+    let filled = put_all(masked, &[(0, 1), (1, 2), (2, 3)]);
+    let moved = take_out(masked, 0) == Some(1) && are(masked.as_slice(), &[3, 2]);
     masked.clear()?;
-    assert!(rt; are(masked.as_slice(), &[]));
-    Ok(())
+    Ok(filled && moved && are(masked.as_slice(), &[]))
+}
+
+// The values of indices that are far apart have no gaps.
+fn far_indices_lie_close(masked: &mut MaskedStorage<InDense>) -> bool {
+    put_all(masked, &[(0, 1), (4095, 2), (4096, 3), (16_777_215, 4)])
+        && take_out(masked, 4095) == Some(2)
+        && are(masked.as_slice(), &[1, 4, 3])
+        && take_out(masked, 0) == Some(1)
+        && are(masked.as_slice(), &[3, 4])
+        && put_all(masked, &[(4095, 5)])
+        && are(masked.as_slice(), &[3, 4, 5])
+}
+
+// What is written to the slice is found at the indices.
+fn all_are_doubled(masked: &mut MaskedStorage<InDense>) -> bool {
+    let filled = put_all(masked, &[(0, 0), (1, 1), (2, 2), (3, 3)]);
+    let taken = take_out(masked, 1) == Some(1);
+    double_all(masked);
+    filled
+        && taken
+        && are(masked.as_slice(), &[0, 6, 4])
+        && matches!(masked.get(3), Some(InDense(6)))
+        && matches!(masked.get(2), Some(InDense(4)))
+        && masked.get(1).is_none()
 }
 
 #[test]
-fn dense_pages(rt: HostRuntime) -> Result<(), Fail> {
+fn dense_slices(rt: HostRuntime) -> Result<(), Fail> {
     let mut masked = empty::<InDense>(rt.alloc())?;
-    assert!(rt; masked.put(0, InDense(1)).is_ok());
-    assert!(rt; masked.put(4095, InDense(2)).is_ok());
-    assert!(rt; masked.put(4096, InDense(3)).is_ok());
-    assert!(rt; masked.put(16_777_215, InDense(4)).is_ok());
-    assert!(rt; masked.remove(4095)?.is_some());
-    assert!(rt; are(masked.as_slice(), &[1, 4, 3]));
-    assert!(rt; masked.remove(0)?.is_some());
-    assert!(rt; are(masked.as_slice(), &[3, 4]));
-    assert!(rt; masked.put(4095, InDense(5)).is_ok());
-    assert!(rt; are(masked.as_slice(), &[3, 4, 5]));
-    Ok(())
-}
-
-#[test]
-fn dense_is_written_as_a_slice(rt: HostRuntime) -> Result<(), Fail> {
-    let mut masked = empty::<InDense>(rt.alloc())?;
-    for id in 0..4u32 {
-        assert!(rt; masked.put(id, InDense(id)).is_ok());
-    }
-    assert!(rt; masked.remove(1)?.is_some());
-    double_all(&mut masked);
-    assert!(rt; are(masked.as_slice(), &[0, 6, 4]));
-    assert!(rt; matches!(masked.get(3), Some(InDense(6))));
-    assert!(rt; matches!(masked.get(2), Some(InDense(4))));
-    assert!(rt; masked.get(1).is_none());
+    assert!(rt; the_last_is_moved(&mut masked)?);
+    assert!(rt; far_indices_lie_close(&mut masked));
+    masked.clear()?;
+    assert!(rt; all_are_doubled(&mut masked));
     Ok(())
 }
 
 #[test]
 fn insert_same_key(rt: HostRuntime) -> Result<(), Fail> {
-    let mut entities = EntitiesRes::new(rt.alloc());
-    let list = living(rt.alloc(), &mut entities, 10_000)?;
-    let mut masked = empty::<InVec>(rt.alloc())?;
-    let mut view = WriteStorage::new(&entities, &mut masked);
-    for e in list.as_slice() {
-        assert_eq!(rt; put(&mut view, *e, 0), Some(None));
-        assert_eq!(rt; put(&mut view, *e, e.id()), Some(Some(0)));
-        assert_eq!(rt; number_at(&view, *e), Some(e.id()));
-    }
+    let mut world = World::<InVec>::of(rt.alloc(), 10_000)?;
+    let (mut view, list) = world.parts();
+    assert!(rt; are_inserted_twice(&mut view, list));
     Ok(())
+}
+
+fn are_inserted_twice(view: &mut WriteStorage<'_, InVec>, list: &[Entity]) -> bool {
+    for e in list {
+        if put(view, *e, 0) != Some(None)
+            || put(view, *e, e.id()) != Some(Some(0))
+            || number_at(view, *e) != Some(e.id())
+        {
+            return false;
+        }
+    }
+    true
 }
 
 #[test]
 fn drops_a_list(rt: HostRuntime) -> Result<(), Fail> {
-    let mut entities = EntitiesRes::new(rt.alloc());
-    let list = living(rt.alloc(), &mut entities, 4)?;
+    let mut world = World::<InHash>::of(rt.alloc(), 4)?;
+    let (mut view, list) = world.parts();
     assert_eq!(rt; list.len(), 4);
-    let mut masked = empty::<InHash>(rt.alloc())?;
-    for id in 0..3u32 {
-        assert!(rt; masked.put(id, InHash(id)).is_ok());
-    }
-    AnyStorage::reserve_drop(&mut masked, list.as_slice())?;
-    AnyStorage::drop(&mut masked, [list[0], list[2], list[0], list[3]].as_slice());
-    assert!(rt; !masked.contains(0));
-    assert!(rt; masked.contains(1));
-    assert!(rt; !masked.contains(2));
-    masked.drop(1)?;
-    assert!(rt; !masked.contains(1));
-    masked.reserve_events(3)?;
+    let gone = [list[0], list[2], list[0], list[3]];
+    assert!(rt; are_dropped(view.masked_mut(), &gone)?);
     Ok(())
+}
+
+// Of three indices the first and the third are dropped.
+fn are_dropped(masked: &mut MaskedStorage<InHash>, gone: &[Entity]) -> Result<bool, AllocError> {
+    let filled = put_all(masked, &[(0, 0), (1, 1), (2, 2)]);
+    AnyStorage::reserve_drop(masked, gone)?;
+    AnyStorage::drop(masked, gone);
+    Ok(filled && !masked.contains(0) && masked.contains(1) && !masked.contains(2))
 }

@@ -1,11 +1,11 @@
 //! Tests that every kind of storage of numbers is put to.
 use crate::components::Number;
-use crate::world::{empty, fill, living};
-use entities::{EntitiesRes, Entity};
+use crate::world::World;
+use entities::Entity;
 use std::alloc::Global;
 use std::process::Abort;
 use std::test::Fail;
-use storages::{Component, WriteStorage};
+use storages::{Component, MaskedStorage, WriteStorage};
 
 /// The number of an entity.
 pub fn number_at<T: Number>(view: &WriteStorage<'_, T>, e: Entity) -> Option<u32> {
@@ -59,6 +59,25 @@ pub fn add_or_default<T: Number>(view: &mut WriteStorage<'_, T>, e: Entity, numb
     }
 }
 
+/// Puts each number at its index, and answers whether none was refused.
+pub fn put_all<T: Number>(masked: &mut MaskedStorage<T>, numbers: &[(u32, u32)]) -> bool {
+    for pair in numbers {
+        if pair.0 >= hibits::INDEX_LIMIT || masked.put(pair.0, T::of(pair.1)).is_err() {
+            return false;
+        }
+    }
+    true
+}
+
+/// Takes the number of an index out.
+pub fn take_out<T: Number>(masked: &mut MaskedStorage<T>, id: u32) -> Option<u32> {
+    match masked.remove(id) {
+        Ok(Some(old)) => Some(old.number()),
+        Ok(None) => None,
+        Err(_) => None,
+    }
+}
+
 /// Whether these are the numbers.
 pub fn are<T: Number>(values: &[T], numbers: &[u32]) -> bool {
     values.len() == numbers.len()
@@ -68,143 +87,209 @@ pub fn are<T: Number>(values: &[T], numbers: &[u32]) -> bool {
             .all(|(value, number)| value.number() == *number)
 }
 
-/// One component is inserted, replaced, counted and removed.
-pub fn test_one<T: Number>(rt: &impl Abort, alloc: Global) -> Result<(), Fail> {
-    let mut entities = EntitiesRes::new(alloc);
-    let e = entities.create().ok().ok_or("no entity")?;
-    let mut masked = empty::<T>(alloc)?;
-    let mut view = WriteStorage::new(&entities, &mut masked);
-    assert_eq!(rt; put(&mut view, e, 4), Some(None));
-    assert_eq!(rt; put(&mut view, e, 6), Some(Some(4)));
-    assert_eq!(rt; view.count(), 1);
-    assert_eq!(rt; take(&mut view, e), Some(6));
-    assert_eq!(rt; take(&mut view, e), None);
-    assert_eq!(rt; number_at(&view, e), None);
-    assert!(rt; view.is_empty());
-    Ok(())
-}
-
-/// A thousand are inserted and found again.
-pub fn test_add<T: Number>(rt: &impl Abort, alloc: Global) -> Result<(), Fail> {
-    let mut entities = EntitiesRes::new(alloc);
-    let list = living(alloc, &mut entities, 1000)?;
-    let mut masked = empty::<T>(alloc)?;
-    let mut view = WriteStorage::new(&entities, &mut masked);
-    fill(&mut view, list.as_slice(), 2718)?;
-    for e in list.as_slice() {
-        assert_eq!(rt; number_at(&view, *e), Some(e.id().wrapping_add(2718)));
-    }
-    Ok(())
-}
-
-/// A thousand are inserted and removed, once each.
-pub fn test_sub<T: Number>(rt: &impl Abort, alloc: Global) -> Result<(), Fail> {
-    let mut entities = EntitiesRes::new(alloc);
-    let list = living(alloc, &mut entities, 1000)?;
-    let mut masked = empty::<T>(alloc)?;
-    let mut view = WriteStorage::new(&entities, &mut masked);
-    fill(&mut view, list.as_slice(), 2718)?;
-    for e in list.as_slice() {
-        assert_eq!(rt; take(&mut view, *e), Some(e.id().wrapping_add(2718)));
-        assert_eq!(rt; take(&mut view, *e), None);
-    }
-    Ok(())
-}
-
-/// A thousand are inserted and written to.
-pub fn test_get_mut<T: Number>(rt: &impl Abort, alloc: Global) -> Result<(), Fail> {
-    let mut entities = EntitiesRes::new(alloc);
-    let list = living(alloc, &mut entities, 1000)?;
-    let mut masked = empty::<T>(alloc)?;
-    let mut view = WriteStorage::new(&entities, &mut masked);
-    fill(&mut view, list.as_slice(), 2000)?;
-    for e in list.as_slice() {
-        assert!(rt; add_at(&mut view, *e, 718));
-    }
-    for e in list.as_slice() {
-        assert_eq!(rt; number_at(&view, *e), Some(e.id().wrapping_add(2718)));
-    }
-    Ok(())
-}
-
-/// Of a thousand living entities the first 500 have a component; each is added its index, or gets it.
-pub fn test_get_mut_or_default<T: Number>(rt: &impl Abort, alloc: Global) -> Result<(), Fail> {
-    let mut entities = EntitiesRes::new(alloc);
-    let list = living(alloc, &mut entities, 1000)?;
-    let mut masked = empty::<T>(alloc)?;
-    let mut view = WriteStorage::new(&entities, &mut masked);
-    for e in list.as_slice() {
-        if e.id() < 500 {
-            assert_eq!(rt; put(&mut view, *e, e.id()), Some(None));
+/// Inserts the number at each entity, its index and `more`, and answers whether none was refused.
+pub fn fill<T: Number>(view: &mut WriteStorage<'_, T>, list: &[Entity], more: u32) -> bool {
+    for e in list {
+        if put(view, *e, e.id().wrapping_add(more)) != Some(None) {
+            return false;
         }
-        assert!(rt; add_or_default(&mut view, *e, e.id()));
     }
-    for e in list.as_slice() {
+    true
+}
+
+// Whether each entity has its index and `more`.
+fn have<T: Number>(view: &WriteStorage<'_, T>, list: &[Entity], more: u32) -> bool {
+    for e in list {
+        if number_at(view, *e) != Some(e.id().wrapping_add(more)) {
+            return false;
+        }
+    }
+    true
+}
+
+// One component is inserted, replaced, counted and removed.
+fn test_one<T: Number>(view: &mut WriteStorage<'_, T>, list: &[Entity]) -> bool {
+    match list.first() {
+        Some(e) => {
+            put(view, *e, 4) == Some(None)
+                && put(view, *e, 6) == Some(Some(4))
+                && view.count() == 1
+                && take(view, *e) == Some(6)
+                && take(view, *e).is_none()
+                && number_at(view, *e).is_none()
+                && view.is_empty()
+        }
+        None => false,
+    }
+}
+
+// All are inserted and found again.
+fn test_add<T: Number>(view: &mut WriteStorage<'_, T>, list: &[Entity]) -> bool {
+    fill(view, list, 2718) && have(view, list, 2718)
+}
+
+// All are inserted and removed, once each.
+fn test_sub<T: Number>(view: &mut WriteStorage<'_, T>, list: &[Entity]) -> bool {
+    if !fill(view, list, 2718) {
+        return false;
+    }
+    for e in list {
+        if take(view, *e) != Some(e.id().wrapping_add(2718)) || take(view, *e).is_some() {
+            return false;
+        }
+    }
+    true
+}
+
+// All are inserted and written to.
+fn test_get_mut<T: Number>(view: &mut WriteStorage<'_, T>, list: &[Entity]) -> bool {
+    if !fill(view, list, 2000) {
+        return false;
+    }
+    for e in list {
+        if !add_at(view, *e, 718) {
+            return false;
+        }
+    }
+    have(view, list, 2718)
+}
+
+// Those below 500 have a component; each is added its index, or gets it.
+fn test_get_mut_or_default<T: Number>(view: &mut WriteStorage<'_, T>, list: &[Entity]) -> bool {
+    for e in list {
+        let id = e.id();
+        if id < 500 && put(view, *e, id) != Some(None) || !add_or_default(view, *e, id) {
+            return false;
+        }
+    }
+    for e in list {
         let id = e.id();
         let wanted = if id < 500 { id.wrapping_add(id) } else { id };
-        assert_eq!(rt; number_at(&view, *e), Some(wanted));
+        if number_at(view, *e) != Some(wanted) {
+            return false;
+        }
     }
-    Ok(())
+    true
 }
 
-/// A thousand are inserted; those of a generation to come can't be, and are not found.
-pub fn test_add_gen<T: Number>(rt: &impl Abort, alloc: Global) -> Result<(), Fail> {
-    let mut entities = EntitiesRes::new(alloc);
-    let list = living(alloc, &mut entities, 1000)?;
-    let mut masked = empty::<T>(alloc)?;
-    let mut view = WriteStorage::new(&entities, &mut masked);
-    fill(&mut view, list.as_slice(), 2718)?;
-    for e in list.as_slice() {
-        let later = Entity::from_parts(e.id(), 2).ok_or("no generation")?;
-        assert_eq!(rt; put(&mut view, later, 31415), None);
-        assert_eq!(rt; number_at(&view, later), None);
-        assert_eq!(rt; number_at(&view, *e), Some(e.id().wrapping_add(2718)));
+// Whether the next generation of each can't be inserted, and is not found.
+fn later_are_refused<T: Number>(view: &mut WriteStorage<'_, T>, list: &[Entity]) -> bool {
+    for e in list {
+        let Some(later) = Entity::from_parts(e.id(), 2) else {
+            return false;
+        };
+        if put(view, later, 31415).is_some() || number_at(view, later).is_some() {
+            return false;
+        }
     }
-    Ok(())
+    true
 }
 
-/// Those of a generation to come can't be inserted, and there is nothing to remove.
-pub fn test_sub_gen<T: Number>(rt: &impl Abort, alloc: Global) -> Result<(), Fail> {
-    let mut entities = EntitiesRes::new(alloc);
-    let list = living(alloc, &mut entities, 1000)?;
-    let mut masked = empty::<T>(alloc)?;
-    let mut view = WriteStorage::new(&entities, &mut masked);
-    for e in list.as_slice() {
-        let later = Entity::from_parts(e.id(), 2).ok_or("no generation")?;
-        assert_eq!(rt; put(&mut view, later, 2718), None);
-        assert_eq!(rt; take(&mut view, *e), None);
-    }
-    Ok(())
+// All are inserted; those of a generation to come can't be, and are not found.
+fn test_add_gen<T: Number>(view: &mut WriteStorage<'_, T>, list: &[Entity]) -> bool {
+    fill(view, list, 2718) && later_are_refused(view, list) && have(view, list, 2718)
 }
 
-/// Ten are inserted, and none is found after `clear`.
+// Those of a generation to come can't be inserted, and there is nothing to remove.
+fn test_sub_gen<T: Number>(view: &mut WriteStorage<'_, T>, list: &[Entity]) -> bool {
+    if !later_are_refused(view, list) {
+        return false;
+    }
+    for e in list {
+        if take(view, *e).is_some() {
+            return false;
+        }
+    }
+    view.is_empty()
+}
+
+/// All are inserted, and none is found after `clear`.
 pub fn test_clear<T: Component + Copy + Drop>(
-    rt: &impl Abort,
-    alloc: Global,
+    view: &mut WriteStorage<'_, T>,
+    list: &[Entity],
     component: T,
-) -> Result<(), Fail> {
-    let mut entities = EntitiesRes::new(alloc);
-    let list = living(alloc, &mut entities, 10)?;
-    let mut masked = empty::<T>(alloc)?;
-    let mut view = WriteStorage::new(&entities, &mut masked);
-    for e in list.as_slice() {
-        assert!(rt; view.insert(*e, component).is_ok());
+) -> bool {
+    for e in list {
+        if view.insert(*e, component).is_err() {
+            return false;
+        }
     }
-    view.clear()?;
-    for e in list.as_slice() {
-        assert!(rt; view.get(*e).is_none());
+    if view.clear().is_err() {
+        return false;
     }
-    Ok(())
+    for e in list {
+        if view.get(*e).is_some() {
+            return false;
+        }
+    }
+    true
 }
 
-/// All of the above.
+// An index beyond the last, one below it, one that was left, and one with a component, each by each way to put one there.
+fn test_places<T: Number>(masked: &mut MaskedStorage<T>) -> bool {
+    put_all(masked, &[(7, 70), (2, 20), (9, 90)])
+        && take_out(masked, 2) == Some(20)
+        && put_all(masked, &[(2, 21), (2, 22)])
+        && masked.get_mut(7).is_ok()
+        && masked.get_mut_or_default(9).is_ok()
+        && masked.get_mut_or_default(4).is_ok()
+        && take_out(masked, 4) == Some(0)
+        && masked.insert_mut(4, T::of(50)).is_ok()
+        && masked.drop(9).is_ok()
+        && masked.drop(9).is_ok()
+        && take_out(masked, 4) == Some(50)
+        && take_out(masked, 4).is_none()
+        && masked.reserve_events(3).is_ok()
+        && masked.count() == 2
+}
+
+// A test.
+#[derive(Clone, Copy)]
+enum Case {
+    One,
+    Add,
+    Sub,
+    GetMut,
+    GetMutOrDefault,
+    AddGen,
+    SubGen,
+    Places,
+    Clear,
+}
+
+// Whether a storage without components passes a test, with these entities.
+fn passes<T: Number>(case: Case, view: &mut WriteStorage<'_, T>, list: &[Entity]) -> bool {
+    match case {
+        Case::One => test_one(view, list),
+        Case::Add => test_add(view, list),
+        Case::Sub => test_sub(view, list),
+        Case::GetMut => test_get_mut(view, list),
+        Case::GetMutOrDefault => test_get_mut_or_default(view, list),
+        Case::AddGen => test_add_gen(view, list),
+        Case::SubGen => test_sub_gen(view, list),
+        Case::Places => test_places(view.masked_mut()),
+        Case::Clear => test_clear(view, list, T::of(10)),
+    }
+}
+
+const CASES: [Case; 9] = [
+    Case::One,
+    Case::Add,
+    Case::Sub,
+    Case::GetMut,
+    Case::GetMutOrDefault,
+    Case::AddGen,
+    Case::SubGen,
+    Case::Places,
+    Case::Clear,
+];
+
+/// All of the above, each over a new storage and a thousand living entities.
 pub fn all_tests<T: Number>(rt: &impl Abort, alloc: Global) -> Result<(), Fail> {
-    test_one::<T>(rt, alloc)?;
-    test_add::<T>(rt, alloc)?;
-    test_sub::<T>(rt, alloc)?;
-    test_get_mut::<T>(rt, alloc)?;
-    test_get_mut_or_default::<T>(rt, alloc)?;
-    test_add_gen::<T>(rt, alloc)?;
-    test_sub_gen::<T>(rt, alloc)?;
-    test_clear(rt, alloc, T::of(10))
+    for case in CASES {
+        let mut world = World::<T>::of(alloc, 1000)?;
+        let (mut view, list) = world.parts();
+        assert!(rt; passes(case, &mut view, list));
+    }
+    Ok(())
 }

@@ -12,8 +12,6 @@ mod kind_tests;
 mod kinds;
 mod loans;
 #[cfg(test)]
-mod map_tests;
-#[cfg(test)]
 mod memory_tests;
 #[cfg(test)]
 mod vec_tests;

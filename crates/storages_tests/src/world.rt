@@ -2,14 +2,46 @@
 ghost use Rattle.std.specs.Prelude.{◌≡◌, IfOk};
 ghost use Rattle.std.specs.FinMap as map;
 
-use crate::components::Number;
 use entities::{EntitiesRes, Entity};
 use std::alloc::Global;
 use std::test::Fail;
-use storages::{Component, MaskedStorage, TryDefault, WriteStorage};
+use storages::{Component, MaskedStorage, ReadStorage, TryDefault, WriteStorage};
 
-/// Living entities, from index 0 on.
-pub fn living(alloc: Global, entities: &mut EntitiesRes, count: u32) -> Result<Vec<Entity>, Fail> {
+/// Entities, and a storage of one component.
+#[derive(Drop)]
+pub struct World<T: Component> {
+    entities: EntitiesRes,
+    list: Vec<Entity>,
+    masked: MaskedStorage<T>,
+}
+
+impl<T: Component> World<T> {
+    /// So many living entities, from index 0 on, and no component.
+    pub fn of(alloc: Global, count: u32) -> Result<Self, Fail> {
+        let mut entities = EntitiesRes::new(alloc);
+        let list = living(alloc, &mut entities, count)?;
+        Ok(World {
+            entities,
+            list,
+            masked: empty(alloc)?,
+        })
+    }
+
+    /// A view of the storage, and the entities.
+    pub fn parts(&mut self) -> (WriteStorage<'_, T>, &[Entity]) {
+        let list = self.list.as_slice();
+        (WriteStorage::new(&self.entities, &mut self.masked), list)
+    }
+
+    /// A view to read, and the entities.
+    pub fn read(&self) -> (ReadStorage<'_, T>, &[Entity]) {
+        let list = self.list.as_slice();
+        (ReadStorage::new(&self.entities, &self.masked), list)
+    }
+}
+
+// Living entities, from index 0 on.
+fn living(alloc: Global, entities: &mut EntitiesRes, count: u32) -> Result<Vec<Entity>, Fail> {
     let mut list = Vec::new(alloc);
     for _ in 0..count {
         list.push(entities.create().ok().ok_or("no entity")?)?;
@@ -23,18 +55,4 @@ pub fn empty<T: Component>(alloc: Global) -> Result<MaskedStorage<T>, Fail>
 {
     let inner = T::Storage::try_default(alloc)?;
     Ok(MaskedStorage::new(alloc, inner))
-}
-
-/// Inserts the number at each entity, its index and `more`.
-pub fn fill<T: Number>(
-    view: &mut WriteStorage<'_, T>,
-    list: &[Entity],
-    more: u32,
-) -> Result<(), Fail> {
-    for e in list {
-        if view.insert(*e, T::of(e.id().wrapping_add(more))).is_err() {
-            return Err(Fail::from("not inserted"));
-        }
-    }
-    Ok(())
 }
