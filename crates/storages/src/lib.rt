@@ -8,8 +8,6 @@ mod builder;
 mod channel;
 mod entry;
 mod event;
-#[cfg(test)]
-mod event_tests;
 mod flagged;
 mod generic;
 mod kinds;

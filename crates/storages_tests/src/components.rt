@@ -3,8 +3,8 @@ ghost use Rattle.std.specs.Prelude.{◌≡◌, refl};
 
 use std::rc::Rc;
 use storages::{
-    BTreeStorage, Component, DefaultVecStorage, DenseVecStorage, HashMapStorage, NullComponent,
-    NullStorage, VecStorage,
+    BTreeStorage, Component, DefaultVecStorage, DenseVecStorage, FlaggedStorage, HashMapStorage,
+    NullComponent, NullStorage, VecStorage,
 };
 
 /// A component that is a number.
@@ -39,6 +39,14 @@ pub struct InHash(pub u32);
 #[derive(Clone, Copy, Default)]
 pub struct InBTree(pub u32);
 
+/// A number in a `VecStorage` that tells of each change.
+#[derive(Clone, Copy, Default)]
+pub struct InFlagged(pub u32);
+
+/// A number in a storage that tells of each change, and is a `DenseVecStorage` where none is named.
+#[derive(Clone, Copy, Default)]
+pub struct Flagged(pub u32);
+
 /// A value in a `VecStorage` that several components share.
 #[derive(Drop)]
 pub struct Shared<T>(pub Rc<T>);
@@ -69,6 +77,14 @@ impl Component for InHash {
 
 impl Component for InBTree {
     type Storage = BTreeStorage<Self>;
+}
+
+impl Component for InFlagged {
+    type Storage = FlaggedStorage<Self, VecStorage<Self>>;
+}
+
+impl Component for Flagged {
+    type Storage = FlaggedStorage<Self>;
 }
 
 impl NullComponent for Flag {
@@ -138,6 +154,34 @@ impl Number for InHash {
 impl Number for InBTree {
     fn of(number: u32) -> Self {
         InBTree(number)
+    }
+
+    fn number(self) -> u32 {
+        self.0
+    }
+
+    fn add(&mut self, number: u32) {
+        self.0 = self.0.wrapping_add(number);
+    }
+}
+
+impl Number for InFlagged {
+    fn of(number: u32) -> Self {
+        InFlagged(number)
+    }
+
+    fn number(self) -> u32 {
+        self.0
+    }
+
+    fn add(&mut self, number: u32) {
+        self.0 = self.0.wrapping_add(number);
+    }
+}
+
+impl Number for Flagged {
+    fn of(number: u32) -> Self {
+        Flagged(number)
     }
 
     fn number(self) -> u32 {

@@ -7,6 +7,8 @@ mod default_vec_tests;
 #[cfg(test)]
 mod entry_tests;
 #[cfg(test)]
+mod event_tests;
+#[cfg(test)]
 mod kind_tests;
 #[cfg(test)]
 mod kinds;
@@ -20,7 +22,7 @@ mod view_tests;
 #[cfg(test)]
 mod world;
 
-pub use components::{Flag, InBTree, InDefaultVec, InDense, InHash, InVec, Number, Shared};
+pub use components::{Flag, Flagged, InBTree, InDefaultVec, InDense, InFlagged, InHash, InVec, Number, Shared};
 pub use loans::{
     double_all, entry_or_seven, seven_at_place, seven_through_entry, seven_through_storage,
     seven_through_view,
