@@ -1,5 +1,7 @@
 pub mod Census
 pub mod Population
+pub mod Equality
+pub mod Limits
 pub mod Deaths
 pub mod Lowered
 pub mod Merges

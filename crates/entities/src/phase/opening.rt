@@ -17,10 +17,10 @@ pub const MOST_PASSES: usize = 4096;
 /// Why no phase was opened. The entities are as they were.
 #[derive(Clone, Copy, Debug, PartialEq, Eq, Drop, Error)]
 pub enum OpenError {
-    /// There are more passes than `MOST_PASSES`.
+    /// There are more passes than `MOST_PASSES`. It is tested first, before any work.
     #[error("too many passes")]
     TooManyPasses,
-    /// Fewer indices than the reserve asks for are free or unused.
+    /// Fewer indices than the reserve asks for are free or unused. It is tested next, before any memory is taken.
     #[error("fewer indices than the reserve are left")]
     IndexLimit,
     /// There is no memory for the phase, or for the births, marks and deaths of its reserve.
