@@ -1,6 +1,7 @@
 pub mod Sets
 pub mod Stack
 pub mod Room
+pub mod Newborn
 pub mod Steps
 pub mod Lists
 pub mod Lowers

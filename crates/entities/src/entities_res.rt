@@ -97,6 +97,7 @@ impl EntitiesRes {
         ensures below { IfOk result (λ b. index_of (entity_built b) < INDEX_LIMIT) }
         ensures generation { IfOk result (λ b. generation_of (entity_built b) ≡ pos ((population self.old).births (index_of (entity_built b)) + 1)) }
         ensures born { IfOk result (λ b. population (lent_to_builder b).now ≡ born_pending (population self.old) (index_of (entity_built b))) }
+        ensures alive { IfOk result (λ b. IsAlive (population (lent_to_builder b).now) (entity_built b)) }
         ensures limit { IfErr result (λ e. e ≡ CreateError.IndexLimit → NoneFree (population self.old) × NoneUnused (population self.old)) }
         ensures reuses { OnErr result (NoneFree (population self.old)) }
         ensures memory { IfErr result (λ e. e ≡ CreateError.OutOfMemory → NoneUnused (population self.old) → ⊥) }
