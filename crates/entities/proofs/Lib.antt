@@ -16,4 +16,6 @@ pub mod PhaseKeeps
 pub mod PhasePasses
 pub mod PhaseEnds
 pub mod PhaseCalls
+pub mod PhaseTickets
+pub mod PhaseGiven
 pub mod PhaseShares

@@ -16,5 +16,6 @@ pub mod PhaseRule
 pub mod PhasePlan
 pub mod PhaseBoard
 pub mod PhaseCalls
+pub mod PhaseGiven
 pub mod PhaseOpened
 pub mod PhaseLending
