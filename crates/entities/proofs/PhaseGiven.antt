@@ -3,8 +3,8 @@ use Rattle.std.proofs.Common.{◌≡◌, ◌≢◌, ◌⊎◌, ⊎_elim, inl, in
 use Rattle.std.proofs.Math.Bool.{or-true}
 use Rattle.std.specs.Prelude.{slice_get, flat_map, false}
 use Rattle.std.specs.Option.{option_to_list}
-use Rattle.std.specs.List.{All}
-use Rattle.std.proofs.lemmas.Bool.{cases_lt}
+use Rattle.std.specs.List.{All, Contains}
+use Rattle.std.proofs.lemmas.Bool.{cases_lt, lt-ltb}
 use Rattle.std.proofs.lemmas.Grind.{flat_map-append}
 use Rattle.std.proofs.lemmas.List.{append-nil, get_or-take, length-take-le}
 use Rattle.std.proofs.lemmas.List.Folds.{list_any_at}
@@ -21,10 +21,11 @@ use Rattle.entities.specs.Population.{Population, IsAlive}
 use Rattle.entities.specs.PhaseReserve.{IsReserve, AreApart, with_births, with_marks}
 use Rattle.entities.specs.Deaths.{has_index}
 use Rattle.entities.specs.PhaseTrace.{Phase, Words, Event, Each, start, run, after, has, steps_of, IsRight, AreRight, one_if, given_to}
-use Rattle.entities.specs.PhaseRule.{Among, AmongLines, IsRecorded, IsOne, lines_of, line}
-use Rattle.entities.specs.PhaseBoard.{IsPassOf, IsNext, record_of, steps_of_pass, number_of_pass}
+use Rattle.entities.specs.PhaseRule.{IsSeen, Among, AmongLines, IsRecorded, IsOne, lines_of, line}
+use Rattle.entities.specs.PhaseBoard.{AreFresh, IsPassOf, IsNext, record_of, steps_of_pass, number_of_pass}
 use Rattle.entities.specs.PhasePlan.{phase_of}
-use Rattle.entities.specs.PhaseCalls.{IsClosed, AliveSteps, MarkSteps, PendingSteps}
+use Rattle.entities.specs.Census.{Census}
+use Rattle.entities.specs.PhaseCalls.{IsOpen, IsClosed, AliveSteps, MarkSteps, PendingSteps}
 use Rattle.entities.specs.PhaseGiven.{given_of, marks_of, marks_of_step, IsBlank, Gains, AreGivenOnce, AreTakenUp}
 use Rattle.entities.proofs.PhaseEnds.{each_back, pass_lines}
 use Rattle.entities.proofs.PhasePasses.{all_from_each}
@@ -51,6 +52,10 @@ gains_miss o old new t next past = subst (λ (x : Option Entity). Gains o old ne
 pub blank : (o : Phase) (pass : Pass) → steps_of_pass pass ≡ [] → IsBlank o pass
 unfolding given_of marks_of
 blank o pass none = record { given = ap (flat_map (given_to o.reserve)) none; marks = ap (flat_map marks_of_step) none }
+
+pub fresh_blank : (board : Board) (k : ℕ) (ps : List Pass) → AreFresh board k ps → Each (IsBlank (phase_of board.plan)) ps
+fresh_blank board k [] h = tt
+fresh_blank board k (x ∷ xs) h = (blank (phase_of board.plan) x h.2, fresh_blank board (k + 1) xs h.4)
 
 pub alive_gains : (board : Board) (old new : Pass) (e : Entity) (b : Bool) → AliveSteps board old new e b → Gains (phase_of board.plan) old new [] []
 alive_gains board old new e b h = elim h [
@@ -114,6 +119,25 @@ marked_steps all (Peek i b ∷ ss) f = marked_steps all ss (λ i h. f i (inr h))
 pass_marked : (pass : Pass) → Each (λ i. Among (Mark i) (steps_of_pass pass)) (marks_of pass)
 unfolding marks_of
 pass_marked pass = marked_steps (steps_of_pass pass) (steps_of_pass pass) (λ i h. h)
+
+-- a pass sees alive what it was given
+each_last : (P : Step → Type 0) (ss : List Step) (s : Step) → Each P ss → Among s ss → P s
+unfolding Among
+each_last P [] s h a = absurd a
+each_last P (x ∷ xs) s h a = ⊎_elim (λ (here : x ≡ s). subst P here h.0) (λ (later : Among s xs). each_last P xs s h.1 later) a
+
+pub own_alive : (board : Board) (c : Census) (old new : Pass) (e : Entity) (b : Bool) → IsOpen c board → AliveSteps board old new e b → Contains (given_of (phase_of board.plan) old) e → b ≡ true
+unfolding Ticketed
+own_alive board c old new e b opened steps given =
+    let o = phase_of board.plan in
+    let ticket : Ticketed o.reserve (steps_of_pass old) e = subst (Ticketed o.reserve (steps_of_pass old)) given.2 (all_from_each (Ticketed o.reserve (steps_of_pass old)) (given_of o old) (pass_ticketed o old) given.0 e given.1) in
+    elim steps [
+      | inl s ↦
+          let same : s.0 ≡ ticket.0 = sym (opened.located s.0 e s.2) ∙ opened.located ticket.0 e ticket.2 in
+          let seen : ticket.0 < s.1 = each_last (IsSeen s.1) (steps_of_pass old) (Draw ticket.0) s.4 ticket.1 in
+          s.5 ∙ lt-ltb s.0 s.1 (omega (arith, same, seen))
+      | inr s ↦ absurd (s.0 ticket.0 ticket.2)
+    ]
 
 -- two places of a reserve have two indices
 pub places_apart : (p : Population) (es : List Entity) (x y : ℕ) (e f : Entity) → IsReserve p es → slice_get es x ≡ Some e → slice_get es y ≡ Some f → x ≢ y → e.0 ≢ f.0

@@ -11,18 +11,19 @@ use Rattle.entities.specs.Population.{Population, IsAlive, index_of}
 use Rattle.entities.specs.Census.{Census, population}
 use Rattle.entities.specs.Kept.{SameBut}
 use Rattle.entities.specs.Upcoming.{upcoming}
-use Rattle.entities.specs.PhaseReserve.{with_births, with_marks}
+use Rattle.entities.specs.PhaseReserve.{IsReserve, with_births, with_marks}
 use Rattle.entities.specs.PhaseTrace.{Phase, Each, Event, IsInterleaving, IsSound, run, start, has}
 use Rattle.entities.specs.PhaseRule.{Among, IsSeen, IsRecorded, lines_of, AmongLines}
 use Rattle.entities.specs.PhasePlan.{AreLocated}
 use Rattle.entities.specs.PhaseBoard.{IsNext, steps_of_pass}
 
--- The entities are as they were at the opening, with room for the reserve, which is of the next births
+-- The entities are as they were at the opening, with room for the reserve, which is of the next births, each findable by its index
 pub record IsOpen (c : Census) (board : Board) : Type 0 where
   pub same : SameBut board.plan.opening.value c
   pub room : length board.plan.reserve.items ≤ length c.free + (c.room - length c.generations)
   pub next : board.plan.reserve.items ≡ upcoming board.plan.opening.value (length board.plan.reserve.items)
   pub located : AreLocated board.plan
+  pub reserve : IsReserve (population board.plan.opening.value) board.plan.reserve.items
 
 abbrev pub IsOfReserve : Plan → ℕ → Entity → Type 0
 IsOfReserve plan k e = slice_get plan.reserve.items k ≡ Some e

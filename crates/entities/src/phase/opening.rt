@@ -45,6 +45,7 @@ impl EntitiesRes {
     ghost use Rattle.entities.specs.PhaseCalls.{IsOpen, EveryOrderIsSound};
     ghost use Rattle.entities.specs.PhaseBoard.{AreFresh, IsPassOf};
     ghost use Rattle.entities.specs.PhaseOpened.{entities_of, board_of, phase_opened};
+    ghost use Rattle.entities.specs.PhaseGiven.{IsBlank};
     ghost use Rattle.std.specs.List.{All};
 
     /// Opens a phase, in which passes make and delete entities from several threads at once: `reserve` entities are set aside, which the
@@ -66,6 +67,7 @@ impl EntitiesRes {
         ensures sizes { IfOk result (λ r. (length (phase_opened r.0).reserve ≡ reserve) × ((phase_opened r.0).passes ≡ passes)) }
         ensures reserve { IfOk result (λ r. IsReserve (population self.old) (phase_opened r.0).reserve) }
         ensures passes { IfOk result (λ r. AreFresh (board_of r.0) 0 r.1.items × (length r.1.items ≡ passes)) }
+        ensures blank { IfOk result (λ r. All (IsBlank (phase_opened r.0)) r.1.items) }
         ensures of_phase { IfOk result (λ r. All (IsPassOf (board_of r.0)) r.1.items) }
         ensures law { IfOk result (λ r. EveryOrderIsSound (phase_opened r.0)) }
         ensures many { IfErr result (λ e. e ≡ OpenError.TooManyPasses → MOST_PASSES < passes) }

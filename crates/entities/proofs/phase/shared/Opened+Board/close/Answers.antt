@@ -18,6 +18,8 @@ use Rattle.entities.proofs.Upcoming.{same_upcoming, upcoming_take}
 use Rattle.entities.proofs.PhaseCalls.{population_but}
 use Rattle.entities.proofs.PhaseSound.{marked_alive}
 use Rattle.entities.proofs.PhaseEnds.{closes, alive_then, spent_all}
+use Rattle.entities.specs.PhaseReserve.{IsReserve}
+use Rattle.entities.proofs.PhaseGiven.{given_once, taken_up}
 use Rattle.entities.proofs.phase.shared.Opened+Board.close.Goals as goal
 
 -- the entities that are born are the first of the reserve
@@ -63,3 +65,15 @@ returns-clause-spent c k d lt spent =
     let births : ℕ = c.births-births.result in
     let born : births ≡ min (slice_index words 0) (length board.plan.reserve.items) = c.births-births.ensures ∙ ap (λ (p : Plan). min (slice_index words 0) (length p.reserve.items)) c.finish-ended.ensures.plan in
     spent_all board words c.args.passes.items births k d c.finish-ended.ensures.ended born c.requires.passes lt spent
+
+pub returns-clause-once : goal.returns-clause-once
+returns-clause-once c =
+    let board = c.args.self.board in
+    given_once board (population board.plan.opening.value) (population c.args.self.entities.now) (population c.mark_all-marks.new.entities) c.births-births.result c.mark_all-marks.result c.args.passes.items c.requires.passes c.requires.open.reserve (returns-clause-closed c)
+
+pub returns-clause-taken_up : goal.returns-clause-taken_up
+returns-clause-taken_up c =
+    let board = c.args.self.board in
+    let now = c.args.self.entities.now in
+    let reserve : IsReserve (population now) board.plan.reserve.items = subst (λ (p : Population). IsReserve p board.plan.reserve.items) (sym (population_but board.plan.opening.value now c.requires.open.same)) c.requires.open.reserve in
+    taken_up board (population now) (population c.mark_all-marks.new.entities) c.births-births.result c.mark_all-marks.result c.args.passes.items c.requires.passes reserve (returns-clause-closed c)
