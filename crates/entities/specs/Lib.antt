@@ -17,5 +17,6 @@ pub mod PhasePlan
 pub mod PhaseBoard
 pub mod PhaseCalls
 pub mod PhaseGiven
+pub mod PhaseLaws
 pub mod PhaseOpened
 pub mod PhaseLending
