@@ -9,5 +9,4 @@ pub fn limits()
     ensures generations { GenerationsEnd }
     ensures passes { PassesEnd }
     ensures action { DeletionIsNamed }
-{
-}
+{}
