@@ -20,7 +20,7 @@ use Rattle.entities.specs.declared.phase.trace.Step.TheVariants.{Draw, Look, Mar
 use Rattle.entities.specs.Population.{Population, IsAlive}
 use Rattle.entities.specs.PhaseReserve.{IsReserve, AreApart, with_births, with_marks}
 use Rattle.entities.specs.Deaths.{has_index}
-use Rattle.entities.specs.PhaseTrace.{Phase, Words, Event, Each, start, run, after, has, steps_of, IsRight, AreRight, one_if, given_to}
+use Rattle.entities.specs.PhaseTrace.{Phase, Reached, Event, Each, start, run, after, in_marks, steps_of, IsRight, AreRight, one_if, given_to}
 use Rattle.entities.specs.PhaseRule.{IsSeen, Among, AmongLines, IsRecorded, IsOne, lines_of, line}
 use Rattle.entities.specs.PhaseBoard.{AreFresh, IsPassOf, IsNext, record_of, steps_of_pass, number_of_pass}
 use Rattle.entities.specs.PhasePlan.{phase_of}
@@ -197,7 +197,7 @@ apart_option : (o : Option Entity) (xs : List Entity) → ((x : Entity) → o �
 apart_option None xs h r = r
 apart_option (Some x) xs h r = apart_cons x xs (h x refl) r
 
-given_apart : (p : Population) (es : List Entity) (q : ℕ) (w : Words) (s : Step) (ss : List Event) → IsReserve p es → IsRight w s → AreRight (after w s) ss → AreApart (flat_map (given_to es) (steps_of q ss)) → AreApart (given_to es s ++ flat_map (given_to es) (steps_of q ss))
+given_apart : (p : Population) (es : List Entity) (q : ℕ) (w : Reached) (s : Step) (ss : List Event) → IsReserve p es → IsRight w s → AreRight (after w s) ss → AreApart (flat_map (given_to es) (steps_of q ss)) → AreApart (given_to es s ++ flat_map (given_to es) (steps_of q ss))
 unfolding Ticketed
 given_apart p es q w (Draw n) ss r right rights rest = apart_option (slice_get es n) (flat_map (given_to es) (steps_of q ss))
     (λ x at. each_map (Ticketed es (steps_of q ss)) (λ y. x.0 ≢ y.0) (flat_map (given_to es) (steps_of q ss))
@@ -208,7 +208,7 @@ given_apart p es q w (Look n) ss r right rights rest = rest
 given_apart p es q w (Mark i) ss r right rights rest = rest
 given_apart p es q w (Peek i b) ss r right rights rest = rest
 
-steps_apart : (p : Population) (es : List Entity) (q : ℕ) (w : Words) (ss : List Event) → IsReserve p es → AreRight w ss → AreApart (flat_map (given_to es) (steps_of q ss))
+steps_apart : (p : Population) (es : List Entity) (q : ℕ) (w : Reached) (ss : List Event) → IsReserve p es → AreRight w ss → AreApart (flat_map (given_to es) (steps_of q ss))
 steps_apart p es q w [] r right = λ j k d less lt. absurd (omega arith)
 steps_apart p es q w (e ∷ ss) r right =
     let rest = steps_apart p es q (after w e.1) ss r right.1 in dite (ℕ_discrete q e.0)

@@ -4,16 +4,16 @@ use mathlib.Core.Logic.{dite}
 use native.Mathlib.Decide.{ℕ_discrete}
 use Rattle.entities.specs.declared.phase.trace.Step.{Step}
 use Rattle.entities.specs.declared.phase.trace.Step.TheVariants.{Draw, Look, Mark, Peek}
-use Rattle.entities.specs.PhaseTrace.{Words, Event, after, steps_of, IsRight, AreRight}
+use Rattle.entities.specs.PhaseTrace.{Reached, Event, after, steps_of, IsRight, AreRight}
 use Rattle.entities.specs.PhaseRule.{Among}
 
-grows : (w : Words) (s : Step) → w.cursor ≤ (after w s).cursor
+grows : (w : Reached) (s : Step) → w.cursor ≤ (after w s).cursor
 grows w (Draw n) = omega arith
 grows w (Look n) = omega arith
 grows w (Mark i) = omega arith
 grows w (Peek i b) = omega arith
 
-is_cursor : (w : Words) (s : Step) (t : ℕ) → IsRight w s → s ≡ Draw t → (t ≡ w.cursor) × ((after w s).cursor ≡ w.cursor + 1)
+is_cursor : (w : Reached) (s : Step) (t : ℕ) → IsRight w s → s ≡ Draw t → (t ≡ w.cursor) × ((after w s).cursor ≡ w.cursor + 1)
 is_cursor w (Draw n) t right e = let k : n ≡ t = cc in (sym k ∙ right, refl)
 is_cursor w (Look n) t right e = absurd (cc)
 is_cursor w (Mark i) t right e = absurd (cc)
@@ -28,7 +28,7 @@ pub others : (s : Step) (p : ℕ) (e : Event) (es : List Event) → p ≢ e.0 �
 others s p e es ne h = subst (λ (b : Bool). Among s (cond b (e.1 ∷ steps_of p es) (steps_of p es))) (ne_eqb p e.0 ne) h
 
 -- a ticket that is drawn is not below the cursor
-pub not_below : (t p : ℕ) (w : Words) (es : List Event) → AreRight w es → Among (Draw t) (steps_of p es) → w.cursor ≤ t
+pub not_below : (t p : ℕ) (w : Reached) (es : List Event) → AreRight w es → Among (Draw t) (steps_of p es) → w.cursor ≤ t
 unfolding Among
 not_below t p w [] r h = absurd h
 not_below t p w (e ∷ es) r h = let up = grows w e.1 in dite (ℕ_discrete p e.0)
@@ -39,7 +39,7 @@ not_below t p w (e ∷ es) r h = let up = grows w e.1 in dite (ℕ_discrete p e.
     (λ ne. let k = not_below t p (after w e.1) es r.1 (others (Draw t) p e es ne h) in omega (arith, up, k))
 
 -- no two passes draw one
-pub apart : (t p q : ℕ) (w : Words) (es : List Event) → p ≢ q → AreRight w es → Among (Draw t) (steps_of p es) → Among (Draw t) (steps_of q es) → ⊥
+pub apart : (t p q : ℕ) (w : Reached) (es : List Event) → p ≢ q → AreRight w es → Among (Draw t) (steps_of p es) → Among (Draw t) (steps_of q es) → ⊥
 unfolding Among
 apart t p q w [] ne r a b = absurd a
 apart t p q w (e ∷ es) ne r a b = dite (ℕ_discrete p e.0)

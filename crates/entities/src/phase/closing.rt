@@ -18,12 +18,12 @@ use crate::phase::board::Board;
 use crate::phase::pass::Pass;
 use crate::phase::plan::Plan;
 use crate::phase::rule::{BothRecords, Record, Sits, Words};
-use atomic_table::Closed;
+use atomic_table::Closed as ClosedTable;
 use std::alloc::Global;
 
 /// The words of a phase whose passes have ended.
 pub(crate) struct Ended {
-    pub(crate) words: Closed<(), Global>,
+    pub(crate) words: ClosedTable<(), Global>,
     pub(crate) plan: Plan,
 }
 

@@ -7,7 +7,7 @@ ghost use Rattle.entities.specs.Population.{generation_reported, index_of, numbe
 ghost use Rattle.std.specs.List.{All, Contains};
 ghost use Rattle.entities.specs.PhaseBoard.{IsPassOf, IsNext, record_of, is_spent};
 ghost use Rattle.entities.specs.PhaseOpened.{entities_of, board_of, phase_opened};
-ghost use Rattle.entities.specs.PhaseCalls.{IsOpen, AliveSteps, MarkSteps, PendingSteps, IsClosed};
+ghost use Rattle.entities.specs.PhaseCalls.{IsOpen, SpentSteps, AliveSteps, MarkSteps, PendingSteps, IsClosed};
 ghost use Rattle.entities.specs.PhaseGiven.{Gains, AreGivenOnce, AreTakenUp, given_of};
 
 use crate::entities_res::EntitiesRes;
@@ -36,8 +36,11 @@ pub struct Exhausted;
 /// What a phase came to: how many entities were born, how many indices were marked, and how many passes were given back.
 #[derive(Clone, Copy, Debug, PartialEq, Eq, Drop)]
 pub struct Closed {
+    /// How many entities were born, which are the first of the reserve.
     pub births: usize,
+    /// How many indices were marked in the phase, each counted once, also one that was marked before.
     pub marks: usize,
+    /// How many passes were given back.
     pub passes_back: usize,
 }
 
@@ -59,7 +62,7 @@ impl<'a> Opened<'a, Board> {
         ensures gains { IfOk result (λ e. Gains (phase_opened self.now) pass.old pass.new (e ∷ []) []) }
         ensures nothing { IfErr result (λ _. Gains (phase_opened self.now) pass.old pass.new [] []) }
         ensures unspent { IfOk result (λ _. (is_spent pass.old ≡ false) × (is_spent pass.new ≡ false)) }
-        ensures spent { IfErr result (λ _. (is_spent pass.new ≡ true) × (is_spent pass.old ≡ true → pass.new ≡ pass.old) × (is_spent pass.old ≡ false → (t : ℕ) × IsNext pass.old pass.new (Draw t ∷ []) × (length (phase_opened self.now).reserve ≤ t))) }
+        ensures spent { IfErr result (λ _. SpentSteps (board_of self.now) pass.old pass.new) }
     {
         if pass.spent {
             return Err(Exhausted);
