@@ -18,4 +18,5 @@ pub mod PhaseEnds
 pub mod PhaseCalls
 pub mod PhaseTickets
 pub mod PhaseGiven
+pub mod PhaseTheirs
 pub mod PhaseShares

@@ -1,13 +1,14 @@
 -- What the passes of a phase were given, and what they marked.
-use Rattle.std.specs.Prelude.{◌≡◌, ◌≢◌, ℕ, ◌<◌, true, List, [], ◌∷◌, ◌++◌, flat_map, length, slice_index_or}
-use Rattle.std.specs.List.{All}
+use Rattle.std.specs.Prelude.{◌≡◌, ◌≢◌, ◌⊎◌, ℕ, ◌<◌, true, List, [], ◌∷◌, ◌++◌, flat_map, length, slice_index_or}
+use Rattle.std.specs.List.{All, AllPairs, Any}
 use Rattle.entities.specs.declared.entity.Entity.{Entity}
 use Rattle.entities.specs.declared.phase.pass.Pass.{Pass}
 use Rattle.entities.specs.declared.phase.trace.Step.{Step}
 use Rattle.entities.specs.declared.phase.trace.Step.TheVariants.{Draw, Look, Mark, Peek}
 use Rattle.entities.specs.Population.{Population, IsAlive, index_of}
 use Rattle.entities.specs.PhaseReserve.{AreApart}
-use Rattle.entities.specs.PhaseTrace.{Phase, given_to}
+use Rattle.entities.specs.Deaths.{has_index}
+use Rattle.entities.specs.PhaseTrace.{Phase, given_to, in_marks}
 use Rattle.entities.specs.PhaseRule.{Among}
 use Rattle.entities.specs.PhaseBoard.{steps_of_pass}
 
@@ -44,7 +45,7 @@ pub record AreGivenOnce (o : Phase) (passes : List Pass) : Type 0 where
   -- no two drew one ticket
   pub tickets : (j k t : ℕ) (d : Pass) → j < k → k < length passes → Among (Draw t) (steps_of_pass (slice_index_or passes j d)) → Among (Draw t) (steps_of_pass (slice_index_or passes k d)) → ⊥
   -- so no two were given entities of one index
-  pub apart : (j k : ℕ) (d : Pass) → j < k → k < length passes → AreUnlike (given_of o (slice_index_or passes j d)) (given_of o (slice_index_or passes k d))
+  pub apart : AllPairs (λ a b. AreUnlike (given_of o a) (given_of o b)) passes
   -- and none was given two of one index
   pub once : All (λ pass. AreApart (given_of o pass)) passes
 
@@ -53,3 +54,8 @@ pub record AreTakenUp (o : Phase) (passes : List Pass) (after : Population) : Ty
   pub alive : All (λ pass. All (IsAlive after) (given_of o pass)) passes
   pub pending : All (λ pass. All (λ e. after.pending (index_of e) ≡ true) (given_of o pass)) passes
   pub marked : All (λ pass. All (λ i. after.marked i ≡ true) (marks_of pass)) passes
+
+-- Where all passes came back, only what they were given is born, and only what they marked is marked
+pub record AreAllTheirs (o : Phase) (passes : List Pass) (before after : Population) : Type 0 where
+  pub pending : (i : ℕ) → after.pending i ≡ true → (before.pending i ≡ true) ⊎ Any (λ pass. has_index (given_of o pass) i ≡ true) passes
+  pub marked : (i : ℕ) → after.marked i ≡ true → (before.marked i ≡ true) ⊎ Any (λ pass. in_marks i (marks_of pass) ≡ true) passes

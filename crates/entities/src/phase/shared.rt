@@ -8,7 +8,7 @@ ghost use Rattle.std.specs.List.{All, Contains};
 ghost use Rattle.entities.specs.PhaseBoard.{IsPassOf, IsNext, record_of, is_spent};
 ghost use Rattle.entities.specs.PhaseOpened.{entities_of, board_of, phase_opened};
 ghost use Rattle.entities.specs.PhaseCalls.{IsOpen, SpentSteps, AliveSteps, MarkSteps, PendingSteps, IsClosed};
-ghost use Rattle.entities.specs.PhaseGiven.{Gains, AreGivenOnce, AreTakenUp, given_of};
+ghost use Rattle.entities.specs.PhaseGiven.{Gains, AreGivenOnce, AreTakenUp, AreAllTheirs, given_of};
 
 use crate::entities_res::EntitiesRes;
 use crate::entity::{DELETE, Entity, WrongGeneration};
@@ -140,6 +140,7 @@ impl<'a> Opened<'a, Board> {
         ensures closed { IsClosed (phase_opened self.entry) (record_of passes.items) (population (entities_of self.entry)) (population self.exit.0.now) result.births result.marks }
         ensures once { AreGivenOnce (phase_opened self.entry) passes.items }
         ensures taken_up { AreTakenUp (phase_opened self.entry) passes.items (population self.exit.0.now) }
+        ensures theirs { length passes.items ≡ (phase_opened self.entry).passes → AreAllTheirs (phase_opened self.entry) passes.items (population (entities_of self.entry)) (population self.exit.0.now) }
         ensures back { result.passes_back ≡ length passes.items }
         ensures spent { (k : ℕ) (d : Pass) → k < length passes.items → is_spent (slice_index_or passes.items k d) ≡ true → result.births ≡ length (phase_opened self.entry).reserve }
     {

@@ -20,6 +20,7 @@ use Rattle.entities.proofs.PhaseSound.{marked_alive}
 use Rattle.entities.proofs.PhaseEnds.{closes, alive_then, spent_all}
 use Rattle.entities.specs.PhaseReserve.{IsReserve}
 use Rattle.entities.proofs.PhaseGiven.{given_once, taken_up}
+use Rattle.entities.proofs.PhaseTheirs.{all_theirs}
 use Rattle.entities.proofs.phase.shared.Opened+Board.close.Goals as goal
 
 -- the entities that are born are the first of the reserve
@@ -77,3 +78,6 @@ returns-clause-taken_up c =
     let now = c.args.self.entities.now in
     let reserve : IsReserve (population now) board.plan.reserve.items = subst (λ (p : Population). IsReserve p board.plan.reserve.items) (sym (population_but board.plan.opening.value now c.requires.open.same)) c.requires.open.reserve in
     taken_up board (population now) (population c.mark_all-marks.new.entities) c.births-births.result c.mark_all-marks.result c.args.passes.items c.requires.passes reserve (returns-clause-closed c)
+
+pub returns-clause-theirs : goal.returns-clause-theirs
+returns-clause-theirs c = all_theirs c.args.self.board (population c.args.self.entities.now) (population c.mark_all-marks.new.entities) c.births-births.result c.mark_all-marks.result c.args.passes.items c.requires.passes (returns-clause-closed c)
