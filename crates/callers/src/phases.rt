@@ -2,9 +2,9 @@
 ghost use Rattle.std.specs.Prelude.{◌≡◌, ◌≢◌, true, IfSome};
 ghost use Rattle.entities.specs.Census.{population};
 ghost use Rattle.entities.specs.Population.{IsAlive, index_of};
-ghost use Rattle.entities.specs.PhaseBoard.{IsPassOf};
-ghost use Rattle.entities.specs.PhaseOpened.{entities_of, board_of};
-ghost use Rattle.entities.specs.PhaseCalls.{IsOpen};
+ghost use Rattle.entities.specs.Phase.Board.{IsPassOf};
+ghost use Rattle.entities.specs.Phase.Opened.{entities_of, board_of};
+ghost use Rattle.entities.specs.Phase.Calls.{IsOpen};
 
 use entities::{EntitiesRes, Entity, Pass, Shared};
 use std::alloc::Global;
@@ -44,7 +44,7 @@ pub fn marked_at_closing(alloc: Global, entities: &mut EntitiesRes, entity: Enti
 }
 
 /// A pass sees alive what it was given.
-#[tactic(auto, using(entities::specs::PhaseLaws::newly_given))]
+#[tactic(auto, using(entities::specs::Phase::Laws::newly_given))]
 pub fn sees_its_own(shared: &Shared<'_>, pass: &mut Pass) -> bool
     requires opened { IsOpen (entities_of shared.now) (board_of shared.now) }
     requires pass { IsPassOf (board_of shared.now) pass.old }

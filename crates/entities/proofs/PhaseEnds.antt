@@ -9,13 +9,13 @@ use Rattle.entities.specs.declared.phase.plan.Plan.{Plan}
 use Rattle.entities.specs.declared.phase.board.Board.{Board}
 use Rattle.entities.specs.declared.phase.trace.Line.{Line}
 use Rattle.entities.specs.declared.phase.pass.Pass.{Pass}
-use Rattle.entities.specs.PhaseTrace.{Each, Phase}
-use Rattle.entities.specs.PhaseRule.{agree, IsEnded, States}
-use Rattle.entities.specs.PhasePlan.{phase_of}
-use Rattle.entities.specs.PhaseBoard.{IsPassOf, IsHome, record_of}
+use Rattle.entities.specs.Phase.Trace.{Each, Phase}
+use Rattle.entities.specs.Phase.Rule.{agree, IsEnded, States}
+use Rattle.entities.specs.Phase.Plan.{phase_of}
+use Rattle.entities.specs.Phase.Board.{IsPassOf, IsHome, record_of}
 use Rattle.std.proofs.Common.{Bool, ◌≤◌, ◌*◌, arith, min}
 use Rattle.std.specs.Prelude.{slice_index}
-use Rattle.entities.specs.PhaseTrace.{run, start, in_marks}
+use Rattle.entities.specs.Phase.Trace.{run, start, in_marks}
 use Rattle.std.proofs.Common.{Bool, true, false, ◌||◌, eqb, eq-eqb, ◌*◌, ⊎_elim, take, min, arith, inl, inr}
 use Rattle.std.specs.Prelude.{slice_index}
 use Rattle.std.specs.List.{All}
@@ -26,13 +26,13 @@ use Rattle.std.proofs.lemmas.List.Folds.{list_any_at}
 use Rattle.entities.specs.declared.entity.Entity.{Entity}
 use Rattle.entities.specs.Population.{Population, IsAlive, lives}
 use Rattle.entities.specs.Census.{population}
-use Rattle.entities.specs.PhaseTrace.{IsOfAlive, IsGivenBelow, run, start, in_marks}
-use Rattle.entities.specs.PhaseReserve.{with_births, with_marks}
+use Rattle.entities.specs.Phase.Trace.{IsOfAlive, IsGivenBelow, run, start, in_marks}
+use Rattle.entities.specs.Phase.Reserve.{with_births, with_marks}
 use Rattle.entities.specs.declared.phase.trace.Step.{Step}
 use Rattle.entities.specs.declared.phase.trace.Step.TheVariants.{Draw}
-use Rattle.entities.specs.PhaseBoard.{steps_of_pass}
-use Rattle.entities.specs.PhaseRule.{marks_index, marks_below, Among, AmongLines}
-use Rattle.entities.specs.PhaseCalls.{IsClosed}
+use Rattle.entities.specs.Phase.Board.{steps_of_pass}
+use Rattle.entities.specs.Phase.Rule.{marks_index, marks_below, Among, AmongLines}
+use Rattle.entities.specs.Phase.Calls.{IsClosed}
 use Rattle.entities.proofs.PhaseSound.{marked_alive, drawn_below, mark_told, each_ticket, each_mark, miss_draw}
 use Rattle.entities.proofs.PhasePasses.{alive_within}
 use Rattle.entities.proofs.PhaseMarks.{same_marks, count_same}

@@ -18,15 +18,15 @@ use Rattle.entities.specs.declared.phase.trace.Line.{Line}
 use Rattle.entities.specs.declared.phase.trace.Step.{Step}
 use Rattle.entities.specs.declared.phase.trace.Step.TheVariants.{Draw, Look, Mark, Peek}
 use Rattle.entities.specs.Population.{Population, IsAlive}
-use Rattle.entities.specs.PhaseReserve.{IsReserve, AreApart, with_births, with_marks}
+use Rattle.entities.specs.Phase.Reserve.{IsReserve, AreApart, with_births, with_marks}
 use Rattle.entities.specs.Deaths.{has_index}
-use Rattle.entities.specs.PhaseTrace.{Phase, Reached, Event, Each, start, run, after, in_marks, steps_of, IsRight, AreRight, one_if, given_to}
-use Rattle.entities.specs.PhaseRule.{IsSeen, Among, AmongLines, IsRecorded, IsOne, lines_of, line}
-use Rattle.entities.specs.PhaseBoard.{AreFresh, IsPassOf, IsNext, record_of, steps_of_pass, number_of_pass}
-use Rattle.entities.specs.PhasePlan.{phase_of}
+use Rattle.entities.specs.Phase.Trace.{Phase, Reached, Event, Each, start, run, after, in_marks, steps_of, IsRight, AreRight, one_if, given_to}
+use Rattle.entities.specs.Phase.Rule.{IsSeen, Among, AmongLines, IsRecorded, IsOne, lines_of, line}
+use Rattle.entities.specs.Phase.Board.{AreFresh, IsPassOf, IsNext, record_of, steps_of_pass, number_of_pass}
+use Rattle.entities.specs.Phase.Plan.{phase_of}
 use Rattle.entities.specs.Census.{Census}
-use Rattle.entities.specs.PhaseCalls.{IsOpen, IsClosed, AliveSteps, MarkSteps, PendingSteps}
-use Rattle.entities.specs.PhaseGiven.{given_of, marks_of, marks_of_step, IsBlank, Gains, AreGivenOnce, AreTakenUp}
+use Rattle.entities.specs.Phase.Calls.{IsOpen, IsClosed, AliveSteps, MarkSteps, PendingSteps}
+use Rattle.entities.specs.Phase.Given.{given_of, marks_of, marks_of_step, IsBlank, Gains, AreGivenOnce, AreTakenUp}
 use Rattle.entities.proofs.PhaseEnds.{each_back, pass_lines}
 use Rattle.entities.proofs.PhasePasses.{all_from_each}
 use Rattle.entities.proofs.PhaseReserve.{slice_get_within, slice_get_is, reserve_apart}

@@ -14,9 +14,9 @@ use Rattle.entities.specs.declared.phase.trace.Step.{Step}
 use Rattle.entities.specs.declared.phase.trace.Step.TheVariants.{Draw, Look, Mark, Peek}
 use Rattle.entities.specs.declared.phase.trace.Line.{Line}
 use Rattle.entities.specs.declared.phase.plan.Plan.{Plan}
-use Rattle.entities.specs.PhasePlan.{phase_of}
-use Rattle.entities.specs.PhaseTrace.{Phase, Reached, Event, Each, one_if, start, run, after, in_marks, steps_of, IsRight, AreRight, AreCalls, creates, looks, misses}
-use Rattle.entities.specs.PhaseRule.{Among, Agree, line, lines_of, total, marks_word, IsRecorded, blank_lines, first_line, other_lines, with_step, number_of, steps_in, IsOne, bit_of, IsSeen, States, Seats, IsEnded, agree, tells_draw, tells_look, tells_mark, tells_peek}
+use Rattle.entities.specs.Phase.Plan.{phase_of}
+use Rattle.entities.specs.Phase.Trace.{Phase, Reached, Event, Each, one_if, start, run, after, in_marks, steps_of, IsRight, AreRight, AreCalls, creates, looks, misses}
+use Rattle.entities.specs.Phase.Rule.{Among, Agree, line, lines_of, total, marks_word, IsRecorded, blank_lines, first_line, other_lines, with_step, number_of, steps_in, IsOne, bit_of, IsSeen, States, Seats, IsEnded, agree, tells_draw, tells_look, tells_mark, tells_peek}
 use Rattle.entities.proofs.PhasePushes.{steps_of-mine, steps_of-other, run-push, IsInterleaving-push, AreCalls-push, misses-push}
 use Rattle.entities.proofs.PhaseSound.{bounded, own_mark, run_grows}
 

@@ -7,7 +7,7 @@ use mathlib.Core.Logic.{dite}
 use native.Mathlib.Decide.{ℕ_discrete}
 use Rattle.entities.specs.declared.phase.trace.Step.{Step}
 use Rattle.entities.specs.declared.phase.trace.Step.TheVariants.{Draw, Look, Mark, Peek}
-use Rattle.entities.specs.PhaseTrace.{Phase, Reached, Event, Each, start, run, after, steps_of, IsRight, AreRight, IsInterleaving, AreCalls, Call, steps_of_call, IsLegal, misses}
+use Rattle.entities.specs.Phase.Trace.{Phase, Reached, Event, Each, start, run, after, steps_of, IsRight, AreRight, IsInterleaving, AreCalls, Call, steps_of_call, IsLegal, misses}
 
 pub Each-push : {X : Type 0} (P : X → Type 0) (xs : List X) (x : X) → Each P xs → P x → Each P (xs ++ x ∷ [])
 Each-push P [] x h p = (p, tt)

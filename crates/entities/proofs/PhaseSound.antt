@@ -8,13 +8,13 @@ use mathlib.Core.Logic.{dite}
 use native.Mathlib.Decide.{ℕ_discrete, dec_le}
 use Rattle.entities.specs.declared.entity.Entity.{Entity}
 use Rattle.entities.specs.Population.{IsAlive}
-use Rattle.entities.specs.PhaseReserve.{IsReserve}
+use Rattle.entities.specs.Phase.Reserve.{IsReserve}
 use Rattle.entities.proofs.PhaseReserve.{taken_apart, taken_new}
 use Rattle.entities.specs.declared.phase.trace.Step.{Step}
 use Rattle.entities.specs.declared.phase.trace.Step.TheVariants.{Draw, Look, Mark, Peek}
 use Rattle.entities.specs.declared.phase.trace.Line.{Line}
-use Rattle.entities.specs.PhaseRule.{lines_of, IsRecorded, Among, AmongLines}
-use Rattle.entities.specs.PhaseTrace.{Phase, Reached, Event, Each, one_if, start, run, after, in_marks, steps_of, IsRight, AreRight, IsInterleaving, Call, creates, looks, marks_new, marks_old, peeks_new, peeks_old, steps_of_call, IsLegal, IsGivenBelow, misses, given_to, given, IsOfAlive, IsSound}
+use Rattle.entities.specs.Phase.Rule.{lines_of, IsRecorded, Among, AmongLines}
+use Rattle.entities.specs.Phase.Trace.{Phase, Reached, Event, Each, one_if, start, run, after, in_marks, steps_of, IsRight, AreRight, IsInterleaving, Call, creates, looks, marks_new, marks_old, peeks_new, peeks_old, steps_of_call, IsLegal, IsGivenBelow, misses, given_to, given, IsOfAlive, IsSound}
 
 -- what was given out is a beginning of the reserve
 take_one : (l : List Entity) (n : ℕ) → take n l ++ option_to_list (slice_get l n) ≡ take (n + 1) l

@@ -14,12 +14,12 @@ use Rattle.entities.specs.declared.phase.trace.Step.{Step}
 use Rattle.entities.specs.declared.phase.trace.Step.TheVariants.{Draw, Look, Mark, Peek}
 use Rattle.entities.specs.Population.{Population}
 use Rattle.entities.specs.Deaths.{has_index}
-use Rattle.entities.specs.PhaseTrace.{Phase, given_to, in_marks, start, run}
-use Rattle.entities.specs.PhaseRule.{Among, AmongLines, IsOne}
-use Rattle.entities.specs.PhaseBoard.{IsPassOf, record_of, steps_of_pass}
-use Rattle.entities.specs.PhasePlan.{phase_of}
-use Rattle.entities.specs.PhaseCalls.{IsClosed}
-use Rattle.entities.specs.PhaseGiven.{given_of, marks_of, marks_of_step, AreAllTheirs}
+use Rattle.entities.specs.Phase.Trace.{Phase, given_to, in_marks, start, run}
+use Rattle.entities.specs.Phase.Rule.{Among, AmongLines, IsOne}
+use Rattle.entities.specs.Phase.Board.{IsPassOf, record_of, steps_of_pass}
+use Rattle.entities.specs.Phase.Plan.{phase_of}
+use Rattle.entities.specs.Phase.Calls.{IsClosed}
+use Rattle.entities.specs.Phase.Given.{given_of, marks_of, marks_of_step, AreAllTheirs}
 
 -- each pass that came back has one line
 record_length : (ps : List Pass) → ((k : ℕ) (d : Pass) → k < length ps → IsOne (get_or ps k d).record.me.0) → length (record_of ps) ≡ length ps

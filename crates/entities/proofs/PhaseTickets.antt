@@ -4,8 +4,8 @@ use mathlib.Core.Logic.{dite}
 use native.Mathlib.Decide.{ℕ_discrete}
 use Rattle.entities.specs.declared.phase.trace.Step.{Step}
 use Rattle.entities.specs.declared.phase.trace.Step.TheVariants.{Draw, Look, Mark, Peek}
-use Rattle.entities.specs.PhaseTrace.{Reached, Event, after, steps_of, IsRight, AreRight}
-use Rattle.entities.specs.PhaseRule.{Among}
+use Rattle.entities.specs.Phase.Trace.{Reached, Event, after, steps_of, IsRight, AreRight}
+use Rattle.entities.specs.Phase.Rule.{Among}
 
 grows : (w : Reached) (s : Step) → w.cursor ≤ (after w s).cursor
 grows w (Draw n) = omega arith

@@ -15,7 +15,7 @@ use Rattle.entities.specs.Population.{Population, MayBeBorn, NoneFree, IsLeastUn
 use Rattle.entities.specs.Deaths.{has_index}
 use Rattle.entities.specs.Kept.{IsStacked, SameBut, free_at}
 use Rattle.entities.specs.Upcoming.{next_index, next_entity, upcoming}
-use Rattle.entities.specs.PhaseReserve.{IsReserve, with_births}
+use Rattle.entities.specs.Phase.Reserve.{IsReserve, with_births}
 use Rattle.entities.proofs.Sets.{same_population, free_is}
 use Rattle.entities.proofs.Stack.{within, born_in, unborn_past}
 

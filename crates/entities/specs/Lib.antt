@@ -10,13 +10,4 @@ pub mod Texts
 pub mod Lending
 pub mod Creates
 pub mod Upcoming
-pub mod PhaseReserve
-pub mod PhaseTrace
-pub mod PhaseRule
-pub mod PhasePlan
-pub mod PhaseBoard
-pub mod PhaseCalls
-pub mod PhaseGiven
-pub mod PhaseLaws
-pub mod PhaseOpened
-pub mod PhaseLending
+pub mod Phase

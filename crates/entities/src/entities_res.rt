@@ -7,7 +7,7 @@ ghost use Rattle.entities.specs.declared.entity.Entity.{Entity};
 ghost use Rattle.entities.specs.Census.{population};
 ghost use Rattle.entities.specs.Kept.{SameBut};
 ghost use Rattle.entities.specs.Upcoming.{upcoming};
-ghost use Rattle.entities.specs.PhaseReserve.{IsReserve, givable, with_births};
+ghost use Rattle.entities.specs.Phase.Reserve.{IsReserve, givable, with_births};
 
 use crate::allocator::{Allocator, CreateError};
 use crate::create_iter::CreateIterAtomic;

@@ -1,7 +1,7 @@
 //! What phases come to.
-ghost use Rattle.entities.specs.PhaseBoard.{IsPassOf};
-ghost use Rattle.entities.specs.PhaseOpened.{entities_of, board_of};
-ghost use Rattle.entities.specs.PhaseCalls.{IsOpen};
+ghost use Rattle.entities.specs.Phase.Board.{IsPassOf};
+ghost use Rattle.entities.specs.Phase.Opened.{entities_of, board_of};
+ghost use Rattle.entities.specs.Phase.Calls.{IsOpen};
 
 use super::*;
 use entities::{Closed, Entity, OpenError};

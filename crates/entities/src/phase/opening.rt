@@ -40,12 +40,12 @@ impl From<AllocError> for OpenError {
 }
 
 impl EntitiesRes {
-    ghost use Rattle.entities.specs.PhaseLending.{OpenRests, name_of_phase};
-    ghost use Rattle.entities.specs.PhaseReserve.{IsReserve, givable};
-    ghost use Rattle.entities.specs.PhaseCalls.{IsOpen, EveryOrderIsSound};
-    ghost use Rattle.entities.specs.PhaseBoard.{AreFresh, IsPassOf};
-    ghost use Rattle.entities.specs.PhaseOpened.{entities_of, board_of, phase_opened};
-    ghost use Rattle.entities.specs.PhaseGiven.{IsBlank};
+    ghost use Rattle.entities.specs.Phase.Lending.{OpenRests, name_of_phase};
+    ghost use Rattle.entities.specs.Phase.Reserve.{IsReserve, givable};
+    ghost use Rattle.entities.specs.Phase.Calls.{IsOpen, EveryOrderIsSound};
+    ghost use Rattle.entities.specs.Phase.Board.{AreFresh, IsPassOf};
+    ghost use Rattle.entities.specs.Phase.Opened.{entities_of, board_of, phase_opened};
+    ghost use Rattle.entities.specs.Phase.Given.{IsBlank};
     ghost use Rattle.std.specs.List.{All};
 
     /// Opens a phase, in which passes make and delete entities from several threads at once: `reserve` entities are set aside, which the

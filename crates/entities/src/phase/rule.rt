@@ -12,8 +12,8 @@ use std::marker::{Brand, PhantomData};
 pub struct Interleaved;
 
 impl TableRule<(), LinkedList<Line>, Plan> for Interleaved {
-    ghost use Rattle.entities.specs.PhasePlan.{phase_of, words_of_marks};
-    ghost use Rattle.entities.specs.PhaseRule.{agree, blank_lines};
+    ghost use Rattle.entities.specs.Phase.Plan.{phase_of, words_of_marks};
+    ghost use Rattle.entities.specs.Phase.Rule.{agree, blank_lines};
 
     ghost holds = { λ plan. agree (phase_of plan) (words_of_marks plan) };
 
@@ -33,7 +33,7 @@ impl Asked for Brand {
 pub struct Sits;
 
 impl Play<(), LinkedList<Line>> for Sits {
-    ghost use Rattle.entities.specs.PhaseRule.{tells_seat};
+    ghost use Rattle.entities.specs.Phase.Rule.{tells_seat};
 
     ghost then = { tells_seat };
 }
@@ -42,7 +42,7 @@ impl Play<(), LinkedList<Line>> for Sits {
 pub struct Draws;
 
 impl Play<(), LinkedList<Line>> for Draws {
-    ghost use Rattle.entities.specs.PhaseRule.{tells_draw};
+    ghost use Rattle.entities.specs.Phase.Rule.{tells_draw};
 
     ghost then = { tells_draw };
 }
@@ -51,7 +51,7 @@ impl Play<(), LinkedList<Line>> for Draws {
 pub struct Looks;
 
 impl Play<(), LinkedList<Line>> for Looks {
-    ghost use Rattle.entities.specs.PhaseRule.{tells_look};
+    ghost use Rattle.entities.specs.Phase.Rule.{tells_look};
 
     ghost then = { tells_look };
 }
@@ -62,7 +62,7 @@ pub struct Marks<I> {
 }
 
 impl<I: Asked> Play<(), LinkedList<Line>> for Marks<I> {
-    ghost use Rattle.entities.specs.PhaseRule.{tells_mark};
+    ghost use Rattle.entities.specs.Phase.Rule.{tells_mark};
 
     ghost then = { tells_mark I.index };
 }
@@ -73,7 +73,7 @@ pub struct Peeks<I> {
 }
 
 impl<I: Asked> Play<(), LinkedList<Line>> for Peeks<I> {
-    ghost use Rattle.entities.specs.PhaseRule.{tells_peek};
+    ghost use Rattle.entities.specs.Phase.Rule.{tells_peek};
 
     ghost then = { tells_peek I.index };
 }
@@ -82,7 +82,7 @@ impl<I: Asked> Play<(), LinkedList<Line>> for Peeks<I> {
 pub struct FirstLine;
 
 impl Split<LinkedList<Line>> for FirstLine {
-    ghost use Rattle.entities.specs.PhaseRule.{first_line, other_lines};
+    ghost use Rattle.entities.specs.Phase.Rule.{first_line, other_lines};
 
     ghost left = { other_lines };
 

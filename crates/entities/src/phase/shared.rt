@@ -5,10 +5,10 @@ ghost use Rattle.entities.specs.declared.phase.trace.Step.TheVariants.{Draw, Loo
 ghost use Rattle.entities.specs.Census.{population};
 ghost use Rattle.entities.specs.Population.{generation_reported, index_of, number_of};
 ghost use Rattle.std.specs.List.{All, Contains};
-ghost use Rattle.entities.specs.PhaseBoard.{IsPassOf, IsNext, record_of, is_spent};
-ghost use Rattle.entities.specs.PhaseOpened.{entities_of, board_of, phase_opened};
-ghost use Rattle.entities.specs.PhaseCalls.{IsOpen, SpentSteps, AliveSteps, MarkSteps, PendingSteps, IsClosed};
-ghost use Rattle.entities.specs.PhaseGiven.{Gains, AreGivenOnce, AreTakenUp, AreAllTheirs, given_of};
+ghost use Rattle.entities.specs.Phase.Board.{IsPassOf, IsNext, record_of, is_spent};
+ghost use Rattle.entities.specs.Phase.Opened.{entities_of, board_of, phase_opened};
+ghost use Rattle.entities.specs.Phase.Calls.{IsOpen, SpentSteps, AliveSteps, MarkSteps, PendingSteps, IsClosed};
+ghost use Rattle.entities.specs.Phase.Given.{Gains, AreGivenOnce, AreTakenUp, AreAllTheirs, given_of};
 
 use crate::entities_res::EntitiesRes;
 use crate::entity::{DELETE, Entity, WrongGeneration};

@@ -4,8 +4,8 @@ use Rattle.std.specs.Result.{is_ok}
 use Rattle.std.proofs.lemmas.Bool.{false≢true}
 use Rattle.std.proofs.lemmas.List.{get_or-set_same}
 use Rattle.entities.specs.Census.{population}
-use Rattle.entities.specs.PhaseOpened.{phase_opened}
-use Rattle.entities.specs.PhaseLaws.{newly_marked, marked_then}
+use Rattle.entities.specs.Phase.Opened.{phase_opened}
+use Rattle.entities.specs.Phase.Laws.{newly_marked, marked_then}
 use Rattle.callers.proofs.phases.marked_at_closing.Goals as goal
 
 ok_then : {T E : Type 0} (r : Result T E) (P : Type 0) → is_ok r ≡ true → IfOk r (λ _. P) → P

@@ -3,8 +3,8 @@ use Rattle.std.proofs.lemmas.List.{get_or-set_same, get_or-set_other}
 use Rattle.entities.specs.declared.phase.pass.Pass.{Pass}
 use Rattle.entities.specs.Census.{population}
 use Rattle.entities.specs.Population.{IsAlive}
-use Rattle.entities.specs.PhaseOpened.{phase_opened}
-use Rattle.entities.specs.PhaseLaws.{newly_given, given_apart, given_alive}
+use Rattle.entities.specs.Phase.Opened.{phase_opened}
+use Rattle.entities.specs.Phase.Laws.{newly_given, given_apart, given_alive}
 use Rattle.callers.proofs.phases.two_births.Goals as goal
 
 -- the list of two passes, as they are after their calls

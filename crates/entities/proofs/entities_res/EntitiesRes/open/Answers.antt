@@ -3,15 +3,15 @@ use Rattle.entities.specs.declared.phase.plan.Plan.{Plan}
 use Rattle.entities.specs.Census.{population}
 use Rattle.entities.specs.Kept.{SameBut}
 use Rattle.entities.specs.Upcoming.{upcoming}
-use Rattle.entities.specs.PhaseReserve.{IsReserve}
-use Rattle.entities.specs.PhasePlan.{phase_of, AreLocated}
-use Rattle.entities.specs.PhaseCalls.{EveryOrderIsSound}
+use Rattle.entities.specs.Phase.Reserve.{IsReserve}
+use Rattle.entities.specs.Phase.Plan.{phase_of, AreLocated}
+use Rattle.entities.specs.Phase.Calls.{EveryOrderIsSound}
 use Rattle.entities.proofs.Upcoming.{upcoming_length}
 use Rattle.entities.proofs.PhaseCalls.{population_but}
 use Rattle.entities.proofs.PhasePasses.{fresh_each, all_from_each}
-use Rattle.entities.specs.PhaseBoard.{IsPassOf}
+use Rattle.entities.specs.Phase.Board.{IsPassOf}
 use Rattle.entities.proofs.PhaseSound.{sound}
-use Rattle.entities.specs.PhaseGiven.{IsBlank}
+use Rattle.entities.specs.Phase.Given.{IsBlank}
 use Rattle.entities.proofs.PhaseGiven.{fresh_blank}
 use Rattle.entities.proofs.entities_res.EntitiesRes.open.Goals as goal
 

@@ -7,18 +7,18 @@ use Rattle.entities.specs.declared.phase.plan.Plan.{Plan}
 use Rattle.entities.specs.Census.{Census, population}
 use Rattle.entities.specs.Population.{Population, lives}
 use Rattle.entities.specs.Upcoming.{upcoming}
-use Rattle.entities.specs.PhaseReserve.{with_births, with_marks}
-use Rattle.entities.specs.PhaseRule.{marks_index, marks_below}
-use Rattle.entities.specs.PhasePlan.{phase_of}
-use Rattle.entities.specs.PhaseTrace.{run, start}
+use Rattle.entities.specs.Phase.Reserve.{with_births, with_marks}
+use Rattle.entities.specs.Phase.Rule.{marks_index, marks_below}
+use Rattle.entities.specs.Phase.Plan.{phase_of}
+use Rattle.entities.specs.Phase.Trace.{run, start}
 use Rattle.entities.specs.declared.phase.board.Board.{Board}
-use Rattle.entities.specs.PhaseBoard.{record_of}
-use Rattle.entities.specs.PhaseCalls.{IsOpen}
+use Rattle.entities.specs.Phase.Board.{record_of}
+use Rattle.entities.specs.Phase.Calls.{IsOpen}
 use Rattle.entities.proofs.Upcoming.{same_upcoming, upcoming_take}
 use Rattle.entities.proofs.PhaseCalls.{population_but}
 use Rattle.entities.proofs.PhaseSound.{marked_alive}
 use Rattle.entities.proofs.PhaseEnds.{closes, alive_then, spent_all}
-use Rattle.entities.specs.PhaseReserve.{IsReserve}
+use Rattle.entities.specs.Phase.Reserve.{IsReserve}
 use Rattle.entities.proofs.PhaseGiven.{given_once, taken_up}
 use Rattle.entities.proofs.PhaseTheirs.{all_theirs}
 use Rattle.entities.proofs.phase.shared.Opened+Board.close.Goals as goal

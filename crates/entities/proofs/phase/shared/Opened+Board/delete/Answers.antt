@@ -1,5 +1,5 @@
 use Rattle.std.proofs.Common.{refl, subst, Bool}
-use Rattle.entities.specs.PhaseCalls.{AliveSteps}
+use Rattle.entities.specs.Phase.Calls.{AliveSteps}
 use Rattle.entities.proofs.PhaseCalls.{index_within, mark_after, marked_pass, marked_steps}
 use Rattle.entities.proofs.PhaseGiven.{alive_gains, mark_gains}
 use Rattle.entities.proofs.phase.shared.Opened+Board.delete.Goals as goal

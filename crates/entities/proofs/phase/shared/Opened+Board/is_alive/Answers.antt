@@ -4,7 +4,7 @@ use Rattle.std.specs.Prelude.{◌↔◌}
 use Rattle.entities.specs.Population.{Population, IsAlive}
 use Rattle.entities.proofs.PhasePasses.{looked_at}
 use Rattle.entities.proofs.PhaseCalls.{population_but}
-use Rattle.entities.specs.PhasePlan.{phase_of}
+use Rattle.entities.specs.Phase.Plan.{phase_of}
 use Rattle.entities.proofs.PhaseGiven.{gains, own_alive}
 use Rattle.entities.proofs.phase.shared.Opened+Board.is_alive.Goals as goal
 

@@ -1,6 +1,6 @@
 use Rattle.std.proofs.Common.{◌≡◌, ◌∙◌, true, false, ◌||◌, refl, ap, subst, Bool}
 use Rattle.entities.specs.Population.{Population}
-use Rattle.entities.specs.PhaseCalls.{AliveSteps}
+use Rattle.entities.specs.Phase.Calls.{AliveSteps}
 use Rattle.entities.proofs.PhaseCalls.{index_within, peek_after, peeked_pass, peeked_steps, population_but}
 use Rattle.entities.proofs.PhaseGiven.{pending_gains}
 use Rattle.entities.proofs.phase.shared.Opened+Board.pending.Goals as goal

@@ -6,7 +6,7 @@ use Rattle.atomic_table.specs.Table.{State, Me, Step as TableStep}
 use Rattle.entities.specs.declared.phase.trace.Step.{Step}
 use Rattle.entities.specs.declared.phase.trace.Step.TheVariants.{Draw, Look, Mark, Peek}
 use Rattle.entities.specs.declared.phase.trace.Line.{Line}
-use Rattle.entities.specs.PhaseTrace.{Phase, Event, Each, one_if, start, run, in_marks, steps_of, IsInterleaving}
+use Rattle.entities.specs.Phase.Trace.{Phase, Event, Each, one_if, start, run, in_marks, steps_of, IsInterleaving}
 
 abbrev pub line : ℕ → List Step → Line
 line p ss = record { pass = p; steps = ss }

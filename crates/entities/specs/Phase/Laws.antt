@@ -6,8 +6,8 @@ use Rattle.std.proofs.lemmas.List.{length_push, get_or_push}
 use Rattle.entities.specs.declared.entity.Entity.{Entity}
 use Rattle.entities.specs.declared.phase.pass.Pass.{Pass}
 use Rattle.entities.specs.Population.{Population, IsAlive, index_of}
-use Rattle.entities.specs.PhaseTrace.{Phase}
-use Rattle.entities.specs.PhaseGiven.{given_of, marks_of, IsBlank, Gains, AreGivenOnce, AreTakenUp}
+use Rattle.entities.specs.Phase.Trace.{Phase}
+use Rattle.entities.specs.Phase.Given.{given_of, marks_of, IsBlank, Gains, AreGivenOnce, AreTakenUp}
 
 -- a pass that has just been given an entity was given it
 pub newly_given : (o : Phase) (old new : Pass) (e : Entity) (is : List ℕ) → Gains o old new (e ∷ []) is → Contains (given_of o new) e

@@ -6,11 +6,11 @@ use Rattle.entities.specs.declared.phase.pass.Pass.{Pass}
 use Rattle.entities.specs.declared.phase.trace.Step.{Step}
 use Rattle.entities.specs.declared.phase.trace.Step.TheVariants.{Draw, Look, Mark, Peek}
 use Rattle.entities.specs.Population.{Population, IsAlive, index_of}
-use Rattle.entities.specs.PhaseReserve.{AreApart}
+use Rattle.entities.specs.Phase.Reserve.{AreApart}
 use Rattle.entities.specs.Deaths.{has_index}
-use Rattle.entities.specs.PhaseTrace.{Phase, given_to, in_marks}
-use Rattle.entities.specs.PhaseRule.{Among}
-use Rattle.entities.specs.PhaseBoard.{steps_of_pass}
+use Rattle.entities.specs.Phase.Trace.{Phase, given_to, in_marks}
+use Rattle.entities.specs.Phase.Rule.{Among}
+use Rattle.entities.specs.Phase.Board.{steps_of_pass}
 
 -- the entities that a pass was given, in order
 unfoldable pub given_of : Phase → Pass → List Entity

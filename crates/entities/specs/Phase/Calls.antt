@@ -11,11 +11,11 @@ use Rattle.entities.specs.Population.{Population, IsAlive, index_of}
 use Rattle.entities.specs.Census.{Census, population}
 use Rattle.entities.specs.Kept.{SameBut}
 use Rattle.entities.specs.Upcoming.{upcoming}
-use Rattle.entities.specs.PhaseReserve.{IsReserve, with_births, with_marks}
-use Rattle.entities.specs.PhaseTrace.{Phase, Each, Event, IsInterleaving, IsSound, run, start, in_marks}
-use Rattle.entities.specs.PhaseRule.{Among, IsSeen, IsRecorded, lines_of, AmongLines}
-use Rattle.entities.specs.PhasePlan.{AreLocated}
-use Rattle.entities.specs.PhaseBoard.{IsNext, steps_of_pass, is_spent}
+use Rattle.entities.specs.Phase.Reserve.{IsReserve, with_births, with_marks}
+use Rattle.entities.specs.Phase.Trace.{Phase, Each, Event, IsInterleaving, IsSound, run, start, in_marks}
+use Rattle.entities.specs.Phase.Rule.{Among, IsSeen, IsRecorded, lines_of, AmongLines}
+use Rattle.entities.specs.Phase.Plan.{AreLocated}
+use Rattle.entities.specs.Phase.Board.{IsNext, steps_of_pass, is_spent}
 
 -- The entities are as they were at the opening, with room for the reserve, which is of the next births, each findable by its index
 pub record IsOpen (c : Census) (board : Board) : Type 0 where
