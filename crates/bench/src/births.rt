@@ -1,7 +1,7 @@
 //! Births: one by one, by the pass of a shared phase, and their merge.
 
-ghost use Rattle.entities.specs.PhaseBoard.{IsPassOf};
-ghost use Rattle.entities.specs.PhaseOpened.{board_of};
+ghost use Rattle.entities.specs.Phase.Board.{IsPassOf};
+ghost use Rattle.entities.specs.Phase.Opened.{board_of};
 
 use crate::moving::{living_sum, number_of};
 use crate::random::mix;

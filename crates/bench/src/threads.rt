@@ -1,8 +1,8 @@
 //! Births by several threads at once.
 
 ghost use Rattle.std.specs.List.{All};
-ghost use Rattle.entities.specs.PhaseBoard.{IsPassOf};
-ghost use Rattle.entities.specs.PhaseOpened.{board_of};
+ghost use Rattle.entities.specs.Phase.Board.{IsPassOf};
+ghost use Rattle.entities.specs.Phase.Opened.{board_of};
 
 use crate::births::draw;
 use crate::moving::living_sum;

@@ -4,6 +4,7 @@
 
 mod components;
 mod entries;
+mod phases;
 mod sets;
 
 pub use components::{
@@ -11,4 +12,5 @@ pub use components::{
     viewed_twice,
 };
 pub use entries::{ninety_at, taken, three_and_found};
+pub use phases::{marked_at_closing, sees_its_own, two_births};
 pub use sets::{added_and_found, removed_and_gone};

@@ -7,7 +7,7 @@ use Rattle.hibits.specs.Counts.{count_below}
 use Rattle.entities.specs.Census.{Census, population, births_of}
 use Rattle.entities.specs.Population.{is_free}
 use Rattle.entities.specs.Kept.{IsStacked, free_at}
-use Rattle.entities.specs.PhaseReserve.{givable}
+use Rattle.entities.specs.Phase.Reserve.{givable}
 use Rattle.entities.proofs.Sets.{free_is}
 use Rattle.entities.proofs.Stack.{within, born_in, unborn_past}
 use Rattle.entities.proofs.Upcoming.{stack_free}

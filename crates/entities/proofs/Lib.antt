@@ -1,6 +1,7 @@
 pub mod Sets
 pub mod Stack
 pub mod Room
+pub mod Newborn
 pub mod Steps
 pub mod Lists
 pub mod Lowers
@@ -15,4 +16,7 @@ pub mod PhaseKeeps
 pub mod PhasePasses
 pub mod PhaseEnds
 pub mod PhaseCalls
+pub mod PhaseTickets
+pub mod PhaseGiven
+pub mod PhaseTheirs
 pub mod PhaseShares

@@ -8,11 +8,11 @@ use Rattle.entities.specs.declared.phase.board.Board.{Board}
 use Rattle.entities.specs.declared.phase.pass.Pass.{Pass}
 use Rattle.entities.specs.Census.{Census, population}
 use Rattle.entities.specs.Kept.{SameBut}
-use Rattle.entities.specs.PhaseTrace.{AreCalls, Each}
-use Rattle.entities.specs.PhaseRule.{Among, IsSeen}
-use Rattle.entities.specs.PhasePlan.{phase_of}
-use Rattle.entities.specs.PhaseBoard.{IsPassOf, IsNext, steps_of_pass}
-use Rattle.entities.specs.PhaseCalls.{IsOfReserve, IsOutside, WasAlive, AliveSteps, MarkSteps, PendingSteps}
+use Rattle.entities.specs.Phase.Trace.{AreCalls, Each}
+use Rattle.entities.specs.Phase.Rule.{Among, IsSeen}
+use Rattle.entities.specs.Phase.Plan.{phase_of}
+use Rattle.entities.specs.Phase.Board.{IsPassOf, IsNext, steps_of_pass}
+use Rattle.entities.specs.Phase.Calls.{IsOfReserve, IsOutside, WasAlive, AliveSteps, MarkSteps, PendingSteps}
 use Rattle.entities.proofs.Sets.{same_population}
 use Rattle.entities.proofs.PhasePasses.{mark_calls, marked_new, marked_old, calls_mark_old, calls_peek_new, calls_peek_old, peeked_new, peeked_old, next_two, alive_within}
 

@@ -9,13 +9,13 @@ use Rattle.entities.specs.declared.phase.plan.Plan.{Plan}
 use Rattle.entities.specs.declared.phase.board.Board.{Board}
 use Rattle.entities.specs.declared.phase.trace.Line.{Line}
 use Rattle.entities.specs.declared.phase.pass.Pass.{Pass}
-use Rattle.entities.specs.PhaseTrace.{Each, Phase}
-use Rattle.entities.specs.PhaseRule.{kept, IsEnded, States}
-use Rattle.entities.specs.PhasePlan.{phase_of}
-use Rattle.entities.specs.PhaseBoard.{IsPassOf, IsHome, record_of}
+use Rattle.entities.specs.Phase.Trace.{Each, Phase}
+use Rattle.entities.specs.Phase.Rule.{agree, IsEnded, States}
+use Rattle.entities.specs.Phase.Plan.{phase_of}
+use Rattle.entities.specs.Phase.Board.{IsPassOf, IsHome, record_of}
 use Rattle.std.proofs.Common.{Bool, ◌≤◌, ◌*◌, arith, min}
 use Rattle.std.specs.Prelude.{slice_index}
-use Rattle.entities.specs.PhaseTrace.{run, start, has}
+use Rattle.entities.specs.Phase.Trace.{run, start, in_marks}
 use Rattle.std.proofs.Common.{Bool, true, false, ◌||◌, eqb, eq-eqb, ◌*◌, ⊎_elim, take, min, arith, inl, inr}
 use Rattle.std.specs.Prelude.{slice_index}
 use Rattle.std.specs.List.{All}
@@ -26,13 +26,13 @@ use Rattle.std.proofs.lemmas.List.Folds.{list_any_at}
 use Rattle.entities.specs.declared.entity.Entity.{Entity}
 use Rattle.entities.specs.Population.{Population, IsAlive, lives}
 use Rattle.entities.specs.Census.{population}
-use Rattle.entities.specs.PhaseTrace.{IsOfAlive, IsGivenBelow, run, start, has}
-use Rattle.entities.specs.PhaseReserve.{with_births, with_marks}
+use Rattle.entities.specs.Phase.Trace.{IsOfAlive, IsGivenBelow, run, start, in_marks}
+use Rattle.entities.specs.Phase.Reserve.{with_births, with_marks}
 use Rattle.entities.specs.declared.phase.trace.Step.{Step}
 use Rattle.entities.specs.declared.phase.trace.Step.TheVariants.{Draw}
-use Rattle.entities.specs.PhaseBoard.{steps_of_pass}
-use Rattle.entities.specs.PhaseRule.{marks_index, marks_below, Among, AmongLines}
-use Rattle.entities.specs.PhaseCalls.{IsClosed}
+use Rattle.entities.specs.Phase.Board.{steps_of_pass}
+use Rattle.entities.specs.Phase.Rule.{marks_index, marks_below, Among, AmongLines}
+use Rattle.entities.specs.Phase.Calls.{IsClosed}
 use Rattle.entities.proofs.PhaseSound.{marked_alive, drawn_below, mark_told, each_ticket, each_mark, miss_draw}
 use Rattle.entities.proofs.PhasePasses.{alive_within}
 use Rattle.entities.proofs.PhaseMarks.{same_marks, count_same}
@@ -57,7 +57,7 @@ pub joined_one : (ps : List Pass) (x : Pass) (v whole : List Line) → record_of
 joined_one ps x v whole h = sym (append_assoc (record_of ps) x.record.me.0 v)
     ∙ (ap (λ (k : List Line). record_of ps ++ k ++ v) (sym (append-nil x.record.me.0)) ∙ (ap (λ (k : List Line). k ++ v) (sym (flat_map-append (λ (p : Pass). p.record.me.0) ps (x ∷ []))) ∙ h))
 
-pub ended : (plan key : Plan) (words : List ℕ) (slots : List (Unit {0})) (id : ℕ) (v w : List Line) → plan ≡ key → v ≡ w → Final (Seen (kept (phase_of key) key.width) id v) words slots → IsEnded (phase_of plan) plan.width words w
+pub ended : (plan key : Plan) (words : List ℕ) (slots : List (Unit {0})) (id : ℕ) (v w : List Line) → plan ≡ key → v ≡ w → Final (Seen (agree (phase_of key) key.width) id v) words slots → IsEnded (phase_of plan) plan.width words w
 ended plan key words slots id v w same is final = let s : States = final.0 in let seen = final.1 in
     subst (λ (z : Plan × List ℕ × List Line). IsEnded (phase_of z.0) (z.0).width z.1 z.2) (λ j. (sym same j, final.2 j, is j)) (ends (phase_of key) key.width s.words s.views id v seen.0 seen.1)
 
@@ -96,11 +96,11 @@ pub closes : (board : Board) (words : List ℕ) (v : List Line) (before mid afte
 closes board words v before mid after births marks e same born m a count =
     let o = phase_of board.plan in
     let leads = e.leads in
-    let bound : (i : ℕ) → has i (run start e.trace).marks ≡ true → i < 64 * board.plan.width = λ i h. within_words board (run start e.trace).cursor i (marked_alive o e.trace leads i h) in
-    let bits : (i : ℕ) → i < 64 * board.plan.width → marks_index words i ≡ has i (run start e.trace).marks = λ i lt. e.marks i (omega (arith, lt)) in
-    let all : (i : ℕ) → marks_below words (64 * board.plan.width) i ≡ has i (run start e.trace).marks = λ i. elim (cases_lt i (64 * board.plan.width)) [
+    let bound : (i : ℕ) → in_marks i (run start e.trace).marks ≡ true → i < 64 * board.plan.width = λ i h. within_words board (run start e.trace).cursor i (marked_alive o e.trace leads i h) in
+    let bits : (i : ℕ) → i < 64 * board.plan.width → marks_index words i ≡ in_marks i (run start e.trace).marks = λ i lt. e.marks i (omega (arith, lt)) in
+    let all : (i : ℕ) → marks_below words (64 * board.plan.width) i ≡ in_marks i (run start e.trace).marks = λ i. elim (cases_lt i (64 * board.plan.width)) [
       | inl lt ↦ rw (lt-ltb i (64 * board.plan.width) lt) (bits i lt)
-      | inr past ↦ rw (le-ltb i (64 * board.plan.width) past) (sym (false_from_ne_true (has i (run start e.trace).marks) (λ h. let b = bound i h in omega (arith, b, past))))
+      | inr past ↦ rw (le-ltb i (64 * board.plan.width) past) (sym (false_from_ne_true (in_marks i (run start e.trace).marks) (λ h. let b = bound i h in omega (arith, b, past))))
     ] in
     record {
       trace = e.trace;
@@ -113,8 +113,8 @@ closes board words v before mid after births marks e same born m a count =
       births_were_given = λ full t lt. each_ticket v e.trace leads.right (e.complete full) e.recorded t (omega (arith, lt, born, e.cursor));
       marks_were_told = λ full. each_mark v e.trace (e.complete full) e.recorded;
       births_are = born ∙ ap (λ (k : ℕ). min k (length board.plan.reserve.items)) e.cursor;
-      leaves = a ∙ same_marks mid (marks_below words (64 * board.plan.width)) (λ i. has i (run start e.trace).marks) all ∙ ap (with_marks (λ i. has i (run start e.trace).marks)) m;
-      marks_are = (64 * board.plan.width, bound, count ∙ count_same (marks_index words) (λ i. has i (run start e.trace).marks) (64 * board.plan.width) bits);
+      leaves = a ∙ same_marks mid (marks_below words (64 * board.plan.width)) (λ i. in_marks i (run start e.trace).marks) all ∙ ap (with_marks (λ i. in_marks i (run start e.trace).marks)) m;
+      marks_are = (64 * board.plan.width, bound, count ∙ count_same (marks_index words) (λ i. in_marks i (run start e.trace).marks) (64 * board.plan.width) bits);
     }
 
 -- a step of a pass is a step of the joined record

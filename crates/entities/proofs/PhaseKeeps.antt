@@ -14,9 +14,9 @@ use Rattle.entities.specs.declared.phase.trace.Step.{Step}
 use Rattle.entities.specs.declared.phase.trace.Step.TheVariants.{Draw, Look, Mark, Peek}
 use Rattle.entities.specs.declared.phase.trace.Line.{Line}
 use Rattle.entities.specs.declared.phase.plan.Plan.{Plan}
-use Rattle.entities.specs.PhasePlan.{phase_of}
-use Rattle.entities.specs.PhaseTrace.{Phase, Words, Event, Each, one_if, start, run, after, has, steps_of, IsRight, AreRight, AreCalls, creates, looks, misses}
-use Rattle.entities.specs.PhaseRule.{Among, Kept, line, lines_of, total, marks_word, IsRecorded, blank_lines, first_line, other_lines, with_step, number_of, steps_in, IsOne, bit_of, IsSeen, States, Seats, IsEnded, kept, drawn, looked, marked, peeked}
+use Rattle.entities.specs.Phase.Plan.{phase_of}
+use Rattle.entities.specs.Phase.Trace.{Phase, Reached, Event, Each, one_if, start, run, after, in_marks, steps_of, IsRight, AreRight, AreCalls, creates, looks, misses}
+use Rattle.entities.specs.Phase.Rule.{Among, Agree, line, lines_of, total, marks_word, IsRecorded, blank_lines, first_line, other_lines, with_step, number_of, steps_in, IsOne, bit_of, IsSeen, States, Seats, IsEnded, agree, tells_draw, tells_look, tells_mark, tells_peek}
 use Rattle.entities.proofs.PhasePushes.{steps_of-mine, steps_of-other, run-push, IsInterleaving-push, AreCalls-push, misses-push}
 use Rattle.entities.proofs.PhaseSound.{bounded, own_mark, run_grows}
 
@@ -57,10 +57,10 @@ below_pos p n h = dite (dec_le n p)
     (λ gt. omega arith)
 
 -- one more step of the pass p, after which the words are ws
-kept_step : (o : Phase) (width : ℕ) (words ws : List ℕ) (views : List (List Line)) (id p : ℕ) (ss : List Step) (s : Step) (r : Kept o width words views)
+kept_step : (o : Phase) (width : ℕ) (words ws : List ℕ) (views : List (List Line)) (id p : ℕ) (ss : List Step) (s : Step) (r : Agree o width words views)
     → get_elem? views id ≡ some (line p ss ∷ []) → IsRight (run start r.trace) s → AreCalls o (ss ++ s ∷ [])
     → length ws ≡ length words → get_or ws 0 0 ≡ (after (run start r.trace) s).cursor → ((w : ℕ) → w < width → get_or ws (w + 1) 0 ≡ marks_word w (after (run start r.trace) s).marks)
-    → Kept o width ws (set views id (line p (ss ++ s ∷ []) ∷ []))
+    → Agree o width ws (set views id (line p (ss ++ s ∷ []) ∷ []))
 kept_step o width words ws views id p ss s r at right calls size cursor marks =
     let now : List Event = r.trace ++ (p, s) ∷ [] in let mine : steps_of p r.trace ≡ ss = (r.recorded id (line p ss ∷ []) at).0 in
     let own : lines_of p (line p ss ∷ []) ≡ 1 = lines_one p ss in let own' : lines_of p (line p (ss ++ s ∷ []) ∷ []) ≡ 1 = lines_one p (ss ++ s ∷ []) in
@@ -70,8 +70,8 @@ kept_step o width words ws views id p ss s r at right calls size cursor marks =
       trace = now;
       leads = IsInterleaving-push o r.trace p s r.leads low right (subst (λ (k : List Step). AreCalls o (k ++ s ∷ [])) (sym mine) calls);
       count = size ∙ r.count;
-      cursor = cursor ∙ ap (λ (w : Words). w.cursor) (sym (run-push start r.trace (p, s)));
-      marks = λ w h. marks w h ∙ ap (λ (k : Words). marks_word w k.marks) (sym (run-push start r.trace (p, s)));
+      cursor = cursor ∙ ap (λ (w : Reached). w.cursor) (sym (run-push start r.trace (p, s)));
+      marks = λ w h. marks w h ∙ ap (λ (k : Reached). marks_word w k.marks) (sym (run-push start r.trace (p, s)));
       recorded = λ j u e. ⊎_elim
           (λ (x : (j ≡ id) × ((line p (ss ++ s ∷ []) ∷ []) ≡ u)). subst (IsRecorded now) x.1 (steps_of-mine p p r.trace s refl ∙ ap (λ (k : List Step). k ++ s ∷ []) mine, tt))
           (λ (x : (j ≢ id) × (get_elem? views j ≡ some u)). let both = two_of (lines_of p) views id j (line p ss ∷ []) u refl at x.1 x.0 in let one = below_one p o.passes in recorded_other p s r.trace u (omega arith) (r.recorded j u x.1))
@@ -84,7 +84,7 @@ at_most_one : (b : Bool) → one_if b ≤ 1
 at_most_one b = elim b as (λ (x : Bool). one_if x ≤ 1) [ true ↦ omega arith | false ↦ omega arith ]
 
 -- the cursor is past all that a pass was told
-seen_one : (w : Words) (s : Step) (n : ℕ) → IsRight w s → (after w s).cursor ≤ n → IsSeen n s
+seen_one : (w : Reached) (s : Step) (n : ℕ) → IsRight w s → (after w s).cursor ≤ n → IsSeen n s
 seen_one w (Draw t) n right h = omega arith
 seen_one w (Look t) n right h = omega arith
 seen_one w (Mark i) n right h = tt
@@ -94,7 +94,7 @@ seen_cond : (b : Bool) (n : ℕ) (s : Step) (ss : List Step) → IsSeen n s → 
 seen_cond true n s ss h t = (h, t)
 seen_cond false n s ss h t = t
 
-all_seen : (p : ℕ) (w : Words) (es : List Event) → AreRight w es → Each (IsSeen (run w es).cursor) (steps_of p es)
+all_seen : (p : ℕ) (w : Reached) (es : List Event) → AreRight w es → Each (IsSeen (run w es).cursor) (steps_of p es)
 all_seen p w [] r = tt
 all_seen p w (e ∷ es) r = seen_cond (p == e.0) (run w (e ∷ es)).cursor e.1 (steps_of p es) (seen_one w e.1 (run w (e ∷ es)).cursor r.0 (run_grows (after w e.1) es)) (all_seen p (after w e.1) es r.1)
 
@@ -102,21 +102,21 @@ all_seen p w (e ∷ es) r = seen_cond (p == e.0) (run w (e ∷ es)).cursor e.1 (
 other_bit : (i j : ℕ) → i / 64 ≡ j / 64 → i ≢ j → i % 64 ≢ j % 64
 other_bit i j e ne h = ne (omega (arith, div-add-mod' i 64, div-add-mod' j 64))
 
-bit_has : (i : ℕ) (ms : List ℕ) → bit_of i (marks_word (i / 64) ms) ≡ has i ms
+bit_has : (i : ℕ) (ms : List ℕ) → bit_of i (marks_word (i / 64) ms) ≡ in_marks i ms
 bit_has i [] = ap (λ (k : ℕ). not (k == 0)) (and_zero_l (2 ^ (i % 64)))
 bit_has i (j ∷ js) = dite (ℕ_discrete i j)
-    (λ same. subst (λ (k : ℕ). bit_of i (marks_word (i / 64) (k ∷ js)) ≡ has i (k ∷ js)) same (here i js))
+    (λ same. subst (λ (k : ℕ). bit_of i (marks_word (i / 64) (k ∷ js)) ≡ in_marks i (k ∷ js)) same (here i js))
     (λ ne. dite (ℕ_discrete (j / 64) (i / 64))
     (λ e. ap (λ (b : Bool). bit_of i (cond b (bit_or (marks_word (i / 64) js) (2 ^ (j % 64))) (marks_word (i / 64) js))) (eq-eqb (j / 64) (i / 64) e)
     ∙ (ap (λ (k : ℕ). not (k == 0)) (and_or_apart (2 ^ (i % 64)) (marks_word (i / 64) js) (2 ^ (j % 64)) (pow_apart (j % 64) (i % 64) (other_bit j i e (λ h. ne (sym h)))))
-    ∙ (bit_has i js ∙ sym (ap (λ (b : Bool). cond b true (has i js)) (ne_eqb i j ne)))))
+    ∙ (bit_has i js ∙ sym (ap (λ (b : Bool). cond b true (in_marks i js)) (ne_eqb i j ne)))))
     (λ apart. ap (λ (b : Bool). bit_of i (cond b (bit_or (marks_word (i / 64) js) (2 ^ (j % 64))) (marks_word (i / 64) js))) (ne_eqb (j / 64) (i / 64) apart)
-    ∙ (bit_has i js ∙ sym (ap (λ (b : Bool). cond b true (has i js)) (ne_eqb i j ne)))))
+    ∙ (bit_has i js ∙ sym (ap (λ (b : Bool). cond b true (in_marks i js)) (ne_eqb i j ne)))))
   where
-    here : (i : ℕ) (js : List ℕ) → bit_of i (marks_word (i / 64) (i ∷ js)) ≡ has i (i ∷ js)
+    here : (i : ℕ) (js : List ℕ) → bit_of i (marks_word (i / 64) (i ∷ js)) ≡ in_marks i (i ∷ js)
     here i js = ap (λ (b : Bool). bit_of i (cond b (bit_or (marks_word (i / 64) js) (2 ^ (i % 64))) (marks_word (i / 64) js))) (eq-eqb (i / 64) (i / 64) refl)
         ∙ (ap (λ (k : ℕ). not (k == 0)) (and_or_self (2 ^ (i % 64)) (marks_word (i / 64) js))
-        ∙ (ap not (ne_eqb (2 ^ (i % 64)) 0 (λ h. let q = pow_pos (i % 64) in omega arith)) ∙ sym (ap (λ (b : Bool). cond b true (has i js)) (eq-eqb i i refl))))
+        ∙ (ap not (ne_eqb (2 ^ (i % 64)) 0 (λ h. let q = pow_pos (i % 64) in omega arith)) ∙ sym (ap (λ (b : Bool). cond b true (in_marks i js)) (eq-eqb i i refl))))
 
 -- the four kinds of step. `one` says which pass the seat has
 module _ (o : Phase) (width : ℕ) (slots id : ℕ) (me : Seats) (one : IsOne me.0) where
@@ -127,24 +127,24 @@ module _ (o : Phase) (width : ℕ) (slots id : ℕ) (me : Seats) (one : IsOne me
   ss = steps_in me.0
 
   -- the table after a step
-  steps_to : (s : States) (word new : ℕ) (st : Step) (r : kept o width s) → get_elem? s.views id ≡ some me.0 → IsRight (run start r.trace) st → AreCalls o (ss ++ st ∷ [])
+  steps_to : (s : States) (word new : ℕ) (st : Step) (r : agree o width s) → get_elem? s.views id ≡ some me.0 → IsRight (run start r.trace) st → AreCalls o (ss ++ st ∷ [])
       → get_or (set s.words word new) 0 0 ≡ (after (run start r.trace) st).cursor → ((w : ℕ) → w < width → get_or (set s.words word new) (w + 1) 0 ≡ marks_word w (after (run start r.trace) st).marks)
-      → kept o width (stepped s word new id me.1 (with_step st me.0) keeps)
+      → agree o width (stepped s word new id me.1 (with_step st me.0) keeps)
   unfolding p ss
   steps_to s word new st r at right calls cursor marks =
       let at' = at ∙ ap (λ (v : List Line). some v) one in
-      subst (λ (v : List Line). Kept o width (set s.words word new) (set s.views id v)) (sym (ap (with_step st) one))
+      subst (λ (v : List Line). Agree o width (set s.words word new) (set s.views id v)) (sym (ap (with_step st) one))
       (kept_step o width s.words (set s.words word new) s.views id (number_of me.0) (steps_in me.0) st r at' right calls (length-set s.words word new) cursor marks)
 
   -- what the rule knows of the pass's steps
-  own_steps : (s : States) (r : kept o width s) → get_elem? s.views id ≡ some me.0 → steps_of (number_of me.0) r.trace ≡ steps_in me.0
+  own_steps : (s : States) (r : agree o width s) → get_elem? s.views id ≡ some me.0 → steps_of (number_of me.0) r.trace ≡ steps_in me.0
   own_steps s r at = (r.recorded id (line (number_of me.0) (steps_in me.0) ∷ []) (at ∙ ap (λ (v : List Line). some v) one)).0
 
-  own_calls : (s : States) (r : kept o width s) → get_elem? s.views id ≡ some me.0 → AreCalls o (steps_in me.0)
+  own_calls : (s : States) (r : agree o width s) → get_elem? s.views id ≡ some me.0 → AreCalls o (steps_in me.0)
   own_calls s r at = let leads = r.leads in subst (AreCalls o) (own_steps s r at) (leads.calls (number_of me.0))
 
   pub draws : misses (length o.reserve) (steps_in me.0) ≡ 0 → length o.reserve + o.passes + 1 < 2 ^ 64
-      → Allows (kept o width) slots id me 0 (λ n. (n + 1) % 2 ^ 64) (drawn (step slots 0 1 0 none) me)
+      → Allows (agree o width) slots id me 0 (λ n. (n + 1) % 2 ^ 64) (tells_draw (step slots 0 1 0 none) me)
   unfolding p ss
   draws fresh fits s r _ at small = let n : ℕ = get_or s.words 0 0 in let is = r.cursor in let size = r.count in let low = bounded o r.trace r.leads in
       let more : (n + 1) % 18446744073709551616 ≡ n + 1 = omega arith in
@@ -160,16 +160,16 @@ module _ (o : Phase) (width : ℕ) (slots id : ℕ) (me : Seats) (one : IsOne me
       )
 
   -- a load changes no word
-  loads : (s : States) (word : ℕ) (st : Step) (r : kept o width s) → get_elem? s.views id ≡ some me.0 → IsRight (run start r.trace) st → AreCalls o (steps_in me.0 ++ st ∷ [])
+  loads : (s : States) (word : ℕ) (st : Step) (r : agree o width s) → get_elem? s.views id ≡ some me.0 → IsRight (run start r.trace) st → AreCalls o (steps_in me.0 ++ st ∷ [])
       → (after (run start r.trace) st).cursor ≡ (run start r.trace).cursor → (after (run start r.trace) st).marks ≡ (run start r.trace).marks → word < width + 1
-      → kept o width (stepped s word (get_or s.words word 0) id me.1 (with_step st me.0) keeps)
+      → agree o width (stepped s word (get_or s.words word 0) id me.1 (with_step st me.0) keeps)
   unfolding p ss
   loads s word st r at right calls same_cursor same_marks within = let back : set s.words word (get_or s.words word 0) ≡ s.words = set-get_or s.words word 0 in
       steps_to s word (get_or s.words word 0) st r at right calls
       (ap (λ (l : List ℕ). get_or l 0 0) back ∙ (r.cursor ∙ sym same_cursor))
       (λ w h. ap (λ (l : List ℕ). get_or l (w + 1) 0) back ∙ (r.marks w h ∙ ap (marks_word w) (sym same_marks)))
 
-  pub looks_on : Allows (kept o width) slots id me 0 (λ n. n) (looked (step slots 0 0 0 none) me)
+  pub looks_on : Allows (agree o width) slots id me 0 (λ n. n) (tells_look (step slots 0 0 0 none) me)
   looks_on s r _ at small = let n : ℕ = get_or s.words 0 0 in let few = misses-push (length o.reserve) (steps_in me.0) (Look n) in let c = own_calls s r at in let spent = c.spent in
       let calls = AreCalls-push o (steps_in me.0) (looks n) c tt (omega arith) in (
         with_step (Look n) me.0,
@@ -180,7 +180,7 @@ module _ (o : Phase) (width : ℕ) (slots id : ℕ) (me : Seats) (one : IsOne me
       )
 
   pub marks_on : (i : ℕ) → i / 64 < width → AreCalls o (steps_in me.0 ++ Mark i ∷ [])
-      → Allows (kept o width) slots id me (i / 64 + 1) (λ n. bit_or n (2 ^ (i % 64))) (marked i (step slots (i / 64 + 1) (2 ^ (i % 64)) 0 none) me)
+      → Allows (agree o width) slots id me (i / 64 + 1) (λ n. bit_or n (2 ^ (i % 64))) (tells_mark i (step slots (i / 64 + 1) (2 ^ (i % 64)) 0 none) me)
   unfolding p ss
   marks_on i within calls s r _ at small = let word : ℕ = i / 64 + 1 in let n : ℕ = get_or s.words word 0 in let new : ℕ = bit_or n (2 ^ (i % 64)) in let size = r.count in (
     with_step (Mark i) me.0,
@@ -198,7 +198,7 @@ module _ (o : Phase) (width : ℕ) (slots id : ℕ) (me : Seats) (one : IsOne me
   )
 
   pub peeks_on : (i : ℕ) → i / 64 < width → ((b : Bool) → AreCalls o (steps_in me.0 ++ Peek i b ∷ []))
-      → Allows (kept o width) slots id me (i / 64 + 1) (λ n. n) (peeked i (step slots (i / 64 + 1) 0 0 none) me)
+      → Allows (agree o width) slots id me (i / 64 + 1) (λ n. n) (tells_peek i (step slots (i / 64 + 1) 0 0 none) me)
   unfolding p ss
   peeks_on i within calls s r _ at small = let word : ℕ = i / 64 + 1 in let n : ℕ = get_or s.words word 0 in (
     with_step (Peek i (bit_of i n)) me.0,
@@ -221,7 +221,7 @@ recorded_cut : (es : List Event) (v : List Line) → IsRecorded es v → IsRecor
 recorded_cut es [] r = (tt, tt)
 recorded_cut es (x ∷ xs) r = ((r.0, tt), r.1)
 
-pub cuts : (o : Phase) (width id : ℕ) (v : List Line) → Splits (kept o width) id v (other_lines v) (first_line v)
+pub cuts : (o : Phase) (width id : ℕ) (v : List Line) → Splits (agree o width) id v (other_lines v) (first_line v)
 cuts o width id v s r at = let parts = recorded_cut r.trace v (r.recorded id v at) in record {
   trace = r.trace;
   leads = r.leads;
@@ -245,7 +245,7 @@ recorded_append : (es : List Event) (v w : List Line) → IsRecorded es v → Is
 recorded_append es [] w a b = b
 recorded_append es (x ∷ xs) w a b = (a.0, recorded_append es xs w a.1 b)
 
-pub joins : (o : Phase) (width id : ℕ) (v : List Line) (other : ℕ) (w : List Line) → Joins (kept o width) id v other w (w ++ v) []
+pub joins : (o : Phase) (width id : ℕ) (v : List Line) (other : ℕ) (w : List Line) → Joins (agree o width) id v other w (w ++ v) []
 joins o width id v other w s r at apart there =
     let theirs : get_elem? s.views other ≡ some w = sym (set_else s.views id other (w ++ v) apart) ∙ there in
     let mine = recorded_append r.trace w v (r.recorded other w theirs) (r.recorded id v at) in record {
@@ -288,7 +288,7 @@ blank_recorded k (suc n) = (refl, blank_recorded (k + 1) n)
 no_calls : (o : Phase) → AreCalls o []
 no_calls o = record { calls = []; same = refl; legal = tt; spent = omega arith }
 
-pub opens : (o : Phase) (width : ℕ) → Kept o width (0 ∷ replicate width 0) (blank_lines 0 o.passes ∷ [])
+pub opens : (o : Phase) (width : ℕ) → Agree o width (0 ∷ replicate width 0) (blank_lines 0 o.passes ∷ [])
 opens o width = record {
   trace = [];
   leads = record { right = tt; calls = λ p. no_calls o; numbers = tt };
@@ -317,7 +317,7 @@ all_back : (passes : ℕ) (es : List Event) (v : List Line) → ((p : ℕ) → l
 all_back passes [] v h b = tt
 all_back passes (e ∷ es) v h b = (h e.0 ∙ ap one_if (lt-ltb e.0 passes b.0), all_back passes es v h b.1)
 
-pub ends : (o : Phase) (width : ℕ) (words : List ℕ) (views : List (List Line)) (id : ℕ) (v : List Line) → Kept o width words views → get_elem? views id ≡ some v → IsEnded o width words v
+pub ends : (o : Phase) (width : ℕ) (words : List ℕ) (views : List (List Line)) (id : ℕ) (v : List Line) → Agree o width words views → get_elem? views id ≡ some v → IsEnded o width words v
 ends o width words views id v r at = record {
   trace = r.trace;
   leads = r.leads;
@@ -332,24 +332,24 @@ ends o width words views id v r at = record {
 
 -- the steps at the key of a table, which is its plan
 pub draws_at : (plan key : Plan) (slots id : ℕ) (me : Seats) → plan ≡ key → IsOne me.0 → misses (length plan.reserve.items) (steps_in me.0) ≡ 0 → length plan.reserve.items + plan.passes + 1 < 2 ^ 64
-    → Allows (kept (phase_of key) key.width) slots id me 0 (λ n. (n + 1) % 2 ^ 64) (drawn (step slots 0 1 0 none) me)
-draws_at plan key slots id me same one fresh fits = subst (λ (k : Plan). Allows (kept (phase_of k) k.width) slots id me 0 (λ n. (n + 1) % 2 ^ 64) (drawn (step slots 0 1 0 none) me)) same (draws (phase_of plan) plan.width slots id me one fresh fits)
+    → Allows (agree (phase_of key) key.width) slots id me 0 (λ n. (n + 1) % 2 ^ 64) (tells_draw (step slots 0 1 0 none) me)
+draws_at plan key slots id me same one fresh fits = subst (λ (k : Plan). Allows (agree (phase_of k) k.width) slots id me 0 (λ n. (n + 1) % 2 ^ 64) (tells_draw (step slots 0 1 0 none) me)) same (draws (phase_of plan) plan.width slots id me one fresh fits)
 
-pub looks_at : (plan key : Plan) (slots id : ℕ) (me : Seats) → plan ≡ key → IsOne me.0 → Allows (kept (phase_of key) key.width) slots id me 0 (λ n. n) (looked (step slots 0 0 0 none) me)
-looks_at plan key slots id me same one = subst (λ (k : Plan). Allows (kept (phase_of k) k.width) slots id me 0 (λ n. n) (looked (step slots 0 0 0 none) me)) same (looks_on (phase_of plan) plan.width slots id me one)
+pub looks_at : (plan key : Plan) (slots id : ℕ) (me : Seats) → plan ≡ key → IsOne me.0 → Allows (agree (phase_of key) key.width) slots id me 0 (λ n. n) (tells_look (step slots 0 0 0 none) me)
+looks_at plan key slots id me same one = subst (λ (k : Plan). Allows (agree (phase_of k) k.width) slots id me 0 (λ n. n) (tells_look (step slots 0 0 0 none) me)) same (looks_on (phase_of plan) plan.width slots id me one)
 
 pub marks_at : (plan key : Plan) (slots id : ℕ) (me : Seats) (i word bit : ℕ) → plan ≡ key → IsOne me.0 → i / 64 < plan.width → AreCalls (phase_of plan) (steps_in me.0 ++ Mark i ∷ []) → word ≡ i / 64 + 1 → bit ≡ 2 ^ (i % 64)
-    → Allows (kept (phase_of key) key.width) slots id me word (λ n. bit_or n bit) (marked i (step slots word bit 0 none) me)
-marks_at plan key slots id me i word bit same one within calls at_word at_bit = subst (λ (z : Plan × ℕ × ℕ). Allows (kept (phase_of z.0) (z.0).width) slots id me z.1 (λ n. bit_or n z.2) (marked i (step slots z.1 z.2 0 none) me)) (λ j. (same j, sym at_word j, sym at_bit j)) (marks_on (phase_of plan) plan.width slots id me one i within calls)
+    → Allows (agree (phase_of key) key.width) slots id me word (λ n. bit_or n bit) (tells_mark i (step slots word bit 0 none) me)
+marks_at plan key slots id me i word bit same one within calls at_word at_bit = subst (λ (z : Plan × ℕ × ℕ). Allows (agree (phase_of z.0) (z.0).width) slots id me z.1 (λ n. bit_or n z.2) (tells_mark i (step slots z.1 z.2 0 none) me)) (λ j. (same j, sym at_word j, sym at_bit j)) (marks_on (phase_of plan) plan.width slots id me one i within calls)
 
 pub peeks_at : (plan key : Plan) (slots id : ℕ) (me : Seats) (i word : ℕ) → plan ≡ key → IsOne me.0 → i / 64 < plan.width → ((b : Bool) → AreCalls (phase_of plan) (steps_in me.0 ++ Peek i b ∷ [])) → word ≡ i / 64 + 1
-    → Allows (kept (phase_of key) key.width) slots id me word (λ n. n) (peeked i (step slots word 0 0 none) me)
-peeks_at plan key slots id me i word same one within calls at_word = subst (λ (z : Plan × ℕ). Allows (kept (phase_of z.0) (z.0).width) slots id me z.1 (λ n. n) (peeked i (step slots z.1 0 0 none) me)) (λ j. (same j, sym at_word j)) (peeks_on (phase_of plan) plan.width slots id me one i within calls)
+    → Allows (agree (phase_of key) key.width) slots id me word (λ n. n) (tells_peek i (step slots word 0 0 none) me)
+peeks_at plan key slots id me i word same one within calls at_word = subst (λ (z : Plan × ℕ). Allows (agree (phase_of z.0) (z.0).width) slots id me z.1 (λ n. n) (tells_peek i (step slots z.1 0 0 none) me)) (λ j. (same j, sym at_word j)) (peeks_on (phase_of plan) plan.width slots id me one i within calls)
 
-pub opens_at : (plan : Plan) (words : List ℕ) → words ≡ replicate (plan.width + 1) 0 → Kept (phase_of plan) plan.width words (blank_lines 0 plan.passes ∷ [])
-opens_at plan words is = subst (λ (w : List ℕ). Kept (phase_of plan) plan.width w (blank_lines 0 plan.passes ∷ [])) (sym (is ∙ ap (λ (k : ℕ). replicate k 0) (let e : plan.width + 1 ≡ suc plan.width = omega arith in e))) (opens (phase_of plan) plan.width)
+pub opens_at : (plan : Plan) (words : List ℕ) → words ≡ replicate (plan.width + 1) 0 → Agree (phase_of plan) plan.width words (blank_lines 0 plan.passes ∷ [])
+opens_at plan words is = subst (λ (w : List ℕ). Agree (phase_of plan) plan.width w (blank_lines 0 plan.passes ∷ [])) (sym (is ∙ ap (λ (k : ℕ). replicate k 0) (let e : plan.width + 1 ≡ suc plan.width = omega arith in e))) (opens (phase_of plan) plan.width)
 
-pub sits : (o : Phase) (width slots : ℕ) → Enters (kept o width) slots 0 (λ n w. w ≡ [])
+pub sits : (o : Phase) (width slots : ℕ) → Enters (agree o width) slots 0 (λ n w. w ≡ [])
 sits o width slots s r _ _ = (
   [],
   record {

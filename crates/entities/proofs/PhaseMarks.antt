@@ -6,8 +6,8 @@ use Rattle.std.specs.Int.Bits.{and_zero_l}
 use Rattle.std.proofs.lemmas.Bool.{cases_eq, cases_lt, ne_eqb, eq-eqb, lt-ltb, le-ltb}
 use Rattle.hibits.specs.Counts.{count_below}
 use Rattle.entities.specs.Population.{Population, mark}
-use Rattle.entities.specs.PhaseReserve.{with_marks}
-use Rattle.entities.specs.PhaseRule.{marks_index, marks_below, bit_of}
+use Rattle.entities.specs.Phase.Reserve.{with_marks}
+use Rattle.entities.specs.Phase.Rule.{marks_index, marks_below, bit_of}
 use Rattle.entities.proofs.Sets.{same_population}
 
 pub same_marks : (p : Population) (f g : ℕ → Bool) → ((i : ℕ) → f i ≡ g i) → with_marks f p ≡ with_marks g p

@@ -13,10 +13,10 @@ use Rattle.entities.specs.declared.phase.trace.Line.{Line}
 use Rattle.entities.specs.declared.entity.Entity.{Entity}
 use Rattle.entities.specs.declared.phase.board.Board.{Board}
 use Rattle.entities.specs.declared.phase.pass.Pass.{Pass}
-use Rattle.entities.specs.PhaseTrace.{Phase, Each, AreCalls, creates, looks, marks_new, marks_old, peeks_new, peeks_old, IsGivenBelow, one_if, misses}
-use Rattle.entities.specs.PhaseRule.{line, blank_lines, with_step, number_of, steps_in, IsOne, Seats}
-use Rattle.entities.specs.PhasePlan.{phase_of}
-use Rattle.entities.specs.PhaseBoard.{IsPassOf, IsNext, steps_of_pass, AreDealt, AreFresh}
+use Rattle.entities.specs.Phase.Trace.{Phase, Each, AreCalls, creates, looks, marks_new, marks_old, peeks_new, peeks_old, IsGivenBelow, one_if, misses}
+use Rattle.entities.specs.Phase.Rule.{line, blank_lines, with_step, number_of, steps_in, IsOne, Seats}
+use Rattle.entities.specs.Phase.Plan.{phase_of}
+use Rattle.entities.specs.Phase.Board.{IsPassOf, IsNext, steps_of_pass, AreDealt, AreFresh}
 use Rattle.atomic_table.specs.Seated.{TableId}
 use Rattle.entities.proofs.PhasePushes.{AreCalls-push, misses-push}
 

@@ -7,17 +7,17 @@ use mathlib.Core.Logic.{dite}
 use native.Mathlib.Decide.{ℕ_discrete}
 use Rattle.entities.specs.declared.phase.trace.Step.{Step}
 use Rattle.entities.specs.declared.phase.trace.Step.TheVariants.{Draw, Look, Mark, Peek}
-use Rattle.entities.specs.PhaseTrace.{Phase, Words, Event, Each, start, run, after, steps_of, IsRight, AreRight, IsInterleaving, AreCalls, Call, steps_of_call, IsLegal, misses}
+use Rattle.entities.specs.Phase.Trace.{Phase, Reached, Event, Each, start, run, after, steps_of, IsRight, AreRight, IsInterleaving, AreCalls, Call, steps_of_call, IsLegal, misses}
 
 pub Each-push : {X : Type 0} (P : X → Type 0) (xs : List X) (x : X) → Each P xs → P x → Each P (xs ++ x ∷ [])
 Each-push P [] x h p = (p, tt)
 Each-push P (y ∷ ys) x h p = (h.0, Each-push P ys x h.1 p)
 
-pub run-push : (w : Words) (es : List Event) (e : Event) → run w (es ++ e ∷ []) ≡ after (run w es) e.1
+pub run-push : (w : Reached) (es : List Event) (e : Event) → run w (es ++ e ∷ []) ≡ after (run w es) e.1
 run-push w [] e = refl
 run-push w (x ∷ xs) e = run-push (after w x.1) xs e
 
-pub AreRight-push : (w : Words) (es : List Event) (e : Event) → AreRight w es → IsRight (run w es) e.1 → AreRight w (es ++ e ∷ [])
+pub AreRight-push : (w : Reached) (es : List Event) (e : Event) → AreRight w es → IsRight (run w es) e.1 → AreRight w (es ++ e ∷ [])
 AreRight-push w [] e r h = (h, tt)
 AreRight-push w (x ∷ xs) e r h = (r.0, AreRight-push (after w x.1) xs e r.1 h)
 

@@ -11,9 +11,9 @@ use Rattle.std.proofs.lemmas.List.{get_or-set_same, get_or-set_other}
 use Rattle.std.proofs.Common.{set, min, [], lt-ltb, le-ltb}
 use Rattle.entities.specs.Census.{Census, population}
 use Rattle.entities.specs.Upcoming.{upcoming}
-use Rattle.entities.specs.PhasePlan.{ArePlaced, place_of_index}
+use Rattle.entities.specs.Phase.Plan.{ArePlaced, place_of_index}
 use Rattle.entities.proofs.Upcoming.{some_same, upcoming_is, upcoming_length, next_high}
-use Rattle.entities.specs.PhaseReserve.{IsReserve, AreApart, AreNew}
+use Rattle.entities.specs.Phase.Reserve.{IsReserve, AreApart, AreNew}
 
 pub slice_get_within : (es : List Entity) (k : ℕ) (e : Entity) → slice_get es k ≡ Some e → k < length es
 slice_get_within es k e is = elim (cases_lt k (length es)) [ inl lt ↦ lt | inr past ↦ let none = slice_get_past es k past in absurd (cc) ]

@@ -8,13 +8,13 @@ use mathlib.Core.Logic.{dite}
 use native.Mathlib.Decide.{ℕ_discrete, dec_le}
 use Rattle.entities.specs.declared.entity.Entity.{Entity}
 use Rattle.entities.specs.Population.{IsAlive}
-use Rattle.entities.specs.PhaseReserve.{IsReserve}
+use Rattle.entities.specs.Phase.Reserve.{IsReserve}
 use Rattle.entities.proofs.PhaseReserve.{taken_apart, taken_new}
 use Rattle.entities.specs.declared.phase.trace.Step.{Step}
 use Rattle.entities.specs.declared.phase.trace.Step.TheVariants.{Draw, Look, Mark, Peek}
 use Rattle.entities.specs.declared.phase.trace.Line.{Line}
-use Rattle.entities.specs.PhaseRule.{lines_of, IsRecorded, Among, AmongLines}
-use Rattle.entities.specs.PhaseTrace.{Phase, Words, Event, Each, one_if, start, run, after, has, steps_of, IsRight, AreRight, IsInterleaving, Call, creates, looks, marks_new, marks_old, peeks_new, peeks_old, steps_of_call, IsLegal, IsGivenBelow, misses, given_to, given, IsOfAlive, IsSound}
+use Rattle.entities.specs.Phase.Rule.{lines_of, IsRecorded, Among, AmongLines}
+use Rattle.entities.specs.Phase.Trace.{Phase, Reached, Event, Each, one_if, start, run, after, in_marks, steps_of, IsRight, AreRight, IsInterleaving, Call, creates, looks, marks_new, marks_old, peeks_new, peeks_old, steps_of_call, IsLegal, IsGivenBelow, misses, given_to, given, IsOfAlive, IsSound}
 
 -- what was given out is a beginning of the reserve
 take_one : (l : List Entity) (n : ℕ) → take n l ++ option_to_list (slice_get l n) ≡ take (n + 1) l
@@ -23,14 +23,14 @@ take_one [] (suc n) = rw (add-one) refl
 take_one (x ∷ xs) zero = refl
 take_one (x ∷ xs) (suc n) = rw (add-one) (ap (λ (k : List Entity). x ∷ k) (take_one xs n ∙ ap (λ (k : ℕ). take k xs) (add-one n)))
 
-given_step : (l : List Entity) (w : Words) (s : Step) (rest : List Entity) (end : ℕ) → IsRight w s → take (after w s).cursor l ++ rest ≡ take end l → take w.cursor l ++ (given_to l s ++ rest) ≡ take end l
+given_step : (l : List Entity) (w : Reached) (s : Step) (rest : List Entity) (end : ℕ) → IsRight w s → take (after w s).cursor l ++ rest ≡ take end l → take w.cursor l ++ (given_to l s ++ rest) ≡ take end l
 given_step l w (Draw n) rest end right h = let f = λ (k : ℕ). take w.cursor l ++ (option_to_list (slice_get l k) ++ rest) in
     ap f right ∙ (sym (append_assoc (take w.cursor l) (option_to_list (slice_get l w.cursor)) rest) ∙ (ap (λ (k : List Entity). k ++ rest) (take_one l w.cursor) ∙ h))
 given_step l w (Look n) rest end right h = h
 given_step l w (Mark i) rest end right h = h
 given_step l w (Peek i b) rest end right h = h
 
-given_from : (l : List Entity) (w : Words) (es : List Event) → AreRight w es → take w.cursor l ++ given l es ≡ take (run w es).cursor l
+given_from : (l : List Entity) (w : Reached) (es : List Event) → AreRight w es → take w.cursor l ++ given l es ≡ take (run w es).cursor l
 given_from l w [] r = append-nil (take w.cursor l)
 given_from l w (e ∷ es) r = given_step l w e.1 (given l es) (run (after w e.1) es).cursor r.0 (given_from l (after w e.1) es r.1)
 
@@ -89,13 +89,13 @@ missed n c m k h = dite (dec_le n c)
     (λ le. rw (le-leb n c le) (omega arith))
     (λ gt. omega arith)
 
-cursor_step : (n : ℕ) (w : Words) (s : Step) (m k : ℕ) → IsRight w s → k ≤ n + ((after w s).cursor - n) + m → k ≤ n + (w.cursor - n) + (misses n (s ∷ []) + m)
+cursor_step : (n : ℕ) (w : Reached) (s : Step) (m k : ℕ) → IsRight w s → k ≤ n + ((after w s).cursor - n) + m → k ≤ n + (w.cursor - n) + (misses n (s ∷ []) + m)
 cursor_step n w (Draw t) m k right h = subst (λ (x : ℕ). k ≤ n + (w.cursor - n) + (one_if (nat_le n x) + 0 + m)) (sym right) (let r = missed n w.cursor m k h in omega arith)
 cursor_step n w (Look t) m k right h = omega arith
 cursor_step n w (Mark t) m k right h = omega arith
 cursor_step n w (Peek t b) m k right h = omega arith
 
-cursor_bound : (n : ℕ) (w : Words) (es : List Event) → AreRight w es → (run w es).cursor ≤ n + (w.cursor - n) + all_misses n es
+cursor_bound : (n : ℕ) (w : Reached) (es : List Event) → AreRight w es → (run w es).cursor ≤ n + (w.cursor - n) + all_misses n es
 unfolding all_misses
 cursor_bound n w [] r = omega arith
 cursor_bound n w (e ∷ es) r = cursor_step n w e.1 (all_misses n es) (run w (e ∷ es)).cursor r.0 (cursor_bound n (after w e.1) es r.1)
@@ -119,16 +119,16 @@ unfolding Among
 among_here e es = subst (λ (b : Bool). Among e.1 (cond b (e.1 ∷ steps_of e.0 es) (steps_of e.0 es))) (sym (eq-eqb e.0 e.0 refl)) (inl refl)
 
 -- a mark was made by some pass
-mark_step : (i : ℕ) (w : Words) (e : Event) (es : List Event) → (has i (after w e.1).marks ≡ true) → (has i w.marks ≡ true) ⊎ IsMade (Mark i) (e ∷ es)
+mark_step : (i : ℕ) (w : Reached) (e : Event) (es : List Event) → (in_marks i (after w e.1).marks ≡ true) → (in_marks i w.marks ≡ true) ⊎ IsMade (Mark i) (e ∷ es)
 unfolding IsMade
 mark_step i w (p, Draw n) es h = inl h
 mark_step i w (p, Look n) es h = inl h
 mark_step i w (p, Peek j b) es h = inl h
 mark_step i w (p, Mark j) es h = dite (ℕ_discrete i j)
     (λ eq. inr (p, subst (λ (k : ℕ). Among (Mark k) (steps_of p ((p, Mark j) ∷ es))) (sym eq) (among_here (p, Mark j) es)))
-    (λ ne. inl (subst (λ (b : Bool). cond b true (has i w.marks) ≡ true) (ne_eqb i j ne) h))
+    (λ ne. inl (subst (λ (b : Bool). cond b true (in_marks i w.marks) ≡ true) (ne_eqb i j ne) h))
 
-mark_made : (i : ℕ) (w : Words) (es : List Event) → has i (run w es).marks ≡ true → (has i w.marks ≡ true) ⊎ IsMade (Mark i) es
+mark_made : (i : ℕ) (w : Reached) (es : List Event) → in_marks i (run w es).marks ≡ true → (in_marks i w.marks ≡ true) ⊎ IsMade (Mark i) es
 unfolding IsMade
 mark_made i w [] h = inl h
 mark_made i w (e ∷ es) h = ⊎_elim
@@ -137,24 +137,24 @@ mark_made i w (e ∷ es) h = ⊎_elim
     (mark_made i (after w e.1) es h)
 
 -- the cursor never goes back
-cursor_grows : (w : Words) (s : Step) → w.cursor ≤ (after w s).cursor
+cursor_grows : (w : Reached) (s : Step) → w.cursor ≤ (after w s).cursor
 cursor_grows w (Draw n) = omega arith
 cursor_grows w (Look n) = omega arith
 cursor_grows w (Mark i) = omega arith
 cursor_grows w (Peek i b) = omega arith
 
-pub run_grows : (w : Words) (es : List Event) → w.cursor ≤ (run w es).cursor
+pub run_grows : (w : Reached) (es : List Event) → w.cursor ≤ (run w es).cursor
 run_grows w [] = omega arith
 run_grows w (e ∷ es) = let a = cursor_grows w e.1 in let b = run_grows (after w e.1) es in omega arith
 
 -- what a Look answered is at most the cursor at the end
-look_in : (w : Words) (s : Step) (n : ℕ) → IsRight w s → s ≡ Look n → n ≤ w.cursor
+look_in : (w : Reached) (s : Step) (n : ℕ) → IsRight w s → s ≡ Look n → n ≤ w.cursor
 look_in w (Draw t) n right e = absurd (cc)
 look_in w (Look t) n right e = let k : t ≡ n = cc in omega arith
 look_in w (Mark i) n right e = absurd (cc)
 look_in w (Peek i b) n right e = absurd (cc)
 
-look_bound : (n p : ℕ) (w : Words) (es : List Event) → AreRight w es → Among (Look n) (steps_of p es) → n ≤ (run w es).cursor
+look_bound : (n p : ℕ) (w : Reached) (es : List Event) → AreRight w es → Among (Look n) (steps_of p es) → n ≤ (run w es).cursor
 unfolding Among
 look_bound n p w [] r h = absurd h
 look_bound n p w (e ∷ es) r h = let up = run_grows (after w e.1) es in let up' = cursor_grows w e.1 in dite (ℕ_discrete p e.0)
@@ -188,7 +188,7 @@ mark_rests o i (peeks_new x n b ∷ cs) l h = ⊎_elim (λ (e : Look n ≡ Mark 
     (λ (u : Among (Mark i) (flat_map steps_of_call cs)). rests_more o i (Look n) (Peek x.0 b ∷ flat_map steps_of_call cs) (rests_more o i (Peek x.0 b) (flat_map steps_of_call cs) (mark_rests o i cs l.1 u))) t) h
 mark_rests o i (peeks_old x b ∷ cs) l h = ⊎_elim (λ (e : Peek x.0 b ≡ Mark i). absurd (cc)) (λ (t : Among (Mark i) (flat_map steps_of_call cs)). rests_more o i (Peek x.0 b) _ (mark_rests o i cs l.1 t)) h
 
-pub marked_alive : (o : Phase) (es : List Event) → IsInterleaving o es → (i : ℕ) → has i (run start es).marks ≡ true → IsOfAlive o (run start es).cursor i
+pub marked_alive : (o : Phase) (es : List Event) → IsInterleaving o es → (i : ℕ) → in_marks i (run start es).marks ≡ true → IsOfAlive o (run start es).cursor i
 unfolding Rests Among IsMade
 marked_alive o es r i h = ⊎_elim (λ (no : false ≡ true). absurd (true≢false (sym no)))
     (λ (made : (p : ℕ) × Among (Mark i) (steps_of p es)). let c = r.calls made.0 in ⊎_elim
@@ -211,13 +211,13 @@ sound o reserve es r =
     }
 
 -- where every pass came back, each ticket was drawn by a pass whose record came back
-draw_here : (w : Words) (s : Step) (k : ℕ) → IsRight w s → w.cursor ≤ k → k < (after w s).cursor → s ≡ Draw k
+draw_here : (w : Reached) (s : Step) (k : ℕ) → IsRight w s → w.cursor ≤ k → k < (after w s).cursor → s ≡ Draw k
 draw_here w (Draw n) k right low high = ap Draw (let e : n ≡ k = omega arith in e)
 draw_here w (Look n) k right low high = absurd (omega arith)
 draw_here w (Mark i) k right low high = absurd (omega arith)
 draw_here w (Peek i b) k right low high = absurd (omega arith)
 
-drawn : (v : List Line) (k : ℕ) (w : Words) (es : List Event) → AreRight w es → Each (λ e. lines_of e.0 v ≡ 1) es → w.cursor ≤ k → k < (run w es).cursor → (p : ℕ) × (lines_of p v ≡ 1) × Among (Draw k) (steps_of p es)
+drawn : (v : List Line) (k : ℕ) (w : Reached) (es : List Event) → AreRight w es → Each (λ e. lines_of e.0 v ≡ 1) es → w.cursor ≤ k → k < (run w es).cursor → (p : ℕ) × (lines_of p v ≡ 1) × Among (Draw k) (steps_of p es)
 drawn v k w [] r h low high = absurd (omega arith)
 drawn v k w (e ∷ es) r h low high = dite (dec_le (after w e.1).cursor k)
     (λ le. let t = drawn v k (after w e.1) es r.1 h.1 le high in (t.0, t.1, among_more (Draw k) t.0 e es t.2))
@@ -241,7 +241,7 @@ made_back p s (e ∷ es) v h a = dite (ℕ_discrete p e.0)
     (λ eq. rw eq h.0)
     (λ ne. made_back p s es v h.1 (subst (λ (b : Bool). Among s (cond b (e.1 ∷ steps_of p es) (steps_of p es))) (ne_eqb p e.0 ne) a))
 
-pub each_mark : (v : List Line) (es : List Event) → Each (λ e. lines_of e.0 v ≡ 1) es → IsRecorded es v → (i : ℕ) → has i (run start es).marks ≡ true → AmongLines (Mark i) v
+pub each_mark : (v : List Line) (es : List Event) → Each (λ e. lines_of e.0 v ≡ 1) es → IsRecorded es v → (i : ℕ) → in_marks i (run start es).marks ≡ true → AmongLines (Mark i) v
 unfolding IsMade
 each_mark v es h rec i marked = ⊎_elim
     (λ (no : false ≡ true). absurd (true≢false (sym no)))
@@ -257,13 +257,13 @@ line_steps s es (x ∷ xs) r h = ⊎_elim
     (λ (later : AmongLines s xs). line_steps s es xs r.1 later)
     h
 
-draw_in : (w : Words) (s : Step) (t : ℕ) → IsRight w s → s ≡ Draw t → t < (after w s).cursor
+draw_in : (w : Reached) (s : Step) (t : ℕ) → IsRight w s → s ≡ Draw t → t < (after w s).cursor
 draw_in w (Draw n) t right e = let k : n ≡ t = cc in omega arith
 draw_in w (Look n) t right e = absurd (cc)
 draw_in w (Mark i) t right e = absurd (cc)
 draw_in w (Peek i b) t right e = absurd (cc)
 
-draw_bound : (t p : ℕ) (w : Words) (es : List Event) → AreRight w es → Among (Draw t) (steps_of p es) → t < (run w es).cursor
+draw_bound : (t p : ℕ) (w : Reached) (es : List Event) → AreRight w es → Among (Draw t) (steps_of p es) → t < (run w es).cursor
 unfolding Among
 draw_bound t p w [] r h = absurd h
 draw_bound t p w (e ∷ es) r h = let up = run_grows (after w e.1) es in dite (ℕ_discrete p e.0)
@@ -275,20 +275,20 @@ pub drawn_below : (v : List Line) (es : List Event) → AreRight start es → Is
 drawn_below v es r rec t h = let at = line_steps (Draw t) es v rec h in draw_bound t at.0 start es r at.1
 
 -- a mark stays
-keeps_mark : (i : ℕ) (w : Words) (s : Step) → has i w.marks ≡ true → has i (after w s).marks ≡ true
+keeps_mark : (i : ℕ) (w : Reached) (s : Step) → in_marks i w.marks ≡ true → in_marks i (after w s).marks ≡ true
 keeps_mark i w (Draw n) h = h
 keeps_mark i w (Look n) h = h
 keeps_mark i w (Peek j b) h = h
-keeps_mark i w (Mark j) h = elim (eqb i j) as (λ (b : Bool). cond b true (has i w.marks) ≡ true) [ true ↦ refl | false ↦ h ]
+keeps_mark i w (Mark j) h = elim (eqb i j) as (λ (b : Bool). cond b true (in_marks i w.marks) ≡ true) [ true ↦ refl | false ↦ h ]
 
-mark_stays : (i : ℕ) (w : Words) (es : List Event) → has i w.marks ≡ true → has i (run w es).marks ≡ true
+mark_stays : (i : ℕ) (w : Reached) (es : List Event) → in_marks i w.marks ≡ true → in_marks i (run w es).marks ≡ true
 mark_stays i w [] h = h
 mark_stays i w (e ∷ es) h = mark_stays i (after w e.1) es (keeps_mark i w e.1 h)
 
-mark_here : (i : ℕ) (w : Words) (s : Step) → s ≡ Mark i → has i (after w s).marks ≡ true
-mark_here i w s e = ap (λ (x : Step). has i (after w x).marks) e ∙ ap (λ (b : Bool). cond b true (has i w.marks)) (eq-eqb i i refl)
+mark_here : (i : ℕ) (w : Reached) (s : Step) → s ≡ Mark i → in_marks i (after w s).marks ≡ true
+mark_here i w s e = ap (λ (x : Step). in_marks i (after w x).marks) e ∙ ap (λ (b : Bool). cond b true (in_marks i w.marks)) (eq-eqb i i refl)
 
-pub own_mark : (i p : ℕ) (w : Words) (es : List Event) → Among (Mark i) (steps_of p es) → has i (run w es).marks ≡ true
+pub own_mark : (i p : ℕ) (w : Reached) (es : List Event) → Among (Mark i) (steps_of p es) → in_marks i (run w es).marks ≡ true
 unfolding Among
 own_mark i p w [] h = absurd h
 own_mark i p w (e ∷ es) h = dite (ℕ_discrete p e.0)
@@ -296,7 +296,7 @@ own_mark i p w (e ∷ es) h = dite (ℕ_discrete p e.0)
     (subst (λ (b : Bool). Among (Mark i) (cond b (e.1 ∷ steps_of p es) (steps_of p es))) (eq-eqb p e.0 eq) h))
     (λ ne. own_mark i p (after w e.1) es (subst (λ (b : Bool). Among (Mark i) (cond b (e.1 ∷ steps_of p es) (steps_of p es))) (ne_eqb p e.0 ne) h))
 
-pub mark_told : (v : List Line) (es : List Event) → IsRecorded es v → (i : ℕ) → AmongLines (Mark i) v → has i (run start es).marks ≡ true
+pub mark_told : (v : List Line) (es : List Event) → IsRecorded es v → (i : ℕ) → AmongLines (Mark i) v → in_marks i (run start es).marks ≡ true
 mark_told v es rec i h = let at = line_steps (Mark i) es v rec h in own_mark i at.0 start es at.1
 
 -- a pass that missed drew a ticket past the reserve

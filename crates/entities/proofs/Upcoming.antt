@@ -15,7 +15,7 @@ use Rattle.entities.specs.Population.{Population, MayBeBorn, NoneFree, IsLeastUn
 use Rattle.entities.specs.Deaths.{has_index}
 use Rattle.entities.specs.Kept.{IsStacked, SameBut, free_at}
 use Rattle.entities.specs.Upcoming.{next_index, next_entity, upcoming}
-use Rattle.entities.specs.PhaseReserve.{IsReserve, with_births}
+use Rattle.entities.specs.Phase.Reserve.{IsReserve, with_births}
 use Rattle.entities.proofs.Sets.{same_population, free_is}
 use Rattle.entities.proofs.Stack.{within, born_in, unborn_past}
 
@@ -220,6 +220,11 @@ reserve_is c n s few = record {
       (subst (λ (es : List Entity). MayBeBorn (with_births es (population c)) (next_index c t)) (sym (upcoming_take c n t (omega (arith, at.0)))) (may_be_born c n t s few at.0));
   generation = λ t e is. let at = upcoming_is c n t e is in
       subst (λ (x : Entity). x.1.0 ≡ pos (births_of c.generations x.0 + 1)) (sym at.1) refl;
+  below = λ t e is. let at = upcoming_is c n t e is in
+      let index = ap (λ (x : Entity). x.0) at.1 in elim (cases_lt t (length c.free)) [
+        | inl low ↦ omega (arith, index, next_born c t s low, few)
+        | inr high ↦ omega (arith, index, next_high c t high, at.0, few)
+      ];
   once = λ t e is. let at = upcoming_is c n t e is in
       subst (λ (x : Entity). has_index (take t (upcoming c n)) x.0 ≡ false) (sym at.1)
       (subst (λ (es : List Entity). has_index es (next_index c t) ≡ false) (sym (upcoming_take c n t (omega (arith, at.0)))) (fresh_next c t s));

@@ -1,10 +1,11 @@
 -- What an iterator that creates entities gives.
-use Rattle.std.specs.Prelude.{◌≡◌, ◌⊎◌, ◌+◌, pos, Bool, true, false, Option, Some, None, Result, Ok, Err}
+use Rattle.std.specs.Prelude.{◌≡◌, ◌⊎◌, ◌+◌, ◌<◌, pos, Bool, true, false, Option, Some, None, Result, Ok, Err}
 use Rattle.std.specs.Borrow.{MutBor}
 use Rattle.entities.specs.declared.allocator.births.CreateError.{CreateError}
 use Rattle.entities.specs.declared.allocator.births.CreateError.TheVariants.{OutOfMemory}
 use Rattle.entities.specs.declared.create_iter.CreateIterAtomic.{CreateIterAtomic}
 use Rattle.entities.specs.declared.entity.Entity.{Entity}
+use Rattle.hibits.specs.declared.limits.TheConstants.{INDEX_LIMIT}
 use Rattle.entities.specs.Census.{Census, population}
 use Rattle.entities.specs.Population.{Population, MayBeBorn, NoneFree, NoneUnused, born_pending, index_of, generation_of}
 
@@ -24,7 +25,7 @@ peopled it = population (lent_to it).now
 abbrev pub Gives : CreateIterAtomic → Option (Result Entity CreateError) → CreateIterAtomic → Type 0
 Gives old None new = (new ≡ old) × ((has_failed old ≡ true) ⊎ (NoneFree (peopled old) × NoneUnused (peopled old)))
 Gives old (Some (Ok e)) new =
-    (has_failed old ≡ false) × (has_failed new ≡ false) × MayBeBorn (peopled old) (index_of e) × (generation_of e ≡ pos ((peopled old).births (index_of e) + 1)) × (peopled new ≡ born_pending (peopled old) (index_of e))
+    (has_failed old ≡ false) × (has_failed new ≡ false) × MayBeBorn (peopled old) (index_of e) × (generation_of e ≡ pos ((peopled old).births (index_of e) + 1)) × (peopled new ≡ born_pending (peopled old) (index_of e)) × (index_of e < INDEX_LIMIT)
 Gives old (Some (Err x)) new =
     (has_failed old ≡ false) × (has_failed new ≡ true) × (x ≡ OutOfMemory) × NoneFree (peopled old) × (NoneUnused (peopled old) → ⊥) × ((lent_to new).now ≡ (lent_to old).now)
 

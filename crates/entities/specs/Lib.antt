@@ -1,5 +1,7 @@
 pub mod Census
 pub mod Population
+pub mod Equality
+pub mod Limits
 pub mod Deaths
 pub mod Lowered
 pub mod Merges
@@ -8,11 +10,4 @@ pub mod Texts
 pub mod Lending
 pub mod Creates
 pub mod Upcoming
-pub mod PhaseReserve
-pub mod PhaseTrace
-pub mod PhaseRule
-pub mod PhasePlan
-pub mod PhaseBoard
-pub mod PhaseCalls
-pub mod PhaseOpened
-pub mod PhaseLending
+pub mod Phase

@@ -1,5 +1,5 @@
 //! The allocator of entities: which indices live, with which generation, and which are to die.
-ghost use Rattle.std.specs.Prelude.{◌≡◌, ◌<◌, ℕ, ◌↔◌, IsTrue, option_map};
+ghost use Rattle.std.specs.Prelude.{◌≡◌, ◌≢◌, ◌<◌, ◌<ℤ◌, pos, ℕ, ◌↔◌, IsTrue, IfSome, option_map};
 ghost use Rattle.entities.specs.Population.{no_one, IsAlive, IsMerged, generation_now, generation_merged, generation_reported, index_of, generation_of, number_of};
 ghost use Rattle.entities.specs.Census.{population, has};
 
@@ -93,6 +93,7 @@ impl Allocator {
     pub fn is_alive(&self, e: Entity) -> bool
         ensures alive { IsTrue result ↔ IsAlive (population self.now) e }
         ensures limit { IsTrue result → index_of e < INDEX_LIMIT }
+        ensures positive { IsTrue result → pos 0 <ℤ generation_of e }
     {
         is_one_of(&self.generations, e)
     }
@@ -112,6 +113,7 @@ impl Allocator {
     pub fn entity(&self, id: Index) -> Entity
         ensures index { index_of result ≡ id }
         ensures generation { generation_of result ≡ generation_now (population self.now) id }
+        ensures not_zero { generation_of result ≢ pos 0 }
     {
         let i = id as usize;
         if i < self.generations.len() {
@@ -126,7 +128,8 @@ impl Allocator {
     /// Ports `Allocator::generation`.
     #[inline]
     pub fn generation(&self, id: Index) -> Option<Generation>
-        ensures { option_map (λ g. number_of g) result ≡ generation_merged (population self.now) id }
+        ensures generation { option_map (λ g. number_of g) result ≡ generation_merged (population self.now) id }
+        ensures not_zero { IfSome result (λ g. number_of g ≢ pos 0) }
     {
         let i = id as usize;
         if i >= self.generations.len() {
@@ -148,6 +151,7 @@ impl Allocator {
     pub fn wrong_generation(&self, action: &'static str, entity: Entity) -> WrongGeneration
         ensures entity { result.entity ≡ entity }
         ensures actual { number_of result.actual_gen ≡ generation_reported (population self.now) (index_of entity) }
+        ensures not_zero { number_of result.actual_gen ≢ pos 0 }
         ensures action { result.action.now ≡ action.now }
     {
         let actual_gen = self.generation(entity.0).unwrap_or(Generation(1));

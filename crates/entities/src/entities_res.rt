@@ -1,5 +1,5 @@
 //! The entities of a world.
-ghost use Rattle.std.specs.Prelude.{◌≡◌, ℕ, ◌+◌, ◌-◌, ◌≤◌, ◌↔◌, pos, true, false, length, slice_get, Some, ◌<◌, IsTrue, IfOk, IfErr, OnOk, OnErr};
+ghost use Rattle.std.specs.Prelude.{◌≡◌, ℕ, ◌+◌, ◌-◌, ◌≤◌, ◌≢◌, ◌<ℤ◌, ◌↔◌, pos, true, false, length, slice_get, Some, ◌<◌, IsTrue, IfOk, IfErr, OnOk, OnErr};
 ghost use Rattle.std.specs.Borrow.{sem, RestsIfErr};
 ghost use Rattle.std.specs.FinSet as set;
 ghost use Rattle.entities.specs.Population.{no_one, MayBeBorn, NoneFree, NoneUnused, born_pending, mark, lives, IsAlive, generation_now, generation_reported, index_of, generation_of, number_of};
@@ -7,7 +7,7 @@ ghost use Rattle.entities.specs.declared.entity.Entity.{Entity};
 ghost use Rattle.entities.specs.Census.{population};
 ghost use Rattle.entities.specs.Kept.{SameBut};
 ghost use Rattle.entities.specs.Upcoming.{upcoming};
-ghost use Rattle.entities.specs.PhaseReserve.{IsReserve, givable, with_births};
+ghost use Rattle.entities.specs.Phase.Reserve.{IsReserve, givable, with_births};
 
 use crate::allocator::{Allocator, CreateError};
 use crate::create_iter::CreateIterAtomic;
@@ -62,6 +62,7 @@ impl EntitiesRes {
     #[inline]
     pub fn create(&mut self) -> Result<Entity, CreateError>
         ensures may { IfOk result (λ e. MayBeBorn (population self.old) (index_of e)) }
+        ensures below { IfOk result (λ e. index_of e < INDEX_LIMIT) }
         ensures generation { IfOk result (λ e. generation_of e ≡ pos ((population self.old).births (index_of e) + 1)) }
         ensures born { IfOk result (λ e. population self.new ≡ born_pending (population self.old) (index_of e)) }
         ensures limit { result ≡ Err CreateError.IndexLimit → NoneFree (population self.old) × NoneUnused (population self.old) }
@@ -93,8 +94,10 @@ impl EntitiesRes {
         ensures* rests { sem 𝓛 (BuilderRests self.entry result) }
         ensures same_reference { IfOk result (λ b. (lent_to_builder b).ghost_name ≡ self.entry.ghost_name) }
         ensures may { IfOk result (λ b. MayBeBorn (population self.old) (index_of (entity_built b))) }
+        ensures below { IfOk result (λ b. index_of (entity_built b) < INDEX_LIMIT) }
         ensures generation { IfOk result (λ b. generation_of (entity_built b) ≡ pos ((population self.old).births (index_of (entity_built b)) + 1)) }
         ensures born { IfOk result (λ b. population (lent_to_builder b).now ≡ born_pending (population self.old) (index_of (entity_built b))) }
+        ensures alive { IfOk result (λ b. IsAlive (population (lent_to_builder b).now) (entity_built b)) }
         ensures limit { IfErr result (λ e. e ≡ CreateError.IndexLimit → NoneFree (population self.old) × NoneUnused (population self.old)) }
         ensures reuses { OnErr result (NoneFree (population self.old)) }
         ensures memory { IfErr result (λ e. e ≡ CreateError.OutOfMemory → NoneUnused (population self.old) → ⊥) }
@@ -127,6 +130,7 @@ impl EntitiesRes {
     pub fn is_alive(&self, e: Entity) -> bool
         ensures alive { IsTrue result ↔ IsAlive (population self.now) e }
         ensures limit { IsTrue result → index_of e < INDEX_LIMIT }
+        ensures positive { IsTrue result → pos 0 <ℤ generation_of e }
     {
         self.allocator.is_alive(e)
     }
@@ -138,6 +142,7 @@ impl EntitiesRes {
     pub fn entity(&self, id: Index) -> Entity
         ensures index { index_of result ≡ id }
         ensures generation { generation_of result ≡ generation_now (population self.now) id }
+        ensures not_zero { generation_of result ≢ pos 0 }
     {
         self.allocator.entity(id)
     }
@@ -146,6 +151,7 @@ impl EntitiesRes {
     pub fn wrong_generation(&self, action: &'static str, entity: Entity) -> WrongGeneration
         ensures entity { result.entity ≡ entity }
         ensures actual { number_of result.actual_gen ≡ generation_reported (population self.now) (index_of entity) }
+        ensures not_zero { number_of result.actual_gen ≢ pos 0 }
         ensures action { result.action.now ≡ action.now }
     {
         self.allocator.wrong_generation(action, entity)

@@ -1,10 +1,14 @@
 //! Entities and generations.
 ghost use Rattle.std.specs.Prelude.{◌≡◌, ◌≢◌, ◌↔◌, pos, ◌<ℤ◌, IsTrue, Some, MatchOption};
 ghost use Rattle.std.specs.Ordering.{nat_cmp, int_cmp, then_cmp};
+ghost use Rattle.std.specs.Cmp.Rules.{comparing, hashing};
+ghost use Rattle.std.proofs.Common.{rules};
+ghost use Rattle.entities.specs.Equality.{hashed, same_refusal};
 ghost use Rattle.entities.specs.Population.{index_of, generation_of};
 ghost use Rattle.entities.specs.Texts.{generation_text, entity_text, wrong_text};
 
 use std::cmp::Ordering;
+use std::hash::{Hash, Hasher};
 use std::{error, fmt};
 
 /// An index of an entity. Indices that are born lie below `INDEX_LIMIT`.
@@ -25,16 +29,20 @@ pub struct Generation(pub(crate) i32);
 /// One life of an index: the index and its generation. Entities are equal, ordered and hashed by the index, then the generation.
 ///
 /// Ports `specs::Entity`.
-#[derive(Clone, Copy, PartialEq, Eq, PartialOrd, Ord, Hash)]
+#[derive(Clone, Copy, PartialEq, Eq, PartialOrd, Ord)]
 pub struct Entity(pub(crate) Index, pub(crate) Generation);
 
 /// An entity was refused, since it doesn't live: what was tried, the generation that its index has, and the entity.
 ///
 /// Ports `specs::error::WrongGeneration`.
-#[derive(Clone, Copy, Debug, PartialEq, Eq)]
+#[derive(Clone, Copy, Debug)]
 pub struct WrongGeneration {
+    /// What was refused, as `DELETE`.
     pub action: &'static str,
+    /// The generation that the entity's index has without its pending birth: above zero if it lives, below zero if it is dead, and 1 if it
+    /// has none. Never zero.
     pub actual_gen: Generation,
+    /// The entity that was refused.
     pub entity: Entity,
 }
 
@@ -88,6 +96,34 @@ impl Entity {
     {
         self.1
     }
+}
+
+impl Hash for Entity {
+    ghost hash_input = { hashed };
+
+    ghost respects_eq = { Prim.search (hashing, rules) };
+
+    fn hash<H: Hasher>(&self, state: &mut H) {
+        let Entity(index, generation) = *self;
+        index.hash(state);
+        generation.hash(state);
+    }
+}
+
+impl PartialEq for WrongGeneration {
+    ghost eq = { same_refusal };
+
+    ghost laws = { Prim.search (comparing, rules) depth 9 };
+
+    fn eq(&self, other: &WrongGeneration) -> bool {
+        self.action == other.action
+            && self.actual_gen == other.actual_gen
+            && self.entity == other.entity
+    }
+}
+
+impl Eq for WrongGeneration {
+    ghost laws = { Prim.search (comparing, rules) };
 }
 
 impl fmt::Debug for Generation {

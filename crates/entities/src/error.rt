@@ -10,7 +10,9 @@ use std::fmt;
 /// Ports `specs::error::Error`; the text stands for a boxed error.
 #[derive(Debug, Drop)]
 pub enum Error {
+    /// A text of the user's.
     Custom(String),
+    /// An entity that was refused, since it doesn't live.
     WrongGeneration(WrongGeneration),
 }
 

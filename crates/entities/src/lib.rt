@@ -2,6 +2,7 @@
 #![tactic(auto)]
 
 mod allocator;
+mod constants;
 mod create_iter;
 mod entities_res;
 mod entity;
@@ -13,6 +14,7 @@ mod res_builder;
 mod tests;
 
 pub use allocator::{Allocator, CreateError};
+pub use constants::limits;
 pub use create_iter::CreateIterAtomic;
 pub use entities_res::EntitiesRes;
 pub use entity::{DELETE, Entity, Generation, Index, LAST_GENERATION, WrongGeneration, order};

@@ -1,5 +1,6 @@
 //! The test of a list of entities: each one's generation is lowered, so that it is dead if it comes again, and then all are raised again.
-ghost use Rattle.std.specs.Prelude.{◌≡◌, ◌≤◌, ◌<◌, ◌↔◌, IsTrue, List, ℤ, length, take, slice_index_or};
+ghost use Rattle.std.specs.Prelude.{◌≡◌, ◌≤◌, ◌<◌, ◌<ℤ◌, pos, ◌↔◌, IsTrue, List, ℤ, length, take, slice_index_or};
+ghost use Rattle.entities.specs.Population.{generation_of};
 ghost use Rattle.std.specs.List.{All, Contains};
 ghost use Rattle.entities.specs.Lowered.{IsOneOf, AreDistinctOf, IsLowered};
 
@@ -8,7 +9,8 @@ use crate::entity::Entity;
 /// Whether an entity has the generation that its index has, above zero.
 #[inline]
 pub(crate) fn is_one_of(generations: &[i32], e: Entity) -> bool
-    ensures { IsTrue result ↔ IsOneOf generations.now e }
+    ensures one { IsTrue result ↔ IsOneOf generations.now e }
+    ensures positive { IsTrue result → pos 0 <ℤ generation_of e }
 {
     let i = e.0 as usize;
     i < generations.len() && e.1.0 > 0 && generations[i] == e.1.0

@@ -59,7 +59,7 @@ impl<'a> EntityResBuilder<'a> {
         match outcome {
             Ok(()) => Ok(EntityResBuilder { entities, entity }),
             Err(e) => {
-                let _ = entities.delete(entity);
+                let _marked = entities.delete(entity);
                 Err(e)
             }
         }

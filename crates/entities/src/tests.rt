@@ -208,21 +208,25 @@ fn stories_go_as_told(rt: HostRuntime) -> Result<(), Fail> {
     Ok(())
 }
 
-/// How many of the next entities are made, until it ends.
-fn made(entities: &mut EntitiesRes, most: usize) -> usize {
+/// How many items there are until it ends, and how many of them are entities.
+fn made(entities: &mut EntitiesRes, most: usize) -> (usize, usize) {
+    let mut items = 0;
     let mut count = 0;
     for item in entities.create_iter().take(most) {
-        if item.is_ok() && count < most {
-            count += 1;
+        if items < most && count < most {
+            items += 1;
+            if item.is_ok() {
+                count += 1;
+            }
         }
     }
-    count
+    (items, count)
 }
 
 #[test]
 fn five_made_and_marked(rt: HostRuntime) -> Result<(), Fail> {
     let mut entities = EntitiesRes::new(rt.alloc());
-    assert_eq!(rt; made(&mut entities, 5), 5);
+    assert_eq!(rt; made(&mut entities, 5), (5, 5));
     for index in (0..5).rev() {
         let _ = entities.delete(entity(index, 1));
     }
@@ -246,7 +250,8 @@ fn nearly_full(alloc: Global) -> EntitiesRes {
 #[test]
 fn two_indices_below_the_limit(rt: HostRuntime) -> Result<(), Fail> {
     let mut entities = nearly_full(rt.alloc());
-    assert_eq!(rt; made(&mut entities, 4), 2);
+    assert_eq!(rt; made(&mut entities, 4), (2, 2));
+    assert_eq!(rt; made(&mut entities, 4), (0, 0));
     assert_eq!(rt; entities.create(), Err(CreateError::IndexLimit));
     let last = entity(INDEX_LIMIT - 1, 1);
     assert_eq!(rt; entities.is_alive(last), true);

@@ -3,8 +3,8 @@
 
 ghost use Rattle.std.specs.Prelude.{◌≡◌, ℕ, length};
 ghost use Rattle.std.specs.List.{All};
-ghost use Rattle.entities.specs.PhaseBoard.{IsPassOf};
-ghost use Rattle.entities.specs.PhaseOpened.{board_of};
+ghost use Rattle.entities.specs.Phase.Board.{IsPassOf};
+ghost use Rattle.entities.specs.Phase.Opened.{board_of};
 
 use entities::{EntitiesRes, Pass, Shared};
 use rayon::prelude::*;

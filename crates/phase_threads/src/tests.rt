@@ -1,7 +1,7 @@
 //! What phases come to.
-ghost use Rattle.entities.specs.PhaseBoard.{IsPassOf};
-ghost use Rattle.entities.specs.PhaseOpened.{entities_of, board_of};
-ghost use Rattle.entities.specs.PhaseCalls.{IsOpen};
+ghost use Rattle.entities.specs.Phase.Board.{IsPassOf};
+ghost use Rattle.entities.specs.Phase.Opened.{entities_of, board_of};
+ghost use Rattle.entities.specs.Phase.Calls.{IsOpen};
 
 use super::*;
 use entities::{Closed, Entity, OpenError};
@@ -93,6 +93,40 @@ fn two_entities_for_three_passes(rt: HostRuntime) -> Result<(), Fail> {
     Ok(())
 }
 
+/// What two passes are given in a phase of two entities, one after the other.
+fn two_given(alloc: Global, entities: &mut EntitiesRes) -> (Option<Entity>, Option<Entity>) {
+    match entities.open(alloc, 2, 2) {
+        Ok((shared, mut passes)) => {
+            let first = shared.create(&mut passes[0]).ok();
+            let second = shared.create(&mut passes[1]).ok();
+            let _ = shared.close(passes);
+            (first, second)
+        }
+        Err(_) => (None, None),
+    }
+}
+
+#[test]
+fn two_passes_are_given_two_entities(rt: HostRuntime) -> Result<(), Fail> {
+    let mut entities = EntitiesRes::new(rt.alloc());
+    assert_eq!(rt;
+        two_given(rt.alloc(), &mut entities),
+        (entity(0), entity(1))
+    );
+    let both = [entities.entity(0), entities.entity(1)];
+    assert_eq!(rt; entities.alloc_mut().kill(&both).is_ok(), true);
+    let (first, second) = two_given(rt.alloc(), &mut entities);
+    assert_eq!(rt; first, Entity::from_parts(1, 2));
+    assert_eq!(rt; second, Entity::from_parts(0, 2));
+    assert!(rt; !entities.is_alive(both[0]) && !entities.is_alive(both[1]));
+    let _ = entities.alloc_mut().merge(rt.alloc())?;
+    assert_eq!(rt;
+        two_given(rt.alloc(), &mut entities),
+        (entity(2), entity(3))
+    );
+    Ok(())
+}
+
 /// What a phase with this reserve and as many passes comes to, each of which creates once, in threads.
 fn all_create(
     rt: &(impl Threads + Sync),
@@ -133,6 +167,10 @@ fn passes_create_in_threads(rt: HostRuntime) {
         })
     );
     assert!(rt; two.is_alive(two.entity(0)) && two.is_alive(two.entity(1)));
+    assert_eq!(rt;
+        (Some(two.entity(0)), Some(two.entity(1))),
+        (entity(0), entity(1))
+    );
     let phase = all_create(&rt, rt.alloc(), &mut entities, 50, 60);
     assert_eq!(rt;
         phase,

@@ -30,6 +30,7 @@ impl Allocator {
     #[inline]
     pub fn allocate(&mut self) -> Result<Entity, CreateError>
         ensures may { IfOk result (λ e. MayBeBorn (population self.old) (index_of e)) }
+        ensures below { IfOk result (λ e. index_of e < INDEX_LIMIT) }
         ensures generation { IfOk result (λ e. generation_of e ≡ pos ((population self.old).births (index_of e) + 1)) }
         ensures born { IfOk result (λ e. population self.new ≡ born (population self.old) (index_of e)) }
         ensures limit { result ≡ Err CreateError.IndexLimit → NoneFree (population self.old) × NoneUnused (population self.old) }
@@ -46,6 +47,7 @@ impl Allocator {
     #[inline]
     pub fn allocate_atomic(&mut self) -> Result<Entity, CreateError>
         ensures may { IfOk result (λ e. MayBeBorn (population self.old) (index_of e)) }
+        ensures below { IfOk result (λ e. index_of e < INDEX_LIMIT) }
         ensures generation { IfOk result (λ e. generation_of e ≡ pos ((population self.old).births (index_of e) + 1)) }
         ensures born { IfOk result (λ e. population self.new ≡ born_pending (population self.old) (index_of e)) }
         ensures limit { result ≡ Err CreateError.IndexLimit → NoneFree (population self.old) × NoneUnused (population self.old) }
@@ -59,6 +61,7 @@ impl Allocator {
     #[inline]
     fn give_birth(&mut self, pending: bool) -> Result<Entity, CreateError>
         ensures may { IfOk result (λ e. MayBeBorn (population self.old) (index_of e)) }
+        ensures below { IfOk result (λ e. index_of e < INDEX_LIMIT) }
         ensures generation { IfOk result (λ e. generation_of e ≡ pos ((population self.old).births (index_of e) + 1)) }
         ensures born { IfOk result (λ e. population self.new ≡ born_as pending (population self.old) (index_of e)) }
         ensures limit { result ≡ Err CreateError.IndexLimit → NoneFree (population self.old) × NoneUnused (population self.old) }
@@ -77,6 +80,7 @@ impl Allocator {
     #[inline]
     pub(crate) fn revive(&mut self, pending: bool) -> Option<Entity>
         ensures free { IfSome result (λ e. is_free (population self.old) (index_of e) ≡ true) }
+        ensures below { IfSome result (λ e. index_of e < INDEX_LIMIT) }
         ensures generation { IfSome result (λ e. generation_of e ≡ pos ((population self.old).births (index_of e) + 1)) }
         ensures born { IfSome result (λ e. population self.new ≡ born_as pending (population self.old) (index_of e)) }
         ensures last { IfSome result (λ e. self.old.free ≡ self.new.free ++ index_of e ∷ []) }

@@ -4,7 +4,7 @@ ghost use Rattle.entities.specs.declared.entity.Entity.{Entity};
 ghost use Rattle.entities.specs.Population.{lives, mark, index_of};
 ghost use Rattle.entities.specs.Census.{population};
 ghost use Rattle.entities.specs.Upcoming.{next_entity, upcoming};
-ghost use Rattle.entities.specs.PhaseReserve.{IsReserve, givable, with_births};
+ghost use Rattle.entities.specs.Phase.Reserve.{IsReserve, givable, with_births};
 
 use crate::allocator::Allocator;
 use crate::allocator::births::reborn;

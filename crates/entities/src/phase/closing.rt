@@ -2,15 +2,15 @@
 ghost use Rattle.std.specs.Mem.Slots.{slots_items, slots_len, IsFull};
 ghost use Rattle.std.specs.Prelude.{◌≡◌, ℕ, ◌+◌, ◌*◌, ◌/◌, ◌<◌, ◌≤◌, ◌^◌, ◌++◌, [], true, length, min, slice_index};
 ghost use Rattle.std.specs.List.{All};
-ghost use Rattle.entities.specs.PhaseTrace.{Each};
-ghost use Rattle.entities.specs.PhaseRule.{IsEnded, bit_of};
-ghost use Rattle.entities.specs.PhasePlan.{phase_of};
-ghost use Rattle.entities.specs.PhaseBoard.{IsPassOf, IsHome, record_of};
+ghost use Rattle.entities.specs.Phase.Trace.{Each};
+ghost use Rattle.entities.specs.Phase.Rule.{IsEnded, bit_of};
+ghost use Rattle.entities.specs.Phase.Plan.{phase_of};
+ghost use Rattle.entities.specs.Phase.Board.{IsPassOf, IsHome, record_of};
 ghost use Rattle.hibits.specs.Counts.{count_below};
 ghost use Rattle.entities.specs.Census.{population};
 ghost use Rattle.entities.specs.Population.{lives};
-ghost use Rattle.entities.specs.PhaseReserve.{with_marks};
-ghost use Rattle.entities.specs.PhaseRule.{marks_index, marks_below};
+ghost use Rattle.entities.specs.Phase.Reserve.{with_marks};
+ghost use Rattle.entities.specs.Phase.Rule.{marks_index, marks_below};
 
 use crate::entities_res::EntitiesRes;
 use crate::entity::Index;
@@ -18,12 +18,12 @@ use crate::phase::board::Board;
 use crate::phase::pass::Pass;
 use crate::phase::plan::Plan;
 use crate::phase::rule::{BothRecords, Record, Sits, Words};
-use atomic_table::Closed;
+use atomic_table::Closed as ClosedTable;
 use std::alloc::Global;
 
 /// The words of a phase whose passes have ended.
 pub(crate) struct Ended {
-    pub(crate) words: Closed<(), Global>,
+    pub(crate) words: ClosedTable<(), Global>,
     pub(crate) plan: Plan,
 }
 

@@ -17,10 +17,10 @@ pub const MOST_PASSES: usize = 4096;
 /// Why no phase was opened. The entities are as they were.
 #[derive(Clone, Copy, Debug, PartialEq, Eq, Drop, Error)]
 pub enum OpenError {
-    /// There are more passes than `MOST_PASSES`.
+    /// There are more passes than `MOST_PASSES`. It is tested first, before any work.
     #[error("too many passes")]
     TooManyPasses,
-    /// Fewer indices than the reserve asks for are free or unused.
+    /// Fewer indices than the reserve asks for are free or unused. It is tested next, before any memory is taken.
     #[error("fewer indices than the reserve are left")]
     IndexLimit,
     /// There is no memory for the phase, or for the births, marks and deaths of its reserve.
@@ -40,11 +40,12 @@ impl From<AllocError> for OpenError {
 }
 
 impl EntitiesRes {
-    ghost use Rattle.entities.specs.PhaseLending.{OpenRests, name_of_phase};
-    ghost use Rattle.entities.specs.PhaseReserve.{IsReserve, givable};
-    ghost use Rattle.entities.specs.PhaseCalls.{IsOpen, EveryOrderIsSound};
-    ghost use Rattle.entities.specs.PhaseBoard.{AreFresh, IsPassOf};
-    ghost use Rattle.entities.specs.PhaseOpened.{entities_of, board_of, phase_opened};
+    ghost use Rattle.entities.specs.Phase.Lending.{OpenRests, name_of_phase};
+    ghost use Rattle.entities.specs.Phase.Reserve.{IsReserve, givable};
+    ghost use Rattle.entities.specs.Phase.Calls.{IsOpen, EveryOrderIsSound};
+    ghost use Rattle.entities.specs.Phase.Board.{AreFresh, IsPassOf};
+    ghost use Rattle.entities.specs.Phase.Opened.{entities_of, board_of, phase_opened};
+    ghost use Rattle.entities.specs.Phase.Given.{IsBlank};
     ghost use Rattle.std.specs.List.{All};
 
     /// Opens a phase, in which passes make and delete entities from several threads at once: `reserve` entities are set aside, which the
@@ -66,6 +67,7 @@ impl EntitiesRes {
         ensures sizes { IfOk result (λ r. (length (phase_opened r.0).reserve ≡ reserve) × ((phase_opened r.0).passes ≡ passes)) }
         ensures reserve { IfOk result (λ r. IsReserve (population self.old) (phase_opened r.0).reserve) }
         ensures passes { IfOk result (λ r. AreFresh (board_of r.0) 0 r.1.items × (length r.1.items ≡ passes)) }
+        ensures blank { IfOk result (λ r. All (IsBlank (phase_opened r.0)) r.1.items) }
         ensures of_phase { IfOk result (λ r. All (IsPassOf (board_of r.0)) r.1.items) }
         ensures law { IfOk result (λ r. EveryOrderIsSound (phase_opened r.0)) }
         ensures many { IfErr result (λ e. e ≡ OpenError.TooManyPasses → MOST_PASSES < passes) }

@@ -23,7 +23,7 @@ pub struct Plan {
 }
 
 impl Plan {
-    ghost use Rattle.entities.specs.PhasePlan.{AreLocated, place_of_index};
+    ghost use Rattle.entities.specs.Phase.Plan.{AreLocated, place_of_index};
 
     /// Where an entity of this index would stand in the reserve.
     #[inline]

@@ -5,8 +5,8 @@ ghost use Rattle.entities.specs.Population.{index_of};
 ghost use Rattle.entities.specs.Census.{population};
 ghost use Rattle.entities.specs.Kept.{SameBut};
 ghost use Rattle.entities.specs.Upcoming.{upcoming};
-ghost use Rattle.entities.specs.PhaseReserve.{IsReserve, givable};
-ghost use Rattle.entities.specs.PhasePlan.{AreLocated, ArePlaced};
+ghost use Rattle.entities.specs.Phase.Reserve.{IsReserve, givable};
+ghost use Rattle.entities.specs.Phase.Plan.{AreLocated, ArePlaced};
 
 use crate::entities_res::EntitiesRes;
 use crate::entity::{Entity, Index};

@@ -12,10 +12,10 @@ use std::marker::{Brand, PhantomData};
 pub struct Interleaved;
 
 impl TableRule<(), LinkedList<Line>, Plan> for Interleaved {
-    ghost use Rattle.entities.specs.PhasePlan.{phase_of, words_of_marks};
-    ghost use Rattle.entities.specs.PhaseRule.{kept, blank_lines};
+    ghost use Rattle.entities.specs.Phase.Plan.{phase_of, words_of_marks};
+    ghost use Rattle.entities.specs.Phase.Rule.{agree, blank_lines};
 
-    ghost holds = { λ plan. kept (phase_of plan) (words_of_marks plan) };
+    ghost holds = { λ plan. agree (phase_of plan) (words_of_marks plan) };
 
     ghost first = { λ plan. blank_lines 0 (phase_of plan).passes };
 }
@@ -33,58 +33,63 @@ impl Asked for Brand {
 pub struct Sits;
 
 impl Play<(), LinkedList<Line>> for Sits {
-    ghost use Rattle.entities.specs.PhaseRule.{sat};
+    ghost use Rattle.entities.specs.Phase.Rule.{tells_seat};
 
-    ghost then = { sat };
+    ghost then = { tells_seat };
 }
 
+/// A ticket is drawn.
 pub struct Draws;
 
 impl Play<(), LinkedList<Line>> for Draws {
-    ghost use Rattle.entities.specs.PhaseRule.{drawn};
+    ghost use Rattle.entities.specs.Phase.Rule.{tells_draw};
 
-    ghost then = { drawn };
+    ghost then = { tells_draw };
 }
 
+/// The number of drawn tickets is read.
 pub struct Looks;
 
 impl Play<(), LinkedList<Line>> for Looks {
-    ghost use Rattle.entities.specs.PhaseRule.{looked};
+    ghost use Rattle.entities.specs.Phase.Rule.{tells_look};
 
-    ghost then = { looked };
+    ghost then = { tells_look };
 }
 
+/// The index that `I` names is marked.
 pub struct Marks<I> {
     index: PhantomData<I>,
 }
 
 impl<I: Asked> Play<(), LinkedList<Line>> for Marks<I> {
-    ghost use Rattle.entities.specs.PhaseRule.{marked};
+    ghost use Rattle.entities.specs.Phase.Rule.{tells_mark};
 
-    ghost then = { marked I.index };
+    ghost then = { tells_mark I.index };
 }
 
+/// Whether the index that `I` names is marked is read.
 pub struct Peeks<I> {
     index: PhantomData<I>,
 }
 
 impl<I: Asked> Play<(), LinkedList<Line>> for Peeks<I> {
-    ghost use Rattle.entities.specs.PhaseRule.{peeked};
+    ghost use Rattle.entities.specs.Phase.Rule.{tells_peek};
 
-    ghost then = { peeked I.index };
+    ghost then = { tells_peek I.index };
 }
 
 /// Cuts one pass's line off a record.
 pub struct FirstLine;
 
 impl Split<LinkedList<Line>> for FirstLine {
-    ghost use Rattle.entities.specs.PhaseRule.{first_line, other_lines};
+    ghost use Rattle.entities.specs.Phase.Rule.{first_line, other_lines};
 
     ghost left = { other_lines };
 
     ghost right = { first_line };
 }
 
+/// Puts one record before another.
 pub struct BothRecords;
 
 impl Join<LinkedList<Line>> for BothRecords {
@@ -95,6 +100,8 @@ impl Join<LinkedList<Line>> for BothRecords {
     ghost spent = { [] };
 }
 
+/// What a pass remembers, in proofs alone.
 pub type Record = Seat<(), LinkedList<Line>>;
 
+/// The cursor and the marks.
 pub type Words = Table<(), LinkedList<Line>, Plan, Interleaved, Global>;

@@ -4,10 +4,11 @@ ghost use Rattle.entities.specs.declared.phase.pass.Pass.{Pass};
 ghost use Rattle.entities.specs.declared.phase.trace.Step.TheVariants.{Draw, Look, Mark, Peek};
 ghost use Rattle.entities.specs.Census.{population};
 ghost use Rattle.entities.specs.Population.{generation_reported, index_of, number_of};
-ghost use Rattle.std.specs.List.{All};
-ghost use Rattle.entities.specs.PhaseBoard.{IsPassOf, IsNext, record_of, is_spent};
-ghost use Rattle.entities.specs.PhaseOpened.{entities_of, board_of, phase_opened};
-ghost use Rattle.entities.specs.PhaseCalls.{IsOpen, AliveSteps, MarkSteps, PendingSteps, IsClosed};
+ghost use Rattle.std.specs.List.{All, Contains};
+ghost use Rattle.entities.specs.Phase.Board.{IsPassOf, IsNext, record_of, is_spent};
+ghost use Rattle.entities.specs.Phase.Opened.{entities_of, board_of, phase_opened};
+ghost use Rattle.entities.specs.Phase.Calls.{IsOpen, SpentSteps, AliveSteps, MarkSteps, PendingSteps, IsClosed};
+ghost use Rattle.entities.specs.Phase.Given.{Gains, AreGivenOnce, AreTakenUp, AreAllTheirs, given_of};
 
 use crate::entities_res::EntitiesRes;
 use crate::entity::{DELETE, Entity, WrongGeneration};
@@ -35,8 +36,11 @@ pub struct Exhausted;
 /// What a phase came to: how many entities were born, how many indices were marked, and how many passes were given back.
 #[derive(Clone, Copy, Debug, PartialEq, Eq, Drop)]
 pub struct Closed {
+    /// How many entities were born, which are the first of the reserve.
     pub births: usize,
+    /// How many indices were marked in the phase, each counted once, also one that was marked before.
     pub marks: usize,
+    /// How many passes were given back.
     pub passes_back: usize,
 }
 
@@ -55,8 +59,10 @@ impl<'a> Opened<'a, Board> {
         requires { IsPassOf (board_of self.now) pass.old }
         ensures pass { IsPassOf (board_of self.now) pass.new }
         ensures given { IfOk result (λ e. (t : ℕ) × IsNext pass.old pass.new (Draw t ∷ []) × (slice_get (phase_opened self.now).reserve t ≡ Some e)) }
+        ensures gains { IfOk result (λ e. Gains (phase_opened self.now) pass.old pass.new (e ∷ []) []) }
+        ensures nothing { IfErr result (λ _. Gains (phase_opened self.now) pass.old pass.new [] []) }
         ensures unspent { IfOk result (λ _. (is_spent pass.old ≡ false) × (is_spent pass.new ≡ false)) }
-        ensures spent { IfErr result (λ _. (is_spent pass.new ≡ true) × (is_spent pass.old ≡ true → pass.new ≡ pass.old) × (is_spent pass.old ≡ false → (t : ℕ) × IsNext pass.old pass.new (Draw t ∷ []) × (length (phase_opened self.now).reserve ≤ t))) }
+        ensures spent { IfErr result (λ _. SpentSteps (board_of self.now) pass.old pass.new) }
     {
         if pass.spent {
             return Err(Exhausted);
@@ -77,6 +83,8 @@ impl<'a> Opened<'a, Board> {
         ensures pass { IsPassOf (board_of self.now) pass.new }
         ensures spent { is_spent pass.new ≡ is_spent pass.old }
         ensures steps { AliveSteps (board_of self.now) pass.old pass.new entity result }
+        ensures nothing { Gains (phase_opened self.now) pass.old pass.new [] [] }
+        ensures own { Contains (given_of (phase_opened self.now) pass.old) entity → result ≡ true }
     {
         match self.board.plan.place_of(entity) {
             Some(place) => (place as u64) < self.board.look(pass),
@@ -93,6 +101,9 @@ impl<'a> Opened<'a, Board> {
         ensures pass { IsPassOf (board_of self.now) pass.new }
         ensures spent { is_spent pass.new ≡ is_spent pass.old }
         ensures marked { IfOk result (λ _. MarkSteps (board_of self.now) pass.old pass.new entity) }
+        ensures gains { IfOk result (λ _. Gains (phase_opened self.now) pass.old pass.new [] (index_of entity ∷ [])) }
+        ensures nothing { IfErr result (λ _. Gains (phase_opened self.now) pass.old pass.new [] []) }
+        ensures own { IfErr result (λ _. Contains (given_of (phase_opened self.now) pass.old) entity → ⊥) }
         ensures refused { IfErr result (λ w. AliveSteps (board_of self.now) pass.old pass.new entity false × (w.entity ≡ entity)) }
         ensures actual { IfErr result (λ w. number_of w.actual_gen ≡ generation_reported (population (entities_of self.now)) (index_of entity)) }
         ensures action { IfErr result (λ w. w.action.now ≡ DELETE.now) }
@@ -112,6 +123,7 @@ impl<'a> Opened<'a, Board> {
         ensures pass { IsPassOf (board_of self.now) pass.new }
         ensures spent { is_spent pass.new ≡ is_spent pass.old }
         ensures steps { PendingSteps (board_of self.now) pass.old pass.new entity result }
+        ensures nothing { Gains (phase_opened self.now) pass.old pass.new [] [] }
     {
         if !self.is_alive(pass, entity) {
             return false;
@@ -126,6 +138,9 @@ impl<'a> Opened<'a, Board> {
         requires open { IsOpen (entities_of self) (board_of self) }
         requires passes { All (IsPassOf (board_of self)) passes.items }
         ensures closed { IsClosed (phase_opened self.entry) (record_of passes.items) (population (entities_of self.entry)) (population self.exit.0.now) result.births result.marks }
+        ensures once { AreGivenOnce (phase_opened self.entry) passes.items }
+        ensures taken_up { AreTakenUp (phase_opened self.entry) passes.items (population self.exit.0.now) }
+        ensures theirs { length passes.items ≡ (phase_opened self.entry).passes → AreAllTheirs (phase_opened self.entry) passes.items (population (entities_of self.entry)) (population self.exit.0.now) }
         ensures back { result.passes_back ≡ length passes.items }
         ensures spent { (k : ℕ) (d : Pass) → k < length passes.items → is_spent (slice_index_or passes.items k d) ≡ true → result.births ≡ length (phase_opened self.entry).reserve }
     {

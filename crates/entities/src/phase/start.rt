@@ -1,8 +1,8 @@
 //! How a board is made, and its passes with it.
 ghost use Rattle.entities.specs.declared.entity.Entity.{Entity};
 ghost use Rattle.std.specs.Prelude.{◌≡◌, ℕ, ◌+◌, ◌*◌, ◌<◌, ◌≤◌, ◌^◌, [], length, slice_get, Some, IfOk, OnOk};
-ghost use Rattle.entities.specs.PhaseRule.{blank_lines};
-ghost use Rattle.entities.specs.PhaseBoard.{AreDealt, AreFresh};
+ghost use Rattle.entities.specs.Phase.Rule.{blank_lines};
+ghost use Rattle.entities.specs.Phase.Board.{AreDealt, AreFresh};
 
 use crate::phase::board::Board;
 use crate::phase::pass::Pass;

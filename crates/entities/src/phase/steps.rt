@@ -1,10 +1,10 @@
 //! The four kinds of step.
 ghost use Rattle.std.specs.Prelude.{◌≡◌, ℕ, ◌+◌, ◌/◌, ◌%◌, ◌^◌, ◌<◌, Bool, false, true, not, ◌==◌, ◌++◌, ◌∷◌, [], length, bit_and};
 ghost use Rattle.entities.specs.declared.phase.trace.Step.TheVariants.{Draw, Look, Mark, Peek};
-ghost use Rattle.entities.specs.PhaseTrace.{Each, AreCalls, misses};
-ghost use Rattle.entities.specs.PhaseRule.{Among, IsSeen, IsOne};
-ghost use Rattle.entities.specs.PhasePlan.{phase_of};
-ghost use Rattle.entities.specs.PhaseBoard.{IsPassOf, IsNext, steps_of_pass};
+ghost use Rattle.entities.specs.Phase.Trace.{Each, AreCalls, misses};
+ghost use Rattle.entities.specs.Phase.Rule.{Among, IsSeen, IsOne};
+ghost use Rattle.entities.specs.Phase.Plan.{phase_of};
+ghost use Rattle.entities.specs.Phase.Board.{IsPassOf, IsNext, steps_of_pass};
 
 use crate::phase::board::Board;
 use crate::phase::pass::Pass;

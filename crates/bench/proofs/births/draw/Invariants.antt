@@ -1,5 +1,5 @@
-use Rattle.entities.specs.PhaseBoard.{IsPassOf}
-use Rattle.entities.specs.PhaseOpened.{board_of}
+use Rattle.entities.specs.Phase.Board.{IsPassOf}
+use Rattle.entities.specs.Phase.Opened.{board_of}
 use Rattle.bench.proofs.births.draw.Given as goal
 
 abbrev pub invariant-loop : goal.invariant-loop

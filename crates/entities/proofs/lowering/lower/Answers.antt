@@ -15,7 +15,7 @@ returns-then-not-is_one_of-clause-stopped c lt d =
     let es = c.args.list.now in
     let k = c.loop-k.k in
     subst (λ (e : Entity). IsOneOf c.args.generations.now e → Contains (take k es) e) (get_or_default es k d0 d lt)
-    (stands_earlier c.args.generations.now c.loop-k.generations (take k es) (get_or es k d0) c.loop-k.invariant.lowered c.loop-k.invariant.distinct.0 (λ alive. both_ways _ c.if-not-is_one_of.true (c.is_one_of.ensures.1 alive)))
+    (stands_earlier c.args.generations.now c.loop-k.generations (take k es) (get_or es k d0) c.loop-k.invariant.lowered c.loop-k.invariant.distinct.0 (λ alive. both_ways _ c.if-not-is_one_of.true (c.is_one_of.ensures.one.1 alive)))
 
 pub loop-k-preserved : goal.loop-k-preserved
 loop-k-preserved c =
@@ -23,7 +23,7 @@ loop-k-preserved c =
     let gs = c.args.generations.now in
     let es = c.args.list.now in
     let k = c.loop-k.k in
-    let alive = c.is_one_of.ensures.0 c.if-not-is_one_of.false in
+    let alive = c.is_one_of.ensures.one.0 c.if-not-is_one_of.false in
     let at = alive_at c.loop-k.generations (get_or es k d).0 alive.0 in
     let fits : FitsSigned w32 (get_or es k d).1.0 = search rules in
     let is : (get_or es k d).1.0 ≡ pos (suc at.0) = alive.1 ∙ ap (λ z. pos (nat_abs z)) at.1 in

@@ -1,7 +1,7 @@
 use Rattle.std.specs.List.{All}
-use Rattle.entities.specs.PhaseBoard.{IsPassOf}
-use Rattle.entities.specs.PhaseOpened.{entities_of, board_of}
-use Rattle.entities.specs.PhaseCalls.{IsOpen}
+use Rattle.entities.specs.Phase.Board.{IsPassOf}
+use Rattle.entities.specs.Phase.Opened.{entities_of, board_of}
+use Rattle.entities.specs.Phase.Calls.{IsOpen}
 use Rattle.phase_threads.proofs.tests.two_for_three.Given as goal
 
 abbrev pub invariant-loop-pass : goal.invariant-loop-pass

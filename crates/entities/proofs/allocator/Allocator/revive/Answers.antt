@@ -29,6 +29,11 @@ enlist-requires c =
 pub returns-clause-free : goal.returns-clause-free
 returns-clause-free c = rw (← c.self.view_is) (free_is (census c.self.inside.generations.items c.self.inside.raised.members c.self.inside.killed.members) c.in-Some.index ∙ last_is_free _ _ _ _ c.self.invariant.stack c.in-Some.ensures.items)
 
+pub returns-clause-below : goal.returns-clause-below
+returns-clause-below c =
+    let last = last_is_free _ _ _ _ c.self.invariant.stack c.in-Some.ensures.items in
+    omega (arith, within c.self.inside.generations.items c.in-Some.index last, c.self.invariant.roomy.born_within, c.self.invariant.roomy.few)
+
 pub returns-clause-generation : goal.returns-clause-generation
 returns-clause-generation c =
     let last = last_is_free _ _ _ _ c.self.invariant.stack c.in-Some.ensures.items in

@@ -3,7 +3,7 @@ use Rattle.entities.specs.declared.entity.Entity.{Entity}
 use Rattle.entities.specs.Census.{Census, population}
 use Rattle.entities.specs.Kept.{IsStacked}
 use Rattle.entities.specs.Upcoming.{upcoming}
-use Rattle.entities.specs.PhaseReserve.{IsReserve}
+use Rattle.entities.specs.Phase.Reserve.{IsReserve}
 use Rattle.entities.proofs.Upcoming.{reserve_is, revived_below}
 use Rattle.entities.proofs.allocator.Allocator.upcoming.Goals as goal
 

@@ -3,14 +3,16 @@ use Rattle.entities.specs.declared.phase.plan.Plan.{Plan}
 use Rattle.entities.specs.Census.{population}
 use Rattle.entities.specs.Kept.{SameBut}
 use Rattle.entities.specs.Upcoming.{upcoming}
-use Rattle.entities.specs.PhaseReserve.{IsReserve}
-use Rattle.entities.specs.PhasePlan.{phase_of, AreLocated}
-use Rattle.entities.specs.PhaseCalls.{EveryOrderIsSound}
+use Rattle.entities.specs.Phase.Reserve.{IsReserve}
+use Rattle.entities.specs.Phase.Plan.{phase_of, AreLocated}
+use Rattle.entities.specs.Phase.Calls.{EveryOrderIsSound}
 use Rattle.entities.proofs.Upcoming.{upcoming_length}
 use Rattle.entities.proofs.PhaseCalls.{population_but}
 use Rattle.entities.proofs.PhasePasses.{fresh_each, all_from_each}
-use Rattle.entities.specs.PhaseBoard.{IsPassOf}
+use Rattle.entities.specs.Phase.Board.{IsPassOf}
 use Rattle.entities.proofs.PhaseSound.{sound}
+use Rattle.entities.specs.Phase.Given.{IsBlank}
+use Rattle.entities.proofs.PhaseGiven.{fresh_blank}
 use Rattle.entities.proofs.entities_res.EntitiesRes.open.Goals as goal
 
 pub returns : goal.returns
@@ -36,6 +38,7 @@ returns c =
           room = omega (arith, sizes, c.in-Ok.ensures.room);
           next = subst (λ (p : Plan). p.reserve.items ≡ upcoming p.opening.value (length p.reserve.items)) (sym is) (next ∙ ap (upcoming plan.opening.value) (sym many));
           located = subst AreLocated (sym is) c.in-Ok.ensures.located;
+          reserve = subst (λ (p : Plan). IsReserve (population p.opening.value) p.reserve.items) (sym is) (rw same reserve);
         };
         same = c.plan_of.ensures.population;
         plan = ap (λ (p : Plan). population p.opening.value) is ∙ same;
@@ -43,6 +46,7 @@ returns c =
         reserve = subst (λ (p : Plan). IsReserve (population s) p.reserve.items) (sym is) reserve;
         passes = (c.in-Ok-start.ensures.passes.0, c.in-Ok-start.ensures.passes.1 ∙ c.in-Ok.ensures.passes);
         of_phase = all_from_each (IsPassOf board) c.in-Ok-start.started.1.items (fresh_each board 0 c.in-Ok-start.started.1.items c.in-Ok-start.ensures.passes.0);
+        blank = all_from_each (IsBlank (phase_of board.plan)) c.in-Ok-start.started.1.items (fresh_blank board 0 c.in-Ok-start.started.1.items c.in-Ok-start.ensures.passes.0);
         law = subst (λ (p : Plan). EveryOrderIsSound (phase_of p)) (sym is) (sound (phase_of plan) (rw same reserve));
         many = tt;
         limit = tt;
@@ -63,6 +67,7 @@ returns-in-Err c = (
     sizes = tt;
     reserve = tt;
     passes = tt;
+    blank = tt;
     of_phase = tt;
     law = tt;
     many = λ e. absurd (c.in-Err.ensures.kind e);

@@ -1,9 +1,9 @@
 use Rattle.std.proofs.Common.{◌∷◌, [], ◌++◌, sym, ap, ◌∙◌, subst, List}
 use Rattle.entities.specs.declared.phase.pass.Pass.{Pass}
-use Rattle.entities.specs.PhaseTrace.{Each}
-use Rattle.entities.specs.PhaseBoard.{IsHome, record_of}
-use Rattle.entities.specs.PhaseRule.{Seats}
-use Rattle.entities.specs.PhasePlan.{phase_of}
+use Rattle.entities.specs.Phase.Trace.{Each}
+use Rattle.entities.specs.Phase.Board.{IsHome, record_of}
+use Rattle.entities.specs.Phase.Rule.{Seats}
+use Rattle.entities.specs.Phase.Plan.{phase_of}
 use Rattle.entities.proofs.PhaseKeeps.{joins}
 use Rattle.entities.proofs.PhaseEnds.{each_back, joined_one}
 use Rattle.entities.proofs.phase.closing.gather.Goals as goal

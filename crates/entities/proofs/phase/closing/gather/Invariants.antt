@@ -1,6 +1,6 @@
 use Rattle.std.proofs.Common.{◌≡◌, ◌++◌, [], vec_len}
-use Rattle.entities.specs.PhaseTrace.{Each}
-use Rattle.entities.specs.PhaseBoard.{IsHome, record_of}
+use Rattle.entities.specs.Phase.Trace.{Each}
+use Rattle.entities.specs.Phase.Board.{IsHome, record_of}
 use Rattle.entities.proofs.phase.closing.gather.Given as goal
 
 abbrev pub invariant-loop-pass : goal.invariant-loop-pass

@@ -2,8 +2,8 @@ use Rattle.std.proofs.Common.{◌≡◌, ◌≤◌, ◌-◌, ◌*◌}
 use Rattle.hibits.specs.Counts.{count_below}
 use Rattle.std.specs.Mem.Slots.{slots_items}
 use Rattle.entities.specs.Census.{population}
-use Rattle.entities.specs.PhaseReserve.{with_marks}
-use Rattle.entities.specs.PhaseRule.{marks_index, marks_below}
+use Rattle.entities.specs.Phase.Reserve.{with_marks}
+use Rattle.entities.specs.Phase.Rule.{marks_index, marks_below}
 use Rattle.entities.proofs.phase.closing.mark_all.Given as goal
 
 abbrev pub invariant-loop-index : goal.invariant-loop-index

@@ -1,5 +1,5 @@
 use Rattle.std.proofs.Common.{◌≡◌, length}
-use Rattle.entities.specs.PhasePlan.{ArePlaced}
+use Rattle.entities.specs.Phase.Plan.{ArePlaced}
 use Rattle.entities.proofs.phase.reserve.places_of.Given as goal
 
 abbrev pub invariant-loop-place : goal.invariant-loop-place

@@ -3,7 +3,7 @@ use Rattle.std.specs.Prelude.{slice_get}
 use Rattle.entities.specs.declared.entity.Entity.{Entity}
 use Rattle.entities.specs.Census.{population}
 use Rattle.entities.specs.Upcoming.{upcoming}
-use Rattle.entities.specs.PhaseReserve.{IsReserve}
+use Rattle.entities.specs.Phase.Reserve.{IsReserve}
 use Rattle.entities.proofs.Upcoming.{below_end, upcoming_length}
 use Rattle.entities.proofs.PhaseReserve.{located}
 use Rattle.entities.proofs.phase.reserve.plan_of.Goals as goal

@@ -1,8 +1,8 @@
 use Rattle.std.proofs.Common.{rules, ◌≡◌, ℕ, List, sym, ap, ◌∙◌, arith, refl, ◌+◌, ◌-◌, ◌∷◌, [], length, length-append, subst}
-use Rattle.entities.specs.PhaseBoard.{AreDealt}
+use Rattle.entities.specs.Phase.Board.{AreDealt}
 use Rattle.entities.specs.declared.phase.trace.Line.{Line}
-use Rattle.entities.specs.PhaseRule.{blank_lines, line, first_line, other_lines, Seats}
-use Rattle.entities.specs.PhasePlan.{phase_of}
+use Rattle.entities.specs.Phase.Rule.{blank_lines, line, first_line, other_lines, Seats}
+use Rattle.entities.specs.Phase.Plan.{phase_of}
 use Rattle.entities.proofs.PhaseKeeps.{cuts}
 use Rattle.entities.proofs.PhasePasses.{dealt_push, blank_more}
 use Rattle.entities.proofs.phase.start.deal.Goals as goal

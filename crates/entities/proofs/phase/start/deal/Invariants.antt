@@ -1,6 +1,6 @@
 use Rattle.std.proofs.Common.{◌≡◌, ◌-◌, [], length}
-use Rattle.entities.specs.PhaseRule.{blank_lines}
-use Rattle.entities.specs.PhaseBoard.{AreDealt}
+use Rattle.entities.specs.Phase.Rule.{blank_lines}
+use Rattle.entities.specs.Phase.Board.{AreDealt}
 use Rattle.entities.proofs.phase.start.deal.Given as goal
 
 abbrev pub invariant-loop-number : goal.invariant-loop-number

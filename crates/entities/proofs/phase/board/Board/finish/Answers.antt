@@ -1,8 +1,8 @@
 use Rattle.std.proofs.Common.{rules, ap}
-use Rattle.entities.specs.PhaseRule.{Seats}
+use Rattle.entities.specs.Phase.Rule.{Seats}
 use Rattle.std.specs.Mem.Slots.{slots_items}
-use Rattle.entities.specs.PhaseBoard.{record_of}
-use Rattle.entities.specs.PhasePlan.{phase_of}
+use Rattle.entities.specs.Phase.Board.{record_of}
+use Rattle.entities.specs.Phase.Plan.{phase_of}
 use Rattle.entities.proofs.PhaseKeeps.{sits}
 use Rattle.entities.proofs.PhaseEnds.{ended, homes}
 use Rattle.entities.proofs.phase.board.Board.finish.Goals as goal

@@ -1,10 +1,10 @@
 use Rattle.std.proofs.Common.{rules, sym, ◌≡◌, ℕ, ◌∷◌, [], ◌++◌, ◌/◌, ◌+◌, ◌%◌, ◌^◌, arith, subst, ap, ◌∙◌, ◌<◌}
 use Rattle.std.proofs.lemmas.Nat.{one_shl}
 use Rattle.entities.specs.declared.phase.trace.Step.TheVariants.{Mark}
-use Rattle.entities.specs.PhaseTrace.{AreCalls}
-use Rattle.entities.specs.PhasePlan.{phase_of}
-use Rattle.entities.specs.PhaseBoard.{steps_of_pass}
-use Rattle.entities.specs.PhaseRule.{with_step}
+use Rattle.entities.specs.Phase.Trace.{AreCalls}
+use Rattle.entities.specs.Phase.Plan.{phase_of}
+use Rattle.entities.specs.Phase.Board.{steps_of_pass}
+use Rattle.entities.specs.Phase.Rule.{with_step}
 use Rattle.entities.proofs.PhasePasses.{next_of}
 use Rattle.entities.proofs.PhaseKeeps.{marks_at}
 use Rattle.entities.proofs.phase.board.Board.mark_as.Goals as goal

@@ -1,10 +1,10 @@
 use Rattle.std.proofs.Common.{rules, sym, not, bit_and, ◌==◌, ◌≡◌, ℕ, Bool, ◌∷◌, [], ◌++◌, ◌/◌, ◌+◌, ◌%◌, arith, subst, ap, ◌∙◌, ◌<◌}
 use Rattle.entities.specs.declared.phase.trace.Step.TheVariants.{Mark, Peek}
 use Rattle.std.proofs.lemmas.Nat.{one_shl}
-use Rattle.entities.specs.PhaseTrace.{AreCalls}
-use Rattle.entities.specs.PhasePlan.{phase_of}
-use Rattle.entities.specs.PhaseBoard.{steps_of_pass, IsNext}
-use Rattle.entities.specs.PhaseRule.{Among, bit_of, with_step}
+use Rattle.entities.specs.Phase.Trace.{AreCalls}
+use Rattle.entities.specs.Phase.Plan.{phase_of}
+use Rattle.entities.specs.Phase.Board.{steps_of_pass, IsNext}
+use Rattle.entities.specs.Phase.Rule.{Among, bit_of, with_step}
 use Rattle.entities.specs.declared.phase.pass.Pass.{Pass}
 use Rattle.entities.proofs.PhasePasses.{next_of}
 use Rattle.entities.proofs.PhaseKeeps.{peeks_at}

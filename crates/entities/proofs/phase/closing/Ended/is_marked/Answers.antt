@@ -1,7 +1,7 @@
 use Rattle.std.proofs.Common.{ℕ, ◌%◌, not, bit_and, ap, sym, ◌∙◌, arith, ◌/◌, ◌+◌}
 use Rattle.std.specs.Prelude.{◌==◌}
 use Rattle.std.proofs.lemmas.Nat.{one_shl}
-use Rattle.entities.specs.PhaseRule.{bit_of}
+use Rattle.entities.specs.Phase.Rule.{bit_of}
 use Rattle.std.specs.Mem.Slots.{slots_items}
 use Rattle.entities.proofs.PhaseEnds.{read_word}
 use Rattle.entities.proofs.phase.closing.Ended.is_marked.Goals as goal

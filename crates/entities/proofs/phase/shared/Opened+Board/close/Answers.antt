@@ -7,17 +7,20 @@ use Rattle.entities.specs.declared.phase.plan.Plan.{Plan}
 use Rattle.entities.specs.Census.{Census, population}
 use Rattle.entities.specs.Population.{Population, lives}
 use Rattle.entities.specs.Upcoming.{upcoming}
-use Rattle.entities.specs.PhaseReserve.{with_births, with_marks}
-use Rattle.entities.specs.PhaseRule.{marks_index, marks_below}
-use Rattle.entities.specs.PhasePlan.{phase_of}
-use Rattle.entities.specs.PhaseTrace.{run, start}
+use Rattle.entities.specs.Phase.Reserve.{with_births, with_marks}
+use Rattle.entities.specs.Phase.Rule.{marks_index, marks_below}
+use Rattle.entities.specs.Phase.Plan.{phase_of}
+use Rattle.entities.specs.Phase.Trace.{run, start}
 use Rattle.entities.specs.declared.phase.board.Board.{Board}
-use Rattle.entities.specs.PhaseBoard.{record_of}
-use Rattle.entities.specs.PhaseCalls.{IsOpen}
+use Rattle.entities.specs.Phase.Board.{record_of}
+use Rattle.entities.specs.Phase.Calls.{IsOpen}
 use Rattle.entities.proofs.Upcoming.{same_upcoming, upcoming_take}
 use Rattle.entities.proofs.PhaseCalls.{population_but}
 use Rattle.entities.proofs.PhaseSound.{marked_alive}
 use Rattle.entities.proofs.PhaseEnds.{closes, alive_then, spent_all}
+use Rattle.entities.specs.Phase.Reserve.{IsReserve}
+use Rattle.entities.proofs.PhaseGiven.{given_once, taken_up}
+use Rattle.entities.proofs.PhaseTheirs.{all_theirs}
 use Rattle.entities.proofs.phase.shared.Opened+Board.close.Goals as goal
 
 -- the entities that are born are the first of the reserve
@@ -63,3 +66,18 @@ returns-clause-spent c k d lt spent =
     let births : ℕ = c.births-births.result in
     let born : births ≡ min (slice_index words 0) (length board.plan.reserve.items) = c.births-births.ensures ∙ ap (λ (p : Plan). min (slice_index words 0) (length p.reserve.items)) c.finish-ended.ensures.plan in
     spent_all board words c.args.passes.items births k d c.finish-ended.ensures.ended born c.requires.passes lt spent
+
+pub returns-clause-once : goal.returns-clause-once
+returns-clause-once c =
+    let board = c.args.self.board in
+    given_once board (population board.plan.opening.value) (population c.args.self.entities.now) (population c.mark_all-marks.new.entities) c.births-births.result c.mark_all-marks.result c.args.passes.items c.requires.passes c.requires.open.reserve (returns-clause-closed c)
+
+pub returns-clause-taken_up : goal.returns-clause-taken_up
+returns-clause-taken_up c =
+    let board = c.args.self.board in
+    let now = c.args.self.entities.now in
+    let reserve : IsReserve (population now) board.plan.reserve.items = subst (λ (p : Population). IsReserve p board.plan.reserve.items) (sym (population_but board.plan.opening.value now c.requires.open.same)) c.requires.open.reserve in
+    taken_up board (population now) (population c.mark_all-marks.new.entities) c.births-births.result c.mark_all-marks.result c.args.passes.items c.requires.passes reserve (returns-clause-closed c)
+
+pub returns-clause-theirs : goal.returns-clause-theirs
+returns-clause-theirs c = all_theirs c.args.self.board (population c.args.self.entities.now) (population c.mark_all-marks.new.entities) c.births-births.result c.mark_all-marks.result c.args.passes.items c.requires.passes (returns-clause-closed c)

@@ -1,6 +1,7 @@
 use Rattle.std.proofs.Common.{refl, subst, Bool}
-use Rattle.entities.specs.PhaseCalls.{AliveSteps}
+use Rattle.entities.specs.Phase.Calls.{AliveSteps}
 use Rattle.entities.proofs.PhaseCalls.{index_within, mark_after, marked_pass, marked_steps}
+use Rattle.entities.proofs.PhaseGiven.{alive_gains, mark_gains}
 use Rattle.entities.proofs.phase.shared.Opened+Board.delete.Goals as goal
 
 pub mark_as-requires-clause-calls : goal.mark_as-requires-clause-calls
@@ -22,3 +23,6 @@ pub returns-clause-marked : goal.returns-clause-marked
 returns-clause-marked c =
     let alive = subst (λ (b : Bool). AliveSteps c.args.self.now.board c.args.pass.now c.is_alive.new.pass c.args.entity b) c.if-not-is_alive.false c.is_alive.ensures.steps in
     marked_steps c.args.self.now.board c.args.pass.now c.is_alive.new.pass c.mark_as.new.pass c.args.entity alive c.mark_as.ensures.step
+
+pub returns-clause-gains : goal.returns-clause-gains
+returns-clause-gains c = mark_gains c.args.self.now.board c.args.pass.now c.mark_as.new.pass c.args.entity (returns-clause-marked c)

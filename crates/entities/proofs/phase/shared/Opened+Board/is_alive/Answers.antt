@@ -1,8 +1,11 @@
-use Rattle.std.proofs.Common.{◌≡◌, inr, true, subst, refl}
+use Rattle.std.proofs.Common.{◌≡◌, inl, inr, true, subst, refl, [], ◌∷◌}
+use Rattle.entities.specs.declared.phase.trace.Step.TheVariants.{Look}
 use Rattle.std.specs.Prelude.{◌↔◌}
 use Rattle.entities.specs.Population.{Population, IsAlive}
 use Rattle.entities.proofs.PhasePasses.{looked_at}
 use Rattle.entities.proofs.PhaseCalls.{population_but}
+use Rattle.entities.specs.Phase.Plan.{phase_of}
+use Rattle.entities.proofs.PhaseGiven.{gains, own_alive}
 use Rattle.entities.proofs.phase.shared.Opened+Board.is_alive.Goals as goal
 
 pub returns-in-Some-clause-pass : goal.returns-in-Some-clause-pass
@@ -12,3 +15,14 @@ pub returns-in-None-clause-steps : goal.returns-in-None-clause-steps
 returns-in-None-clause-steps c =
     let same = population_but c.args.self.now.board.plan.opening.value c.args.self.now.entities.now c.requires.open.same in
     inr (c.in-None.ensures, refl, subst (λ (p : Population). (c.is_alive.result ≡ true) ↔ IsAlive p c.args.entity) same c.is_alive.ensures.alive)
+
+pub returns-in-None-clause-own : goal.returns-in-None-clause-own
+returns-in-None-clause-own c = own_alive c.args.self.now.board c.args.self.now.entities.now c.args.pass.now c.args.pass.now c.args.entity c.is_alive.result c.requires.open (returns-in-None-clause-steps c)
+
+pub returns-in-Some-clause-nothing : goal.returns-in-Some-clause-nothing
+returns-in-Some-clause-nothing c = gains (phase_of c.args.self.now.board.plan) c.args.pass.now c.look.new.pass (Look c.look.result ∷ []) c.look.ensures.step
+
+pub returns-in-Some-clause-own : goal.returns-in-Some-clause-own
+returns-in-Some-clause-own c =
+    own_alive c.args.self.now.board c.args.self.now.entities.now c.args.pass.now c.look.new.pass c.args.entity _ c.requires.open
+    (inl (c.in-Some.place, c.look.result, c.in-Some.ensures, c.look.ensures.step, c.look.ensures.seen, refl))

@@ -1,7 +1,8 @@
 use Rattle.std.proofs.Common.{◌≡◌, ◌∙◌, true, false, ◌||◌, refl, ap, subst, Bool}
 use Rattle.entities.specs.Population.{Population}
-use Rattle.entities.specs.PhaseCalls.{AliveSteps}
+use Rattle.entities.specs.Phase.Calls.{AliveSteps}
 use Rattle.entities.proofs.PhaseCalls.{index_within, peek_after, peeked_pass, peeked_steps, population_but}
+use Rattle.entities.proofs.PhaseGiven.{pending_gains}
 use Rattle.entities.proofs.phase.shared.Opened+Board.pending.Goals as goal
 
 pub peek_as-found-requires-clause-calls : goal.peek_as-found-requires-clause-calls
@@ -40,3 +41,9 @@ returns-else-found-clause-steps c =
     let same = population_but board.plan.opening.value c.args.self.now.entities.now c.requires.open.same in
     peeked_steps c.args.self.now.board c.args.pass.now c.is_alive.new.pass c.peek_as-found.new.pass c.args.entity c.peek_as-found.result c.contains.result alive c.peek_as-found.ensures.step c.peek_as-found.ensures.own
     (rw c.if-found.false (c.contains.ensures.value ∙ c.marked.ensures c.args.entity.0 ∙ ap (λ (p : Population). p.marked c.args.entity.0) same))
+
+pub returns-then-found-clause-nothing : goal.returns-then-found-clause-nothing
+returns-then-found-clause-nothing c = pending_gains c.args.self.now.board c.args.pass.now c.peek_as-found.new.pass c.args.entity _ (returns-then-found-clause-steps c)
+
+pub returns-else-found-clause-nothing : goal.returns-else-found-clause-nothing
+returns-else-found-clause-nothing c = pending_gains c.args.self.now.board c.args.pass.now c.peek_as-found.new.pass c.args.entity _ (returns-else-found-clause-steps c)

@@ -6,7 +6,7 @@ use Rattle.atomic_table.specs.Table.{State, Me, Step as TableStep}
 use Rattle.entities.specs.declared.phase.trace.Step.{Step}
 use Rattle.entities.specs.declared.phase.trace.Step.TheVariants.{Draw, Look, Mark, Peek}
 use Rattle.entities.specs.declared.phase.trace.Line.{Line}
-use Rattle.entities.specs.PhaseTrace.{Phase, Event, Each, one_if, start, run, has, steps_of, IsInterleaving}
+use Rattle.entities.specs.Phase.Trace.{Phase, Event, Each, one_if, start, run, in_marks, steps_of, IsInterleaving}
 
 abbrev pub line : ℕ → List Step → Line
 line p ss = record { pass = p; steps = ss }
@@ -30,7 +30,7 @@ abbrev pub IsRecorded : List Event → List Line → Type 0
 IsRecorded trace v = Each (λ x. steps_of x.pass trace ≡ x.steps) v
 
 -- The words say where some interleaving leads. Each record has its passes' steps of it, and each pass stands in one record
-pub record Kept (o : Phase) (width : ℕ) (words : List ℕ) (views : List (List Line)) : Type 0 where
+pub record Agree (o : Phase) (width : ℕ) (words : List ℕ) (views : List (List Line)) : Type 0 where
   pub trace : List Event
   pub leads : IsInterleaving o trace
   pub count : length words ≡ width + 1
@@ -105,24 +105,24 @@ States = State (Unit {0}) (List Line)
 abbrev pub Seats : Type 0
 Seats = Me (Unit {0}) (List Line)
 
-abbrev pub kept : Phase → ℕ → States → Type 0
-kept o width s = Kept o width s.words s.views
+abbrev pub agree : Phase → ℕ → States → Type 0
+agree o width s = Agree o width s.words s.views
 
 -- what each kind of step tells
-abbrev pub sat : TableStep (Unit {0}) → Seats → ℕ → Seats → Type 0
-sat st me n now = now.0 ≡ []
+abbrev pub tells_seat : TableStep (Unit {0}) → Seats → ℕ → Seats → Type 0
+tells_seat st me n now = now.0 ≡ []
 
-abbrev pub drawn : TableStep (Unit {0}) → Seats → ℕ → Seats → Type 0
-drawn st me n now = now ≡ (with_step (Draw n) me.0, me.1)
+abbrev pub tells_draw : TableStep (Unit {0}) → Seats → ℕ → Seats → Type 0
+tells_draw st me n now = now ≡ (with_step (Draw n) me.0, me.1)
 
-abbrev pub looked : TableStep (Unit {0}) → Seats → ℕ → Seats → Type 0
-looked st me n now = (now ≡ (with_step (Look n) me.0, me.1)) × Each (IsSeen n) (steps_in me.0)
+abbrev pub tells_look : TableStep (Unit {0}) → Seats → ℕ → Seats → Type 0
+tells_look st me n now = (now ≡ (with_step (Look n) me.0, me.1)) × Each (IsSeen n) (steps_in me.0)
 
-abbrev pub marked : ℕ → TableStep (Unit {0}) → Seats → ℕ → Seats → Type 0
-marked i st me n now = now ≡ (with_step (Mark i) me.0, me.1)
+abbrev pub tells_mark : ℕ → TableStep (Unit {0}) → Seats → ℕ → Seats → Type 0
+tells_mark i st me n now = now ≡ (with_step (Mark i) me.0, me.1)
 
-abbrev pub peeked : ℕ → TableStep (Unit {0}) → Seats → ℕ → Seats → Type 0
-peeked i st me n now = (now ≡ (with_step (Peek i (bit_of i n)) me.0, me.1)) × (Among (Mark i) (steps_in me.0) → bit_of i n ≡ true)
+abbrev pub tells_peek : ℕ → TableStep (Unit {0}) → Seats → ℕ → Seats → Type 0
+tells_peek i st me n now = (now ≡ (with_step (Peek i (bit_of i n)) me.0, me.1)) × (Among (Mark i) (steps_in me.0) → bit_of i n ≡ true)
 
 -- The words at the end, with the joined record of the passes that came back: where one interleaving leads that has their steps,
 -- and which, if all came back, has no others
@@ -131,7 +131,7 @@ pub record IsEnded (o : Phase) (width : ℕ) (words : List ℕ) (v : List Line) 
   pub leads : IsInterleaving o trace
   pub count : length words ≡ width + 1
   pub cursor : slice_index words 0 ≡ (run start trace).cursor
-  pub marks : (i : ℕ) → i / 64 < width → bit_of i (slice_index words (i / 64 + 1)) ≡ has i (run start trace).marks
+  pub marks : (i : ℕ) → i / 64 < width → bit_of i (slice_index words (i / 64 + 1)) ≡ in_marks i (run start trace).marks
   pub recorded : IsRecorded trace v
   pub once : (p : ℕ) → lines_of p v ≤ 1
   pub complete : length v ≡ o.passes → Each (λ e. lines_of e.0 v ≡ 1) trace

@@ -3,7 +3,7 @@ use Rattle.std.specs.Prelude.{◌≡◌, ◌⊎◌, ℕ, ◌+◌, ◌<◌, ◌�
 use Rattle.std.specs.Option.{option_to_list}
 use Rattle.entities.specs.declared.entity.Entity.{Entity}
 use Rattle.entities.specs.Population.{Population, IsAlive, index_of}
-use Rattle.entities.specs.PhaseReserve.{AreNew, AreApart}
+use Rattle.entities.specs.Phase.Reserve.{AreNew, AreApart}
 use Rattle.entities.specs.declared.phase.trace.Step.{Step}
 use Rattle.entities.specs.declared.phase.trace.Step.TheVariants.{Draw, Look, Mark, Peek}
 
@@ -14,29 +14,29 @@ pub record Phase : Type 0 where
   pub passes : ℕ
 
 -- how many tickets were drawn, and the indices that were marked, the last one first
-pub record Words : Type 0 where
+pub record Reached : Type 0 where
   pub cursor : ℕ
   pub marks : List ℕ
 
-abbrev pub start : Words
+abbrev pub start : Reached
 start = record { cursor = 0; marks = [] }
 
-abbrev pub has : ℕ → List ℕ → Bool
-has i [] = false
-has i (j ∷ js) = cond (i == j) true (has i js)
+abbrev pub in_marks : ℕ → List ℕ → Bool
+in_marks i [] = false
+in_marks i (j ∷ js) = cond (i == j) true (in_marks i js)
 
-abbrev pub after : Words → Step → Words
+abbrev pub after : Reached → Step → Reached
 after w (Draw n) = record { cursor = w.cursor + 1; marks = w.marks }
 after w (Look n) = w
 after w (Mark i) = record { cursor = w.cursor; marks = i ∷ w.marks }
 after w (Peek i b) = w
 
 -- the answer of a step is what the words say
-abbrev pub IsRight : Words → Step → Type 0
+abbrev pub IsRight : Reached → Step → Type 0
 IsRight w (Draw n) = n ≡ w.cursor
 IsRight w (Look n) = n ≡ w.cursor
 IsRight w (Mark i) = Unit {0}
-IsRight w (Peek i b) = b ≡ has i w.marks
+IsRight w (Peek i b) = b ≡ in_marks i w.marks
 
 -- P holds of each element
 abbrev pub Each : {X : Type 0} → (X → Type 0) → List X → Type 0
@@ -47,11 +47,11 @@ Each P (x ∷ xs) = P x × Each P xs
 abbrev pub Event : Type 0
 Event = ℕ × Step
 
-abbrev pub run : Words → List Event → Words
+abbrev pub run : Reached → List Event → Reached
 run w [] = w
 run w (e ∷ es) = run (after w e.1) es
 
-abbrev pub AreRight : Words → List Event → Type 0
+abbrev pub AreRight : Reached → List Event → Type 0
 AreRight w [] = Unit {0}
 AreRight w (e ∷ es) = IsRight w e.1 × AreRight (after w e.1) es
 
@@ -136,4 +136,4 @@ pub record IsSound (o : Phase) (trace : List Event) : Type 0 where
   -- and none was given out before
   pub given_new : AreNew o.opening (given o.reserve trace)
   pub bounded : (run start trace).cursor ≤ length o.reserve + o.passes
-  pub marked_alive : (i : ℕ) → has i (run start trace).marks ≡ true → IsOfAlive o (run start trace).cursor i
+  pub marked_alive : (i : ℕ) → in_marks i (run start trace).marks ≡ true → IsOfAlive o (run start trace).cursor i

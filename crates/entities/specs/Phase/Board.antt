@@ -5,9 +5,9 @@ use Rattle.entities.specs.declared.phase.trace.Step.{Step}
 use Rattle.entities.specs.declared.phase.trace.Line.{Line}
 use Rattle.entities.specs.declared.phase.board.Board.{Board}
 use Rattle.entities.specs.declared.phase.pass.Pass.{Pass}
-use Rattle.entities.specs.PhaseTrace.{AreCalls, misses}
-use Rattle.entities.specs.PhaseRule.{line, IsOne, number_of, steps_in}
-use Rattle.entities.specs.PhasePlan.{phase_of}
+use Rattle.entities.specs.Phase.Trace.{AreCalls, misses}
+use Rattle.entities.specs.Phase.Rule.{line, IsOne, number_of, steps_in}
+use Rattle.entities.specs.Phase.Plan.{phase_of}
 
 abbrev pub steps_of_pass : Pass → List Step
 steps_of_pass pass = steps_in pass.record.me.0

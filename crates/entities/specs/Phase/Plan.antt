@@ -4,7 +4,7 @@ use Rattle.entities.specs.declared.entity.Entity.{Entity}
 use Rattle.entities.specs.declared.phase.plan.Plan.{Plan}
 use Rattle.entities.specs.Census.{population}
 use Rattle.entities.specs.Population.{index_of}
-use Rattle.entities.specs.PhaseTrace.{Phase}
+use Rattle.entities.specs.Phase.Trace.{Phase}
 
 abbrev pub phase_of : Plan → Phase
 phase_of plan = record { opening = population plan.opening.value; reserve = plan.reserve.items; passes = plan.passes }

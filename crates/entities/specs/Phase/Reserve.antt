@@ -24,6 +24,7 @@ with_marks m p = record { births = p.births; merged = p.merged; pending = p.pend
 pub record IsReserve (p : Population) (reserve : List Entity) : Type 0 where
   pub may : (t : ℕ) (e : Entity) → slice_get reserve t ≡ Some e → MayBeBorn (with_births (take t reserve) p) (index_of e)
   pub generation : (t : ℕ) (e : Entity) → slice_get reserve t ≡ Some e → generation_of e ≡ pos (p.births (index_of e) + 1)
+  pub below : (t : ℕ) (e : Entity) → slice_get reserve t ≡ Some e → index_of e < INDEX_LIMIT
   pub once : (t : ℕ) (e : Entity) → slice_get reserve t ≡ Some e → has_index (take t reserve) (index_of e) ≡ false
 
 -- no two are of one index

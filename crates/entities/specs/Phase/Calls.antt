@@ -11,18 +11,19 @@ use Rattle.entities.specs.Population.{Population, IsAlive, index_of}
 use Rattle.entities.specs.Census.{Census, population}
 use Rattle.entities.specs.Kept.{SameBut}
 use Rattle.entities.specs.Upcoming.{upcoming}
-use Rattle.entities.specs.PhaseReserve.{with_births, with_marks}
-use Rattle.entities.specs.PhaseTrace.{Phase, Each, Event, IsInterleaving, IsSound, run, start, has}
-use Rattle.entities.specs.PhaseRule.{Among, IsSeen, IsRecorded, lines_of, AmongLines}
-use Rattle.entities.specs.PhasePlan.{AreLocated}
-use Rattle.entities.specs.PhaseBoard.{IsNext, steps_of_pass}
+use Rattle.entities.specs.Phase.Reserve.{IsReserve, with_births, with_marks}
+use Rattle.entities.specs.Phase.Trace.{Phase, Each, Event, IsInterleaving, IsSound, run, start, in_marks}
+use Rattle.entities.specs.Phase.Rule.{Among, IsSeen, IsRecorded, lines_of, AmongLines}
+use Rattle.entities.specs.Phase.Plan.{AreLocated}
+use Rattle.entities.specs.Phase.Board.{IsNext, steps_of_pass, is_spent}
 
--- The entities are as they were at the opening, with room for the reserve, which is of the next births
+-- The entities are as they were at the opening, with room for the reserve, which is of the next births, each findable by its index
 pub record IsOpen (c : Census) (board : Board) : Type 0 where
   pub same : SameBut board.plan.opening.value c
   pub room : length board.plan.reserve.items ≤ length c.free + (c.room - length c.generations)
   pub next : board.plan.reserve.items ≡ upcoming board.plan.opening.value (length board.plan.reserve.items)
   pub located : AreLocated board.plan
+  pub reserve : IsReserve (population board.plan.opening.value) board.plan.reserve.items
 
 abbrev pub IsOfReserve : Plan → ℕ → Entity → Type 0
 IsOfReserve plan k e = slice_get plan.reserve.items k ≡ Some e
@@ -32,6 +33,10 @@ IsOutside plan e = (k : ℕ) → slice_get plan.reserve.items k ≢ Some e
 
 abbrev pub WasAlive : Plan → Entity → Type 0
 WasAlive plan e = IsAlive (population plan.opening.value) e
+
+-- create, where the reserve is used up: a ticket past it, or of a pass that was spent no step
+abbrev pub SpentSteps : Board → Pass → Pass → Type 0
+SpentSteps board old new = (is_spent new ≡ true) × (is_spent old ≡ true → new ≡ old) × (is_spent old ≡ false → (t : ℕ) × IsNext old new (Draw t ∷ []) × (length board.plan.reserve.items ≤ t))
 
 -- is_alive: one Look, which finds an entity of the reserve given out if its place is below; of any other entity no step
 abbrev pub AliveSteps : Board → Pass → Pass → Entity → Bool → Type 0
@@ -71,10 +76,10 @@ pub record IsClosed (o : Phase) (record_back : List Line) (before after : Popula
   pub complete : length record_back ≡ o.passes → Each (λ e. lines_of e.0 record_back ≡ 1) trace
   -- what the passes that came back were given is born, and what they were told is marked
   pub given_are_born : (t : ℕ) → AmongLines (Draw t) record_back → t < (run start trace).cursor
-  pub told_are_marked : (i : ℕ) → AmongLines (Mark i) record_back → has i (run start trace).marks ≡ true
+  pub told_are_marked : (i : ℕ) → AmongLines (Mark i) record_back → in_marks i (run start trace).marks ≡ true
   -- and if all came back, nothing else is
   pub births_were_given : length record_back ≡ o.passes → (t : ℕ) → t < births → AmongLines (Draw t) record_back
-  pub marks_were_told : length record_back ≡ o.passes → (i : ℕ) → has i (run start trace).marks ≡ true → AmongLines (Mark i) record_back
+  pub marks_were_told : length record_back ≡ o.passes → (i : ℕ) → in_marks i (run start trace).marks ≡ true → AmongLines (Mark i) record_back
   pub births_are : births ≡ min (run start trace).cursor (length o.reserve)
-  pub leaves : after ≡ with_marks (λ i. has i (run start trace).marks) (with_births (take births o.reserve) before)
-  pub marks_are : IsCountOf marks (λ i. has i (run start trace).marks)
+  pub leaves : after ≡ with_marks (λ i. in_marks i (run start trace).marks) (with_births (take births o.reserve) before)
+  pub marks_are : IsCountOf marks (λ i. in_marks i (run start trace).marks)

@@ -2,8 +2,8 @@
 use Rattle.entities.specs.declared.phase.board.Board.{Board}
 use Rattle.entities.specs.declared.phase.shared.Opened.{Opened}
 use Rattle.entities.specs.Census.{Census}
-use Rattle.entities.specs.PhaseTrace.{Phase}
-use Rattle.entities.specs.PhasePlan.{phase_of}
+use Rattle.entities.specs.Phase.Trace.{Phase}
+use Rattle.entities.specs.Phase.Plan.{phase_of}
 
 -- the entities as they were at the opening
 abbrev pub entities_of : Opened Board → Census

@@ -1,0 +1,22 @@
+use Rattle.std.proofs.Common.{refl}
+use Rattle.entities.specs.Census.{population}
+use Rattle.entities.proofs.Newborn.{newborn_alive}
+use Rattle.entities.proofs.entities_res.EntitiesRes.build_entity.Goals as goal
+
+pub returns : goal.returns
+returns c =
+    let e = c.in_ok-entity.ensures in (
+      (refl, (λ w. refl), tt),
+      record {
+        rests = tt;
+        same_reference = refl;
+        may = e.may;
+        below = e.below;
+        generation = e.generation;
+        born = e.born;
+        alive = newborn_alive (population c.args.self.now) _ c.in_ok-entity.entity e.generation e.born;
+        limit = tt;
+        reuses = tt;
+        memory = tt;
+      },
+    )
