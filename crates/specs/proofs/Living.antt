@@ -22,7 +22,7 @@ use Rattle.specs.specs.declared.command.Refusal.TheVariants.{WrongGeneration as 
 use Rattle.specs.specs.Table.{Table, Becomes, Registers, Inserts, Removes, Clears}
 use Rattle.specs.specs.People.{Births, Deaths, Marks}
 use Rattle.specs.specs.State.{State, OnPeople, OnTable, Deletes, Maintains, Step, Run}
-use Rattle.specs.specs.Reached.{OnlyLiving}
+use Rattle.specs.specs.Reached.{IsNew, OnlyLiving}
 
 -- a table's values are at indices of a set
 abbrev pub Within : {K V : Type 0} → Table K V → (ℕ → Bool) → Type 0
@@ -253,3 +253,11 @@ keeps_run place [] [] old new run w = unchanged old new run w
 keeps_run place [] (r ∷ rs) old new run w = absurd run
 keeps_run place (c ∷ cs) [] old new run w = absurd run
 keeps_run place (c ∷ cs) (r ∷ rs) old new run w = keeps_run place cs rs run.0 new run.2 (keeps_step place old c r run.0 run.1 w)
+
+-- nobody lives who was not born, and no index has a value
+pub begins : {K V : Type 0} (s : State K V) → IsNew s → OnlyLiving s
+begins s new = record {
+  values = λ slot m i is has. absurd (false≢true (sym (ap is_some (new.values slot m i is)) ∙ has));
+  born = rw new.people (λ i h. absurd (false≢true h));
+  below = rw new.people (λ i h. absurd (omega arith));
+}
