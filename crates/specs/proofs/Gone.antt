@@ -1,12 +1,13 @@
 -- What died stays dead.
-use Rattle.std.proofs.Common.{◌≡◌, ℕ, pos, ◌+◌, ◌<◌, ◌≤◌, Bool, true, false, not, ◌&&◌, ◌||◌, List, [], ◌∷◌, refl, sym, ap, ◌∙◌, subst, inl, inr, arith}
-use Rattle.std.specs.Prelude.{◌⊎◌, nat_abs, map, length, slice_index_or}
-use Rattle.std.specs.List.{All, Contains}
+use Rattle.std.proofs.Common.{◌≡◌, ℕ, pos, ◌+◌, ◌<◌, ◌≤◌, Bool, true, false, not, ◌&&◌, ◌||◌, ◌==◌, List, [], ◌∷◌, refl, sym, ap, ◌∙◌, subst, inl, inr, arith}
+use Rattle.std.specs.Prelude.{◌⊎◌, nat_abs, slice_index_or}
+use Rattle.std.specs.List.{All}
 use Rattle.std.proofs.lemmas.Bool.{cases_eq, eq-eqb, ne_eqb, false≢true}
 use Rattle.std.proofs.lemmas.List.Elements.{All-map, All-contains_itself}
+use Rattle.std.proofs.lemmas.List.Folds.{list_any-from_Any}
 use Rattle.hibits.specs.Left.{left, contains-left}
 use Rattle.entities.specs.declared.entity.Entity.{Entity}
-use Rattle.entities.specs.Population.{Population, IsAlive, index_of, generation_of, lives, born, born_pending, mark}
+use Rattle.entities.specs.Population.{Population, IsAlive, index_of, lives, born, born_pending, mark}
 use Rattle.entities.specs.Deaths.{has_index, all_dead}
 use Rattle.entities.specs.Merges.{merge, the_marked, living_entity}
 use Rattle.specs.specs.declared.command.Command.{Command}
@@ -14,7 +15,7 @@ use Rattle.specs.specs.declared.command.Command.TheVariants.{Register, Create, C
 use Rattle.specs.specs.declared.command.Reply.{Reply}
 use Rattle.specs.specs.declared.command.Reply.TheVariants.{Done, Entity as Told, Bool as Yes, Value, Count, Indices, Maintained as Kept, Refused, InsertRefused}
 use Rattle.specs.specs.declared.command.Refusal.TheVariants.{WrongGeneration as Wrong, Unregistered, IndexLimit, OutOfMemory}
-use Rattle.specs.specs.Gone.{WasGiven, IsGone}
+use Rattle.specs.specs.Gone.{IsGone}
 use Rattle.specs.specs.People.{Deaths}
 use Rattle.specs.specs.State.{State, Step, Run}
 
@@ -74,6 +75,44 @@ by old new e q is grows gone = subst (λ (r : Population). IsGone r e) (sym is) 
 
 unchanged : {K V : Type 0} (old new : State K V) (e : Entity) → new ≡ old → IsGone old.people e → IsGone new.people e
 unchanged old new e same gone = subst (λ (r : State _ _). IsGone r.people e) (sym same) gone
+
+off : (a b d : Bool) → d ≡ true → ((a && not d) || (b && not d)) ≡ true → ⊥
+off true true true is e = false≢true e
+off true false true is e = false≢true e
+off false true true is e = false≢true e
+off false false true is e = false≢true e
+off a b false is e = false≢true is
+
+-- each of a list that died at once is gone
+pub gone_deleted : (p q : Population) (es : List Entity) → Deaths p es q → All (IsGone q) es
+gone_deleted p q es dies k d lt =
+    let e = slice_index_or es k d in
+    let alive : IsAlive p e = dies.may.0 k d lt in
+    let at = All-contains_itself es k d lt in
+    let listed : has_index es (index_of e) ≡ true = list_any-from_Any (λ x. x.0 == e.0) es (at.0, e, at.1, at.2, eq-eqb e.0 e.0 refl) in
+    rw dies.dead (record {
+      given = record { number = p.births e.0; generation = alive.1; reached = omega arith };
+      dead = λ a. off (p.merged e.0) (p.pending e.0) (has_index es e.0) listed a.0;
+    })
+
+-- the same of one entity
+pub gone_deleted_one : (p q : Population) (e : Entity) → Deaths p (e ∷ []) q → IsGone q e
+gone_deleted_one p q e dies = gone_deleted p q (e ∷ []) dies 0 e (omega arith)
+
+unmarked : (a b : Bool) → b ≡ true → ((a && not b) || false) ≡ true → ⊥
+unmarked true true is e = false≢true e
+unmarked false true is e = false≢true e
+unmarked a false is e = false≢true is
+
+-- each that a merge lets die is gone
+pub gone_merged : (p q : Population) → q ≡ merge p → All (IsGone q) (the_marked p)
+gone_merged p q is = rw is (All-map (IsGone (merge p)) (living_entity p) (left p.marked 0) (λ k d lt.
+    let i = slice_index_or (left p.marked 0) k d in
+    let marked : p.marked i ≡ true = (contains-left p.marked 0 i (All-contains_itself (left p.marked 0) k d lt)).2 in
+    record {
+      given = record { number = p.births i; generation = refl; reached = omega arith };
+      dead = λ a. unmarked (lives p i) (p.marked i) marked a.0;
+    }))
 
 keeps_step : {K V : Type 0} (place : V → K) (old : State K V) (c : Command K V) (r : Reply V) (new : State K V) (e : Entity) → Step place old c r new → IsGone old.people e → IsGone new.people e
 keeps_step place old (Register slot) Done new e s w = by old new e old.people s.people (same_grows old.people) w
