@@ -82,6 +82,8 @@ impl Storages for Slots {
 
     ghost place = { place_of };
 
+    ghost allocates = { λ _. false };
+
     fn slot_of(value: &Value) -> Slot {
         match value {
             Value::Pos(_) => Slot::Pos,

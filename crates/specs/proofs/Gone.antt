@@ -114,40 +114,40 @@ gone_merged p q is = rw is (All-map (IsGone (merge p)) (living_entity p) (left p
       dead = λ a. unmarked (lives p i) (p.marked i) marked a.0;
     }))
 
-keeps_step : {K V : Type 0} (place : V → K) (old : State K V) (c : Command K V) (r : Reply V) (new : State K V) (e : Entity) → Step place old c r new → IsGone old.people e → IsGone new.people e
-keeps_step place old (Register slot) Done new e s w = by old new e old.people s.people (same_grows old.people) w
-keeps_step place old (Register slot) (Refused OutOfMemory) new e s w = unchanged old new e s.1 w
-keeps_step place old Create (Told x) new e s w = by old new e _ s.people.born (born_grows old.people (index_of x)) w
-keeps_step place old Create (Refused IndexLimit) new e s w = unchanged old new e s.1 w
-keeps_step place old Create (Refused OutOfMemory) new e s w = unchanged old new e s.1 w
-keeps_step place old CreatePending (Told x) new e s w = by old new e _ s.people.born (pending_grows old.people (index_of x)) w
-keeps_step place old CreatePending (Refused IndexLimit) new e s w = unchanged old new e s.1 w
-keeps_step place old CreatePending (Refused OutOfMemory) new e s w = unchanged old new e s.1 w
-keeps_step place old (Delete es) Done new e s w = by old new e _ s.people.dead (dead_grows es.items old.people) w
-keeps_step place old (Delete es) (Refused (Wrong x)) new e s w = unchanged old new e s.1 w
-keeps_step place old (MarkDead x) Done new e s w = by old new e (mark old.people (index_of x)) s.people.marked (same_grows old.people) w
-keeps_step place old (MarkDead x) (Refused (Wrong y)) new e s w = unchanged old new e s.1 w
-keeps_step place old (AskAlive x) (Yes b) new e s w = unchanged old new e s.1 w
-keeps_step place old (AskLiving x) (Yes b) new e s w = unchanged old new e s.1 w
-keeps_step place old (EntityAt i) (Told x) new e s w = unchanged old new e s.1 w
-keeps_step place old (Insert x value) (Value before) new e s w = by old new e old.people s.people (same_grows old.people) w
-keeps_step place old (Insert x value) (InsertRefused r back) new e s w = unchanged old new e s.2 w
-keeps_step place old (Get slot x) (Value found) new e s w = unchanged old new e s.1 w
-keeps_step place old (Get slot x) (Refused r) new e s w = unchanged old new e s.1 w
-keeps_step place old (Remove slot x) (Value found) new e s w = by old new e old.people s.people (same_grows old.people) w
-keeps_step place old (Remove slot x) (Refused r) new e s w = unchanged old new e s.1 w
-keeps_step place old (Clear slot) Done new e s w = by old new e old.people s.people (same_grows old.people) w
-keeps_step place old (Clear slot) (Refused r) new e s w = unchanged old new e s.1 w
-keeps_step place old (AskCount slot) (Count n) new e s w = unchanged old new e s.1 w
-keeps_step place old (AskCount slot) (Refused r) new e s w = unchanged old new e s.1 w
-keeps_step place old (Select x) (Indices is) new e s w = unchanged old new e s.1 w
-keeps_step place old (Select x) (Refused r) new e s w = unchanged old new e s.1 w
-keeps_step place old (Maintain limit) (Kept m) new e s w = by old new e _ s.people (merge_grows old.people) w
-keeps_step place old (Maintain limit) (Refused OutOfMemory) new e s w = unchanged old new e s.1 w
-keeps_step place old command reply new e s w = absurd s
+keeps_step : {K V : Type 0} (place : V → K) (allocates : K → Bool) (old : State K V) (c : Command K V) (r : Reply V) (new : State K V) (e : Entity) → Step place allocates old c r new → IsGone old.people e → IsGone new.people e
+keeps_step place allocates old (Register slot) Done new e s w = by old new e old.people s.people (same_grows old.people) w
+keeps_step place allocates old (Register slot) (Refused OutOfMemory) new e s w = unchanged old new e s.1 w
+keeps_step place allocates old Create (Told x) new e s w = by old new e _ s.people.born (born_grows old.people (index_of x)) w
+keeps_step place allocates old Create (Refused IndexLimit) new e s w = unchanged old new e s.1 w
+keeps_step place allocates old Create (Refused OutOfMemory) new e s w = unchanged old new e s.1 w
+keeps_step place allocates old CreatePending (Told x) new e s w = by old new e _ s.people.born (pending_grows old.people (index_of x)) w
+keeps_step place allocates old CreatePending (Refused IndexLimit) new e s w = unchanged old new e s.1 w
+keeps_step place allocates old CreatePending (Refused OutOfMemory) new e s w = unchanged old new e s.1 w
+keeps_step place allocates old (Delete es) Done new e s w = by old new e _ s.people.dead (dead_grows es.items old.people) w
+keeps_step place allocates old (Delete es) (Refused (Wrong x)) new e s w = unchanged old new e s.1 w
+keeps_step place allocates old (MarkDead x) Done new e s w = by old new e (mark old.people (index_of x)) s.people.marked (same_grows old.people) w
+keeps_step place allocates old (MarkDead x) (Refused (Wrong y)) new e s w = unchanged old new e s.1 w
+keeps_step place allocates old (AskAlive x) (Yes b) new e s w = unchanged old new e s.1 w
+keeps_step place allocates old (AskLiving x) (Yes b) new e s w = unchanged old new e s.1 w
+keeps_step place allocates old (EntityAt i) (Told x) new e s w = unchanged old new e s.1 w
+keeps_step place allocates old (Insert x value) (Value before) new e s w = by old new e old.people s.people (same_grows old.people) w
+keeps_step place allocates old (Insert x value) (InsertRefused r back) new e s w = unchanged old new e s.2 w
+keeps_step place allocates old (Get slot x) (Value found) new e s w = unchanged old new e s.1 w
+keeps_step place allocates old (Get slot x) (Refused r) new e s w = unchanged old new e s.1 w
+keeps_step place allocates old (Remove slot x) (Value found) new e s w = by old new e old.people s.people (same_grows old.people) w
+keeps_step place allocates old (Remove slot x) (Refused r) new e s w = unchanged old new e s.1 w
+keeps_step place allocates old (Clear slot) Done new e s w = by old new e old.people s.people (same_grows old.people) w
+keeps_step place allocates old (Clear slot) (Refused r) new e s w = unchanged old new e s.1 w
+keeps_step place allocates old (AskCount slot) (Count n) new e s w = unchanged old new e s.1 w
+keeps_step place allocates old (AskCount slot) (Refused r) new e s w = unchanged old new e s.1 w
+keeps_step place allocates old (Select x) (Indices is) new e s w = unchanged old new e s.1 w
+keeps_step place allocates old (Select x) (Refused r) new e s w = unchanged old new e s.1 w
+keeps_step place allocates old (Maintain limit) (Kept m) new e s w = by old new e _ s.people (merge_grows old.people) w
+keeps_step place allocates old (Maintain limit) (Refused OutOfMemory) new e s w = unchanged old new e s.1 w
+keeps_step place allocates old command reply new e s w = absurd s
 
-pub gone_run : {K V : Type 0} (place : V → K) (cs : List (Command K V)) (rs : List (Reply V)) (old new : State K V) (e : Entity) → Run place old cs rs new → IsGone old.people e → IsGone new.people e
-gone_run place [] [] old new e run w = unchanged old new e run w
-gone_run place [] (r ∷ rs) old new e run w = absurd run
-gone_run place (c ∷ cs) [] old new e run w = absurd run
-gone_run place (c ∷ cs) (r ∷ rs) old new e run w = gone_run place cs rs run.0 new e run.2 (keeps_step place old c r run.0 e run.1 w)
+pub gone_run : {K V : Type 0} (place : V → K) (allocates : K → Bool) (cs : List (Command K V)) (rs : List (Reply V)) (old new : State K V) (e : Entity) → Run place allocates old cs rs new → IsGone old.people e → IsGone new.people e
+gone_run place allocates [] [] old new e run w = unchanged old new e run w
+gone_run place allocates [] (r ∷ rs) old new e run w = absurd run
+gone_run place allocates (c ∷ cs) [] old new e run w = absurd run
+gone_run place allocates (c ∷ cs) (r ∷ rs) old new e run w = gone_run place allocates cs rs run.0 new e run.2 (keeps_step place allocates old c r run.0 e run.1 w)

@@ -153,7 +153,7 @@ impl<S: Storages> World<S> {
 
     /// Does one command.
     pub fn apply(&mut self, command: Command<S::Slot, S::Value>) -> Reply<S::Value>
-        ensures { Step S.place (state_of S.table self.old) command result (state_of S.table self.new) }
+        ensures { Step S.place S.allocates (state_of S.table self.old) command result (state_of S.table self.new) }
     {
         match command {
             Command::Register(slot) => match self.storages.register(self.alloc, slot) {
@@ -288,7 +288,7 @@ impl<S: Storages> World<S> {
         &mut self,
         commands: Vec<Command<S::Slot, S::Value>>,
     ) -> Result<Vec<Reply<S::Value>>, AllocError>
-        ensures run { IfOk result (λ replies. Run S.place (state_of S.table self.old) commands.items replies.items (state_of S.table self.new)) }
+        ensures run { IfOk result (λ replies. Run S.place S.allocates (state_of S.table self.old) commands.items replies.items (state_of S.table self.new)) }
         ensures err { OnErr result (state_of S.table self.new ≡ state_of S.table self.old) }
     {
         let mut replies = Vec::with_capacity(self.alloc, commands.len())?;
