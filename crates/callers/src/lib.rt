@@ -3,5 +3,7 @@
 #![tactic(auto)]
 
 mod sets;
+mod worlds;
 
 pub use sets::{added_and_found, removed_and_gone};
+pub use worlds::{component, deleted_is_gone, deleted_stays_gone, lived};

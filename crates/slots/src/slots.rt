@@ -54,10 +54,12 @@ pub struct Slots {
 impl Slots {
     ghost use Rattle.std.specs.Prelude.{◌≡◌, None};
     ghost use Rattle.slots.specs.Tables.{table_of};
+    ghost use Rattle.specs.specs.Reached.{HasNoValue};
 
     /// No component is registered.
     pub fn new() -> Self
-        ensures { (s : Slot) → table_of result s ≡ None }
+        ensures none { (s : Slot) → table_of result s ≡ None }
+        ensures empty { HasNoValue (table_of result) }
     {
         Slots {
             pos: None,
@@ -72,6 +74,7 @@ impl Slots {
 }
 
 impl Storages for Slots {
+    ghost use Rattle.std.specs.Prelude.{false};
     ghost use Rattle.slots.specs.Tables.{table_of, place_of};
 
     type Slot = Slot;
