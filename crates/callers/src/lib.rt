@@ -5,5 +5,7 @@
 mod sets;
 mod worlds;
 
-pub use sets::{added_and_found, removed_and_gone};
+pub use sets::{
+    added_and_found, first_is_member, none_to_walk, one, others_stay, removed_and_gone,
+};
 pub use worlds::{component, deleted_is_gone, deleted_stays_gone, lived};

@@ -270,9 +270,10 @@ impl BitSet {
 
     /// The members, ascending. Ports `hibitset::BitSetLike::iter`.
     #[inline(always)]
-    #[tactic(auto, using(crate::proofs::MemberLemmas::same_list))]
     pub fn iter(&self) -> BitIter<&BitSet>
         ensures mask { result.mask.now ≡ self.now }
+
+        ensures has { (i : ℕ) → has_part self.now.members 0 i ≡ set.contains self.now.members i }
 
         // The list that it gives is the one whose length `count` answers.
         ensures list { left (has_part self.now.members 0) 0 ≡ left (λ i. set.contains self.now.members i) 0 }
