@@ -15,7 +15,7 @@ use Rattle.specs.specs.declared.command.Command.TheVariants.{Register, Create, C
 use Rattle.specs.specs.declared.command.Reply.{Reply}
 use Rattle.specs.specs.declared.command.Reply.TheVariants.{Done, Entity as Told, Bool as Yes, Value, Count, Indices, Maintained as Kept, Refused, InsertRefused}
 use Rattle.specs.specs.declared.command.Refusal.TheVariants.{WrongGeneration as Wrong, Unregistered, IndexLimit, OutOfMemory}
-use Rattle.specs.specs.Gone.{IsGone}
+use Rattle.specs.specs.Gone.{WasGiven, IsGone}
 use Rattle.specs.specs.People.{Deaths}
 use Rattle.specs.specs.State.{State, Step, Run}
 
@@ -23,21 +23,21 @@ use Rattle.specs.specs.State.{State, Step, Run}
 abbrev Grows : Population → Population → Type 0
 Grows p q = (j : ℕ) → (p.births j < q.births j) ⊎ ((q.births j ≡ p.births j) × (lives q j ≡ true → lives p j ≡ true))
 
+gone : (p : Population) (e : Entity) → WasGiven p e → (IsAlive p e → ⊥) → IsGone p e
+gone p e given dead = record { given = given; dead = dead; unmerged = λ m. dead (ap (λ b. b || p.pending (index_of e)) m.0, m.1) }
+
 gone_kept : (p q : Population) (e : Entity) → Grows p q → IsGone p e → IsGone q e
-gone_kept p q e grows gone =
-    let given = gone.given in
+gone_kept p q e grows was =
+    let given = was.given in
     let reached = given.reached in
     elim (grows (index_of e)) [
-      | inl more ↦ record {
-          given = record { number = given.number; generation = given.generation; reached = omega arith };
-          dead = λ a. let same = ap nat_abs (sym given.generation ∙ a.1) in omega arith;
-        }
+      | inl more ↦
+          gone q e (record { number = given.number; generation = given.generation; reached = omega arith })
+            (λ a. let same = ap nat_abs (sym given.generation ∙ a.1) in omega arith)
       | inr same ↦
           let births = same.0 in
-          record {
-            given = record { number = given.number; generation = given.generation; reached = omega arith };
-            dead = λ a. gone.dead (same.1 a.0, a.1 ∙ ap pos births);
-          }
+          gone q e (record { number = given.number; generation = given.generation; reached = omega arith })
+            (λ a. was.dead (same.1 a.0, a.1 ∙ ap pos births))
     ]
 
 born_grows : (p : Population) (i : ℕ) → Grows p (born p i)
@@ -71,10 +71,10 @@ same_grows : (p : Population) → Grows p p
 same_grows p j = inr (refl, λ h. h)
 
 by : {K V : Type 0} (old new : State K V) (e : Entity) (q : Population) → new.people ≡ q → Grows old.people q → IsGone old.people e → IsGone new.people e
-by old new e q is grows gone = subst (λ (r : Population). IsGone r e) (sym is) (gone_kept old.people q e grows gone)
+by old new e q is grows was = subst (λ (r : Population). IsGone r e) (sym is) (gone_kept old.people q e grows was)
 
 unchanged : {K V : Type 0} (old new : State K V) (e : Entity) → new ≡ old → IsGone old.people e → IsGone new.people e
-unchanged old new e same gone = subst (λ (r : State _ _). IsGone r.people e) (sym same) gone
+unchanged old new e same was = subst (λ (r : State _ _). IsGone r.people e) (sym same) was
 
 off : (a b d : Bool) → d ≡ true → ((a && not d) || (b && not d)) ≡ true → ⊥
 off true true true is e = false≢true e
@@ -90,10 +90,8 @@ gone_deleted p q es dies k d lt =
     let alive : IsAlive p e = dies.may.0 k d lt in
     let at = All-contains_itself es k d lt in
     let listed : has_index es (index_of e) ≡ true = list_any-from_Any (λ x. x.0 == e.0) es (at.0, e, at.1, at.2, eq-eqb e.0 e.0 refl) in
-    rw dies.dead (record {
-      given = record { number = p.births e.0; generation = alive.1; reached = omega arith };
-      dead = λ a. off (p.merged e.0) (p.pending e.0) (has_index es e.0) listed a.0;
-    })
+    rw dies.dead (gone (all_dead es p) e (record { number = p.births e.0; generation = alive.1; reached = omega arith })
+      (λ a. off (p.merged e.0) (p.pending e.0) (has_index es e.0) listed a.0))
 
 -- the same of one entity
 pub gone_deleted_one : (p q : Population) (e : Entity) → Deaths p (e ∷ []) q → IsGone q e
@@ -109,10 +107,8 @@ pub gone_merged : (p q : Population) → q ≡ merge p → All (IsGone q) (the_m
 gone_merged p q is = rw is (All-map (IsGone (merge p)) (living_entity p) (left p.marked 0) (λ k d lt.
     let i = slice_index_or (left p.marked 0) k d in
     let marked : p.marked i ≡ true = (contains-left p.marked 0 i (All-contains_itself (left p.marked 0) k d lt)).2 in
-    record {
-      given = record { number = p.births i; generation = refl; reached = omega arith };
-      dead = λ a. unmarked (lives p i) (p.marked i) marked a.0;
-    }))
+    gone (merge p) (living_entity p i) (record { number = p.births i; generation = refl; reached = omega arith })
+      (λ a. unmarked (lives p i) (p.marked i) marked a.0)))
 
 keeps_step : {K V : Type 0} (place : V → K) (allocates : K → Bool) (old : State K V) (c : Command K V) (r : Reply V) (new : State K V) (e : Entity) → Step place allocates old c r new → IsGone old.people e → IsGone new.people e
 keeps_step place allocates old (Register slot) Done new e s w = by old new e old.people s.people (same_grows old.people) w

@@ -5,10 +5,11 @@ ghost use Rattle.std.specs.List.{All};
 ghost use Rattle.hibits.specs.MaskExprs.{expr_has};
 ghost use Rattle.hibits.specs.Sets.{has_part};
 ghost use Rattle.entities.specs.Census.{population};
+ghost use Rattle.entities.specs.declared.entity.Entity.{Entity as AnEntity};
 ghost use Rattle.entities.specs.Population.{no_one, born, born_pending, IsMerged};
 ghost use Rattle.specs.specs.Gone.{IsGone};
 ghost use Rattle.specs.specs.People.{NoneMarked};
-ghost use Rattle.specs.specs.Reached.{HasNoValue, IsNew};
+ghost use Rattle.specs.specs.Reached.{HasNoValue, IsNew, OnlyLiving};
 ghost use Rattle.specs.specs.Sets.{is_member, is_registered, SelectIsRefused};
 ghost use Rattle.specs.specs.State.{state_of, Deletes, Maintains, Selects, Step, Run};
 ghost use Rattle.specs.specs.Refused.{DeleteIsRefused, BirthStep, CountStep};
@@ -52,10 +53,12 @@ pub struct World<S> {
 
 impl<S: Storages> World<S> {
     /// A world without entities, over storages that are empty or not registered.
+    #[tactic(auto, using(crate::proofs::Living::begins))]
     pub fn new(alloc: Global, storages: S) -> Self
         ensures people { (state_of S.table result).people ≡ no_one }
         ensures table { (state_of S.table result).table ≡ S.table storages }
         ensures begins { HasNoValue (S.table storages) → IsNew (state_of S.table result) }
+        ensures living { HasNoValue (S.table storages) → OnlyLiving (state_of S.table result) }
     {
         World {
             entities: EntitiesRes::new(alloc),
@@ -290,6 +293,10 @@ impl<S: Storages> World<S> {
     ) -> Result<Vec<Reply<S::Value>>, AllocError>
         ensures run { IfOk result (λ replies. Run S.place S.allocates (state_of S.table self.old) commands.items replies.items (state_of S.table self.new)) }
         ensures err { OnErr result (state_of S.table self.new ≡ state_of S.table self.old) }
+
+        // The laws of runs, as this run kept them.
+        ensures living { OnlyLiving (state_of S.table self.old) → OnlyLiving (state_of S.table self.new) }
+        ensures gone { (e : AnEntity) → IsGone (state_of S.table self.old).people e → IsGone (state_of S.table self.new).people e }
     {
         let mut replies = Vec::with_capacity(self.alloc, commands.len())?;
         for command in commands {
