@@ -8,4 +8,4 @@ mod worlds;
 pub use sets::{
     added_and_found, first_is_member, none_to_walk, one, others_stay, removed_and_gone,
 };
-pub use worlds::{component, deleted_is_gone, deleted_stays_gone, lived};
+pub use worlds::{component, deleted_is_gone, is_back, lived};

@@ -1,13 +1,12 @@
 //! Worlds.
 ghost use Rattle.std.specs.Prelude.{◌≡◌, Some, None, true, IfOk};
 ghost use Rattle.slots.specs.Tables.{table_of};
+ghost use Rattle.specs.specs.Gone.{IsGone};
 ghost use Rattle.specs.specs.Reached.{OnlyLiving};
 ghost use Rattle.specs.specs.State.{state_of};
 
 use slots::{Slot, Slots, Value};
-use specs::{
-    Command, DeleteError, Entity, Refusal, Reply, Storages, World, only_living, stays_dead,
-};
+use specs::{Command, DeleteError, Entity, Refusal, Reply, Storages, World};
 use std::alloc::{AllocError, Global};
 
 /// Whatever a new world is asked to do, each component belongs to a living entity.
@@ -19,7 +18,6 @@ pub fn lived(
 {
     let mut world = World::new(alloc, Slots::new());
     let _replies = world.run(commands)?;
-    only_living::<Slots>();
     Ok(world)
 }
 
@@ -33,29 +31,19 @@ pub fn deleted_is_gone<S: Storages>(
     ensures found { IfOk result (λ r. r.1 ≡ None) }
 {
     world.delete_entity(e)?;
-    let alive = world.entities().is_alive(e);
+    let alive = world.is_alive(e);
     match world.apply(Command::Get(slot, e)) {
         Reply::Value(found) => Ok((alive, found)),
         _ => Ok((alive, None)),
     }
 }
 
-/// A deleted entity is not alive, whatever was done since.
-pub fn deleted_stays_gone<S: Storages>(
-    world: &mut World<S>,
-    e: Entity,
-    commands: Vec<Command<S::Slot, S::Value>>,
-) -> Result<bool, DeleteError>
-    ensures { IfOk result (λ alive. alive ≡ true → ⊥) }
+/// Whether an entity that is gone is alive. It never is.
+pub fn is_back<S: Storages>(world: &World<S>, e: Entity) -> bool
+    requires { IsGone (state_of S.table world.now).people e }
+    ensures { result ≡ true → ⊥ }
 {
-    world.delete_entity(e)?;
-    match world.run(commands) {
-        Ok(_) => {
-            stays_dead::<S>();
-            Ok(world.entities().is_alive(e))
-        }
-        Err(_) => Err(DeleteError::OutOfMemory),
-    }
+    world.is_alive(e)
 }
 
 /// A component of a slot of the program. It is read without memory.
