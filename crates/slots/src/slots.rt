@@ -11,24 +11,38 @@ use std::alloc::{AllocError, Global};
 /// A component type of the program.
 #[derive(Clone, Copy, Debug, PartialEq, Eq)]
 pub enum Slot {
+    /// `pos`: whole numbers, in a vector.
     Pos,
+    /// `vel`: whole numbers, in a dense vector.
     Vel,
+    /// `def`: whole numbers, in a vector with defaults.
     Def,
+    /// `map`: whole numbers, in a hash map.
     Map,
+    /// `tree`: whole numbers, in a tree.
     Tree,
+    /// `tag`: no data.
     Tag,
+    /// `link`: entities, in a vector.
     Link,
 }
 
 /// A component of the program.
 #[derive(Clone, Copy, Debug, PartialEq, Eq)]
 pub enum Value {
+    /// A component of the slot `Pos`.
     Pos(Position),
+    /// A component of the slot `Vel`.
     Vel(Velocity),
+    /// A component of the slot `Def`.
     Def(Defense),
+    /// A component of the slot `Map`.
     Map(Mapped),
+    /// A component of the slot `Tree`.
     Tree(Treed),
+    /// A component of the slot `Tag`.
     Tag(Tag),
+    /// A component of the slot `Link`.
     Link(Link),
 }
 
