@@ -6,6 +6,7 @@ mod components;
 mod entries;
 mod phases;
 mod sets;
+mod worlds;
 
 pub use components::{
     Health, dead_and_gone, healths, hit, inserted_and_found, removed_beside, taken_and_gone,
@@ -13,4 +14,7 @@ pub use components::{
 };
 pub use entries::{ninety_at, taken, three_and_found};
 pub use phases::{marked_at_closing, sees_its_own, two_births};
-pub use sets::{added_and_found, removed_and_gone};
+pub use sets::{
+    added_and_found, first_is_member, none_to_walk, one, others_stay, removed_and_gone,
+};
+pub use worlds::{component, deleted_is_gone, is_back, lived};

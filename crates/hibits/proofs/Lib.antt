@@ -1,5 +1,6 @@
 pub mod CountLemmas
 pub mod FirstLemmas
+pub mod MemberLemmas
 pub mod RowLemmas
 pub mod StepLemmas
 pub mod WalkLemmas

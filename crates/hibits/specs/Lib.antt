@@ -1,5 +1,6 @@
 pub mod Counts
 pub mod Left
+pub mod Members
 pub mod MaskExprs
 pub mod Rows
 pub mod Sets

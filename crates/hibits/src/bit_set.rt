@@ -4,6 +4,7 @@ ghost use Rattle.std.specs.Int.{bit_at};
 ghost use Rattle.std.specs.FinSet as set;
 ghost use Rattle.hibits.specs.Sets.{HasRoom, has_part};
 ghost use Rattle.hibits.specs.Left.{left};
+ghost use Rattle.hibits.specs.Members.{HasNone, IsAdded, IsRemoved};
 ghost use Rattle.hibits.specs.Walks.{IsNext};
 ghost use Rattle.hibits.specs.Rows.{row_bit, IsPut};
 
@@ -49,6 +50,7 @@ impl BitSet {
     /// The empty set, without room. Ports `hibitset::BitSet::new`.
     pub fn new(alloc: Global) -> Self
         ensures members { result.members ≡ set.empty }
+        ensures none { HasNone result.members }
         ensures room { result.room ≡ set.empty }
     {
         BitSet {
@@ -132,6 +134,7 @@ impl BitSet {
     pub fn add(&mut self, id: Index) -> Result<bool, SetError>
         ensures was { IfOk result (λ was. was ≡ set.contains self.old.members id) }
         ensures members { OnOk result (self.new.members ≡ set.insert self.old.members id) }
+        ensures added { OnOk result (IsAdded self.old.members id self.new.members) }
         ensures ok { OnOk result (HasRoom self.new id × id < INDEX_LIMIT) }
         ensures err { OnErr result (self.new ≡ self.old) }
         ensures limit { (result ≡ Err SetError.IndexLimit) ↔ (INDEX_LIMIT ≤ id) }
@@ -148,9 +151,11 @@ impl BitSet {
 
     /// Takes an index out, and says whether it was there. Its room stays. Ports `hibitset::BitSet::remove`.
     #[inline(always)]
+    #[tactic(auto, using(crate::proofs::MemberLemmas::is_removed))]
     pub fn remove(&mut self, id: Index) -> bool
         ensures was { result ≡ set.contains self.old.members id }
         ensures members { self.new.members ≡ set.remove self.old.members id }
+        ensures removed { IsRemoved self.old.members id self.new.members }
         ensures room { self.new.room ≡ self.old.room }
     {
         if !self.contains(id) {
@@ -196,6 +201,7 @@ impl BitSet {
     /// Takes every member out. The room stays, and the words of all room are written. Ports `hibitset::BitSet::clear`.
     pub fn clear(&mut self)
         ensures members { self.new.members ≡ set.empty }
+        ensures none { HasNone self.new.members }
         ensures room { self.new.room ≡ self.old.room }
     {
         wipe(&mut self.layer0);
@@ -266,6 +272,11 @@ impl BitSet {
     #[inline(always)]
     pub fn iter(&self) -> BitIter<&BitSet>
         ensures mask { result.mask.now ≡ self.now }
+
+        ensures has { (i : ℕ) → has_part self.now.members 0 i ≡ set.contains self.now.members i }
+
+        // The list that it gives is the one whose length `count` answers.
+        ensures list { left (has_part self.now.members 0) 0 ≡ left (λ i. set.contains self.now.members i) 0 }
         ensures position { result.position ≡ 0 }
         ensures reads { result.reads ≡ 1 }
     {

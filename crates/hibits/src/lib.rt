@@ -17,7 +17,7 @@ pub use bit_iter::BitIter;
 pub use bit_set::BitSet;
 pub use error::SetError;
 pub use layers::{BitSetLike, Layers};
-pub use limits::{INDEX_LIMIT, Index, LAYERS};
+pub use limits::{INDEX_LIMIT, Index, LAYERS, range_of_indices};
 pub use mask_expr::MaskExpr;
 pub use reads::Reads;
 pub use views::{BitSetAll, BitSetAnd, BitSetNot, BitSetOr, BitSetXor};

@@ -1,4 +1,5 @@
 //! The range of indices.
+ghost use Rattle.std.specs.Prelude.{◌≡◌, ◌^◌};
 
 /// An index of an entity. Those that a set can hold lie below `INDEX_LIMIT`.
 pub type Index = u32;
@@ -8,3 +9,10 @@ pub const LAYERS: usize = 4;
 
 /// Indices lie below this, which is 64 to the power of `LAYERS`.
 pub const INDEX_LIMIT: u32 = 16_777_216;
+
+/// The limits, by their numbers.
+pub fn range_of_indices()
+    ensures layers { LAYERS ≡ 4 }
+    ensures indices { INDEX_LIMIT ≡ 16777216 }
+    ensures parts { INDEX_LIMIT ≡ 64 ^ LAYERS }
+{}

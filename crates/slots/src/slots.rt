@@ -11,24 +11,38 @@ use std::alloc::{AllocError, Global};
 /// A component type of the program.
 #[derive(Clone, Copy, Debug, PartialEq, Eq)]
 pub enum Slot {
+    /// `pos`: whole numbers, in a vector.
     Pos,
+    /// `vel`: whole numbers, in a dense vector.
     Vel,
+    /// `def`: whole numbers, in a vector with defaults.
     Def,
+    /// `map`: whole numbers, in a hash map.
     Map,
+    /// `tree`: whole numbers, in a tree.
     Tree,
+    /// `tag`: no data.
     Tag,
+    /// `link`: entities, in a vector.
     Link,
 }
 
 /// A component of the program.
 #[derive(Clone, Copy, Debug, PartialEq, Eq)]
 pub enum Value {
+    /// A component of the slot `Pos`.
     Pos(Position),
+    /// A component of the slot `Vel`.
     Vel(Velocity),
+    /// A component of the slot `Def`.
     Def(Defense),
+    /// A component of the slot `Map`.
     Map(Mapped),
+    /// A component of the slot `Tree`.
     Tree(Treed),
+    /// A component of the slot `Tag`.
     Tag(Tag),
+    /// A component of the slot `Link`.
     Link(Link),
 }
 
@@ -54,10 +68,12 @@ pub struct Slots {
 impl Slots {
     ghost use Rattle.std.specs.Prelude.{◌≡◌, None};
     ghost use Rattle.slots.specs.Tables.{table_of};
+    ghost use Rattle.specs.specs.Reached.{HasNoValue};
 
     /// No component is registered.
     pub fn new() -> Self
-        ensures { (s : Slot) → table_of result s ≡ None }
+        ensures none { (s : Slot) → table_of result s ≡ None }
+        ensures empty { HasNoValue (table_of result) }
     {
         Slots {
             pos: None,
@@ -72,6 +88,7 @@ impl Slots {
 }
 
 impl Storages for Slots {
+    ghost use Rattle.std.specs.Prelude.{false};
     ghost use Rattle.slots.specs.Tables.{table_of, place_of};
 
     type Slot = Slot;
@@ -81,6 +98,8 @@ impl Storages for Slots {
     ghost table = { table_of };
 
     ghost place = { place_of };
+
+    ghost allocates = { λ _. false };
 
     fn slot_of(value: &Value) -> Slot {
         match value {

@@ -22,7 +22,7 @@ use Rattle.specs.specs.declared.command.Refusal.TheVariants.{WrongGeneration as 
 use Rattle.specs.specs.Table.{Table, Becomes, Registers, Inserts, Removes, Clears}
 use Rattle.specs.specs.People.{Births, Deaths, Marks}
 use Rattle.specs.specs.State.{State, OnPeople, OnTable, Deletes, Maintains, Step, Run}
-use Rattle.specs.specs.Reached.{OnlyLiving}
+use Rattle.specs.specs.Reached.{IsNew, OnlyLiving}
 
 -- a table's values are at indices of a set
 abbrev pub Within : {K V : Type 0} → Table K V → (ℕ → Bool) → Type 0
@@ -216,40 +216,48 @@ mark_kept old new e s w = record {
   below = rw s.people.marked w.below;
 }
 
-pub keeps_step : {K V : Type 0} (place : V → K) (old : State K V) (c : Command K V) (r : Reply V) (new : State K V) → Step place old c r new → OnlyLiving old → OnlyLiving new
-keeps_step place old (Register slot) Done new s w = table_only old new s.people w (within_register old.table new.table slot (lives old.people) (old.table slot) refl s.table w.values)
-keeps_step place old (Register slot) (Refused OutOfMemory) new s w = unchanged old new s.1 w
-keeps_step place old Create (Told e) new s w = birth_kept born old new e (λ p i. refl) lives_born still_lives s w
-keeps_step place old Create (Refused IndexLimit) new s w = unchanged old new s.1 w
-keeps_step place old Create (Refused OutOfMemory) new s w = unchanged old new s.1 w
-keeps_step place old CreatePending (Told e) new s w = birth_kept born_pending old new e (λ p i. refl) lives_born_pending still_lives_pending s w
-keeps_step place old CreatePending (Refused IndexLimit) new s w = unchanged old new s.1 w
-keeps_step place old CreatePending (Refused OutOfMemory) new s w = unchanged old new s.1 w
-keeps_step place old (Delete es) Done new s w = deletes_kept es.items old new s w
-keeps_step place old (Delete es) (Refused (Wrong x)) new s w = unchanged old new s.1 w
-keeps_step place old (MarkDead e) Done new s w = mark_kept old new e s w
-keeps_step place old (MarkDead e) (Refused (Wrong x)) new s w = unchanged old new s.1 w
-keeps_step place old (AskAlive e) (Yes b) new s w = unchanged old new s.1 w
-keeps_step place old (AskLiving e) (Yes b) new s w = unchanged old new s.1 w
-keeps_step place old (EntityAt i) (Told e) new s w = unchanged old new s.1 w
-keeps_step place old (Insert e value) (Value before) new s w = table_only old new s.people w (within_becomes old.table new.table (place value) _ (lives old.people) s.table.put w.values (put_within s.table.map (index_of e) value (lives old.people) s.table.alive.0 (λ j. w.values (place value) s.table.map j s.table.registered)))
-keeps_step place old (Insert e value) (InsertRefused r back) new s w = unchanged old new s.2 w
-keeps_step place old (Get slot e) (Value found) new s w = unchanged old new s.1 w
-keeps_step place old (Get slot e) (Refused r) new s w = unchanged old new s.1 w
-keeps_step place old (Remove slot e) (Value found) new s w = table_only old new s.people w (removes_within old.people old.table new.table slot e found (lives old.people) s.table w.values)
-keeps_step place old (Remove slot e) (Refused r) new s w = unchanged old new s.1 w
-keeps_step place old (Clear slot) Done new s w = table_only old new s.people w (within_becomes old.table new.table slot no_value (lives old.people) s.table.cleared w.values (λ i h. absurd (false≢true h)))
-keeps_step place old (Clear slot) (Refused r) new s w = unchanged old new s.1 w
-keeps_step place old (AskCount slot) (Count n) new s w = unchanged old new s.1 w
-keeps_step place old (AskCount slot) (Refused r) new s w = unchanged old new s.1 w
-keeps_step place old (Select x) (Indices is) new s w = unchanged old new s.1 w
-keeps_step place old (Select x) (Refused r) new s w = unchanged old new s.1 w
-keeps_step place old (Maintain limit) (Kept m) new s w = maintains_kept old new s.people s.table w
-keeps_step place old (Maintain limit) (Refused OutOfMemory) new s w = unchanged old new s.1 w
-keeps_step place old command reply new s w = absurd s
+pub keeps_step : {K V : Type 0} (place : V → K) (allocates : K → Bool) (old : State K V) (c : Command K V) (r : Reply V) (new : State K V) → Step place allocates old c r new → OnlyLiving old → OnlyLiving new
+keeps_step place allocates old (Register slot) Done new s w = table_only old new s.people w (within_register old.table new.table slot (lives old.people) (old.table slot) refl s.table w.values)
+keeps_step place allocates old (Register slot) (Refused OutOfMemory) new s w = unchanged old new s.1 w
+keeps_step place allocates old Create (Told e) new s w = birth_kept born old new e (λ p i. refl) lives_born still_lives s w
+keeps_step place allocates old Create (Refused IndexLimit) new s w = unchanged old new s.1 w
+keeps_step place allocates old Create (Refused OutOfMemory) new s w = unchanged old new s.1 w
+keeps_step place allocates old CreatePending (Told e) new s w = birth_kept born_pending old new e (λ p i. refl) lives_born_pending still_lives_pending s w
+keeps_step place allocates old CreatePending (Refused IndexLimit) new s w = unchanged old new s.1 w
+keeps_step place allocates old CreatePending (Refused OutOfMemory) new s w = unchanged old new s.1 w
+keeps_step place allocates old (Delete es) Done new s w = deletes_kept es.items old new s w
+keeps_step place allocates old (Delete es) (Refused (Wrong x)) new s w = unchanged old new s.1 w
+keeps_step place allocates old (MarkDead e) Done new s w = mark_kept old new e s w
+keeps_step place allocates old (MarkDead e) (Refused (Wrong x)) new s w = unchanged old new s.1 w
+keeps_step place allocates old (AskAlive e) (Yes b) new s w = unchanged old new s.1 w
+keeps_step place allocates old (AskLiving e) (Yes b) new s w = unchanged old new s.1 w
+keeps_step place allocates old (EntityAt i) (Told e) new s w = unchanged old new s.1 w
+keeps_step place allocates old (Insert e value) (Value before) new s w = table_only old new s.people w (within_becomes old.table new.table (place value) _ (lives old.people) s.table.put w.values (put_within s.table.map (index_of e) value (lives old.people) s.table.alive.0 (λ j. w.values (place value) s.table.map j s.table.registered)))
+keeps_step place allocates old (Insert e value) (InsertRefused r back) new s w = unchanged old new s.2 w
+keeps_step place allocates old (Get slot e) (Value found) new s w = unchanged old new s.1 w
+keeps_step place allocates old (Get slot e) (Refused r) new s w = unchanged old new s.1 w
+keeps_step place allocates old (Remove slot e) (Value found) new s w = table_only old new s.people w (removes_within old.people old.table new.table slot e found (lives old.people) s.table w.values)
+keeps_step place allocates old (Remove slot e) (Refused r) new s w = unchanged old new s.1 w
+keeps_step place allocates old (Clear slot) Done new s w = table_only old new s.people w (within_becomes old.table new.table slot no_value (lives old.people) s.table.cleared w.values (λ i h. absurd (false≢true h)))
+keeps_step place allocates old (Clear slot) (Refused r) new s w = unchanged old new s.1 w
+keeps_step place allocates old (AskCount slot) (Count n) new s w = unchanged old new s.1 w
+keeps_step place allocates old (AskCount slot) (Refused r) new s w = unchanged old new s.1 w
+keeps_step place allocates old (Select x) (Indices is) new s w = unchanged old new s.1 w
+keeps_step place allocates old (Select x) (Refused r) new s w = unchanged old new s.1 w
+keeps_step place allocates old (Maintain limit) (Kept m) new s w = maintains_kept old new s.people s.table w
+keeps_step place allocates old (Maintain limit) (Refused OutOfMemory) new s w = unchanged old new s.1 w
+keeps_step place allocates old command reply new s w = absurd s
 
-pub keeps_run : {K V : Type 0} (place : V → K) (cs : List (Command K V)) (rs : List (Reply V)) (old new : State K V) → Run place old cs rs new → OnlyLiving old → OnlyLiving new
-keeps_run place [] [] old new run w = unchanged old new run w
-keeps_run place [] (r ∷ rs) old new run w = absurd run
-keeps_run place (c ∷ cs) [] old new run w = absurd run
-keeps_run place (c ∷ cs) (r ∷ rs) old new run w = keeps_run place cs rs run.0 new run.2 (keeps_step place old c r run.0 run.1 w)
+pub keeps_run : {K V : Type 0} (place : V → K) (allocates : K → Bool) (cs : List (Command K V)) (rs : List (Reply V)) (old new : State K V) → Run place allocates old cs rs new → OnlyLiving old → OnlyLiving new
+keeps_run place allocates [] [] old new run w = unchanged old new run w
+keeps_run place allocates [] (r ∷ rs) old new run w = absurd run
+keeps_run place allocates (c ∷ cs) [] old new run w = absurd run
+keeps_run place allocates (c ∷ cs) (r ∷ rs) old new run w = keeps_run place allocates cs rs run.0 new run.2 (keeps_step place allocates old c r run.0 run.1 w)
+
+-- nobody lives who was not born, and no index has a value
+pub begins : {K V : Type 0} (s : State K V) → IsNew s → OnlyLiving s
+begins s new = record {
+  values = λ slot m i is has. absurd (false≢true (sym (ap is_some (new.values slot m i is)) ∙ has));
+  born = rw new.people (λ i h. absurd (false≢true h));
+  below = rw new.people (λ i h. absurd (omega arith));
+}

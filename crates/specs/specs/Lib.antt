@@ -4,5 +4,6 @@ pub mod Sets
 pub mod People
 pub mod State
 pub mod Reached
+pub mod Gone
 pub mod Refused
 pub mod Lending

@@ -1,9 +1,19 @@
 -- What holds of each state that a run reaches from a new world.
-use Rattle.std.specs.Prelude.{◌≡◌, ℕ, ◌<◌, true, List, Some, IsSome}
+use Rattle.std.specs.Prelude.{◌≡◌, ℕ, ◌<◌, true, List, Some, None, IsSome}
 use Rattle.hibits.specs.declared.limits.TheConstants.{INDEX_LIMIT}
-use Rattle.entities.specs.Population.{lives}
+use Rattle.entities.specs.Population.{lives, no_one}
 use Rattle.specs.specs.Maps.{Map}
+use Rattle.specs.specs.Table.{Table}
 use Rattle.specs.specs.State.{State}
+
+-- no slot has a value
+abbrev pub HasNoValue : {K V : Type 0} → Table K V → Type 0
+HasNoValue {K} {V} table = (slot : K) (m : Map V) (i : ℕ) → table slot ≡ Some m → m i ≡ None
+
+-- nobody was born yet, and no slot has a value
+pub record IsNew {K V : Type 0} (s : State K V) : Type 0 where
+  pub people : s.people ≡ no_one
+  pub values : HasNoValue s.table
 
 -- each index with a value lives, each that lives was born, and each that was born is below the limit
 pub record OnlyLiving {K V : Type 0} (s : State K V) : Type 0 where

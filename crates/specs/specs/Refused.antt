@@ -3,22 +3,22 @@ use Rattle.std.specs.Prelude.{◌≡◌, Bool, List}
 use Rattle.entities.specs.declared.entity.Entity.{Entity}
 use Rattle.entities.specs.Population.{Population, born_as}
 use Rattle.specs.specs.declared.world.DeleteError.{DeleteError}
-use Rattle.specs.specs.declared.world.DeleteError.TheVariants.{WrongGeneration as Wrong, OutOfMemory as NoMemory}
+use Rattle.specs.specs.declared.world.DeleteError.TheVariants.{WrongGeneration as NotDeleted, OutOfMemory as NoMemory}
 use Rattle.specs.specs.declared.command.Reply.{Reply}
 use Rattle.specs.specs.declared.command.Reply.TheVariants.{Entity as Told, Count, Refused}
 use Rattle.specs.specs.declared.command.Refusal.{Refusal}
-use Rattle.specs.specs.declared.command.Refusal.TheVariants.{WrongGeneration as Stale, IndexLimit, OutOfMemory}
+use Rattle.specs.specs.declared.command.Refusal.TheVariants.{WrongGeneration as Wrong, IndexLimit, OutOfMemory}
 use Rattle.specs.specs.People.{Births, IsFull, BirthWantsMemory, DeathIsRefused}
 use Rattle.specs.specs.Table.{Table, Counts, IsUnregistered}
 use Rattle.specs.specs.State.{State, OnPeople}
 
 abbrev pub DeleteIsRefused : Population → List Entity → DeleteError → Type 0
-DeleteIsRefused p es (Wrong w) = DeathIsRefused p es w
+DeleteIsRefused p es (NotDeleted w) = DeathIsRefused p es w
 DeleteIsRefused p es NoMemory = ⊥
 
 -- the same refusal, as a command tells it
 abbrev pub refusal_of : DeleteError → Refusal
-refusal_of (Wrong w) = Stale w
+refusal_of (NotDeleted w) = Wrong w
 refusal_of NoMemory = OutOfMemory
 
 -- a birth, at once or pending, with its reply

@@ -57,42 +57,43 @@ pub record Selects {K V : Type 0} (old : State K V) (x : SetExpr K) (indices : L
   pub registered : is_registered old.table x ≡ Bool.true
   pub members : indices ≡ left (is_member old.people old.table x) 0
 
--- One command, its reply, and the state after it. Want of memory is a reply that changes nothing.
-abbrev pub Step : {K V : Type 0} → (V → K) → State K V → Command K V → Reply V → State K V → Type 0
-Step place old (Register slot) Done new = OnTable (λ t t'. Registers t slot t') old new
-Step place old (Register slot) (Refused OutOfMemory) new = (old.table slot ≡ None) × (new ≡ old)
-Step place old Create (Told e) new = OnPeople (λ p p'. Births born p e p') old new
-Step place old Create (Refused IndexLimit) new = IsFull old.people × (new ≡ old)
-Step place old Create (Refused OutOfMemory) new = BirthWantsMemory old.people × (new ≡ old)
-Step place old CreatePending (Told e) new = OnPeople (λ p p'. Births born_pending p e p') old new
-Step place old CreatePending (Refused IndexLimit) new = IsFull old.people × (new ≡ old)
-Step place old CreatePending (Refused OutOfMemory) new = BirthWantsMemory old.people × (new ≡ old)
-Step place old (Delete es) Done new = Deletes es.items old new
-Step place old (Delete es) (Refused (Wrong w)) new = DeathIsRefused old.people es.items w × (new ≡ old)
-Step place old (MarkDead e) Done new = OnPeople (λ p p'. Marks p e p') old new
-Step place old (MarkDead e) (Refused (Wrong w)) new = MarkIsRefused old.people e w × (new ≡ old)
-Step place old (AskAlive e) (Yes b) new = (IsTrue b ↔ IsMerged old.people e) × (new ≡ old)
-Step place old (AskLiving e) (Yes b) new = (IsTrue b ↔ IsAlive old.people e) × (new ≡ old)
-Step place old (EntityAt i) (Told e) new = IsEntityAt old.people i e × (new ≡ old)
-Step place old (Insert e value) (Value before) new = OnTable (λ t t'. Inserts place old.people t e value before t') old new
-Step place old (Insert e value) (InsertRefused r back) new = InsertIsRefused place old.people old.table e value r × (back ≡ value) × (new ≡ old)
-Step place old (Get slot e) (Value found) new = Gets old.people old.table slot e found × (new ≡ old)
-Step place old (Get slot e) (Refused r) new = GetIsRefused old.people old.table slot e r × (new ≡ old)
-Step place old (Remove slot e) (Value found) new = OnTable (λ t t'. Removes old.people t slot e found t') old new
-Step place old (Remove slot e) (Refused r) new = IsUnregistered old.table slot r × (new ≡ old)
-Step place old (Clear slot) Done new = OnTable (λ t t'. Clears t slot t') old new
-Step place old (Clear slot) (Refused r) new = IsUnregistered old.table slot r × (new ≡ old)
-Step place old (AskCount slot) (Count n) new = Counts old.table slot n × (new ≡ old)
-Step place old (AskCount slot) (Refused r) new = IsUnregistered old.table slot r × (new ≡ old)
-Step place old (Select x) (Indices is) new = Selects old x is.items × (new ≡ old)
-Step place old (Select x) (Refused r) new = SelectIsRefused old.table x r × (new ≡ old)
-Step place old (Maintain limit) (Kept m) new = Maintains old m new
-Step place old (Maintain limit) (Refused OutOfMemory) new = (NoneMarked old.people → ⊥) × (new ≡ old)
-Step place old command reply new = ⊥
+-- One command, its reply, and the state after it, where `place` tells the slot of a value, and `allocates` of which slots a copy may take
+-- memory. Want of memory is a reply that changes nothing.
+abbrev pub Step : {K V : Type 0} → (V → K) → (K → Bool) → State K V → Command K V → Reply V → State K V → Type 0
+Step place allocates old (Register slot) Done new = OnTable (λ t t'. Registers t slot t') old new
+Step place allocates old (Register slot) (Refused OutOfMemory) new = (old.table slot ≡ None) × (new ≡ old)
+Step place allocates old Create (Told e) new = OnPeople (λ p p'. Births born p e p') old new
+Step place allocates old Create (Refused IndexLimit) new = IsFull old.people × (new ≡ old)
+Step place allocates old Create (Refused OutOfMemory) new = BirthWantsMemory old.people × (new ≡ old)
+Step place allocates old CreatePending (Told e) new = OnPeople (λ p p'. Births born_pending p e p') old new
+Step place allocates old CreatePending (Refused IndexLimit) new = IsFull old.people × (new ≡ old)
+Step place allocates old CreatePending (Refused OutOfMemory) new = BirthWantsMemory old.people × (new ≡ old)
+Step place allocates old (Delete es) Done new = Deletes es.items old new
+Step place allocates old (Delete es) (Refused (Wrong w)) new = DeathIsRefused old.people es.items w × (new ≡ old)
+Step place allocates old (MarkDead e) Done new = OnPeople (λ p p'. Marks p e p') old new
+Step place allocates old (MarkDead e) (Refused (Wrong w)) new = MarkIsRefused old.people e w × (new ≡ old)
+Step place allocates old (AskAlive e) (Yes b) new = (IsTrue b ↔ IsMerged old.people e) × (new ≡ old)
+Step place allocates old (AskLiving e) (Yes b) new = (IsTrue b ↔ IsAlive old.people e) × (new ≡ old)
+Step place allocates old (EntityAt i) (Told e) new = IsEntityAt old.people i e × (new ≡ old)
+Step place allocates old (Insert e value) (Value before) new = OnTable (λ t t'. Inserts place old.people t e value before t') old new
+Step place allocates old (Insert e value) (InsertRefused r back) new = InsertIsRefused place old.people old.table e value r × (back ≡ value) × (new ≡ old)
+Step place allocates old (Get slot e) (Value found) new = Gets old.people old.table slot e found × (new ≡ old)
+Step place allocates old (Get slot e) (Refused r) new = GetIsRefused allocates old.people old.table slot e r × (new ≡ old)
+Step place allocates old (Remove slot e) (Value found) new = OnTable (λ t t'. Removes old.people t slot e found t') old new
+Step place allocates old (Remove slot e) (Refused r) new = IsUnregistered old.table slot r × (new ≡ old)
+Step place allocates old (Clear slot) Done new = OnTable (λ t t'. Clears t slot t') old new
+Step place allocates old (Clear slot) (Refused r) new = IsUnregistered old.table slot r × (new ≡ old)
+Step place allocates old (AskCount slot) (Count n) new = Counts old.table slot n × (new ≡ old)
+Step place allocates old (AskCount slot) (Refused r) new = IsUnregistered old.table slot r × (new ≡ old)
+Step place allocates old (Select x) (Indices is) new = Selects old x is.items × (new ≡ old)
+Step place allocates old (Select x) (Refused r) new = SelectIsRefused old.table x r × (new ≡ old)
+Step place allocates old (Maintain limit) (Kept m) new = Maintains old m new
+Step place allocates old (Maintain limit) (Refused OutOfMemory) new = (NoneMarked old.people → ⊥) × (new ≡ old)
+Step place allocates old command reply new = ⊥
 
 -- one step after another
-abbrev pub Run : {K V : Type 0} → (V → K) → State K V → List (Command K V) → List (Reply V) → State K V → Type 0
-Run {K} {V} place old [] [] new = new ≡ old
-Run {K} {V} place old (command ∷ commands) (reply ∷ replies) new = (mid : State K V) × Step place old command reply mid × Run place mid commands replies new
-Run {K} {V} place old [] (reply ∷ replies) new = ⊥
-Run {K} {V} place old (command ∷ commands) [] new = ⊥
+abbrev pub Run : {K V : Type 0} → (V → K) → (K → Bool) → State K V → List (Command K V) → List (Reply V) → State K V → Type 0
+Run {K} {V} place allocates old [] [] new = new ≡ old
+Run {K} {V} place allocates old (command ∷ commands) (reply ∷ replies) new = (mid : State K V) × Step place allocates old command reply mid × Run place allocates mid commands replies new
+Run {K} {V} place allocates old [] (reply ∷ replies) new = ⊥
+Run {K} {V} place allocates old (command ∷ commands) [] new = ⊥

@@ -1,5 +1,5 @@
 -- Component tables: for each slot a map from indices to values, or nothing where the slot is not registered.
-use Rattle.std.specs.Prelude.{◌≡◌, ◌≢◌, ℕ, Bool, false, List, Option, Some, None, IsSome, MatchOption, length}
+use Rattle.std.specs.Prelude.{◌≡◌, ◌≢◌, ℕ, Bool, false, List, Option, Some, None, IsSome, IsTrue, MatchOption, length}
 use Rattle.std.specs.FinSet as set
 use Rattle.hibits.specs.Sets.{Layered}
 use Rattle.hibits.specs.Left.{left}
@@ -56,18 +56,18 @@ pub record Gets {K V : Type 0} (p : Population) (table : Table K V) (slot : K) (
   pub alive : IsAlive p e → found ≡ map (index_of e)
   pub dead : (IsAlive p e → ⊥) → found ≡ None
 
--- a copy may want memory where there is a value
+-- a copy may want memory only where there is a value
 pub record CopyWantsMemory {V : Type 0} (p : Population) (map : Option (Map V)) (e : Entity) : Type 0 where
   pub values : Map V
   pub registered : map ≡ Some values
   pub alive : IsAlive p e
   pub present : IsSome (values (index_of e))
 
-abbrev pub GetIsRefused : {K V : Type 0} → Population → Table K V → K → Entity → Refusal → Type 0
-GetIsRefused p table slot e (Wrong w) = ⊥
-GetIsRefused p table slot e Unregistered = table slot ≡ None
-GetIsRefused p table slot e IndexLimit = ⊥
-GetIsRefused p table slot e OutOfMemory = CopyWantsMemory p (table slot) e
+abbrev pub GetIsRefused : {K V : Type 0} → (K → Bool) → Population → Table K V → K → Entity → Refusal → Type 0
+GetIsRefused allocates p table slot e (Wrong w) = ⊥
+GetIsRefused allocates p table slot e Unregistered = table slot ≡ None
+GetIsRefused allocates p table slot e IndexLimit = ⊥
+GetIsRefused allocates p table slot e OutOfMemory = IsTrue (allocates slot) × CopyWantsMemory p (table slot) e
 
 pub record Removes {K V : Type 0} (p : Population) (old : Table K V) (slot : K) (e : Entity) (found : Option V) (new : Table K V) : Type 0 where
   pub map : Map V

@@ -8,9 +8,13 @@ pub enum SetExpr<K> {
     Slot(K),
     /// The indices of the living entities, those of pending births among them.
     Living,
+    /// The indices of both sets.
     And(Box<SetExpr<K>>, Box<SetExpr<K>>),
+    /// The indices of either set.
     Or(Box<SetExpr<K>>, Box<SetExpr<K>>),
+    /// The indices of one set and not of the other.
     Xor(Box<SetExpr<K>>, Box<SetExpr<K>>),
+    /// The indices below the limit that are not of the set.
     Not(Box<SetExpr<K>>),
 }
 
@@ -33,8 +37,11 @@ pub enum Command<K, V> {
     IsLiving(Entity),
     /// Asks for the entity of an index, as it is or as it would first be born.
     EntityAt(Index),
+    /// Puts a value at an entity that is alive, in the value's slot.
     Insert(Entity, V),
+    /// Asks for a copy of the value of an entity in a slot.
     Get(K, Entity),
+    /// Takes the value of an entity out of a slot.
     Remove(K, Entity),
     /// Removes every value of a slot.
     Clear(K),
@@ -49,12 +56,19 @@ pub enum Command<K, V> {
 /// The answer to a command.
 #[derive(Debug, Drop)]
 pub enum Reply<V> {
+    /// A registration, a deletion, a mark or a clearing was done.
     Done,
+    /// The entity that was born, or that an index has.
     Entity(Entity),
+    /// Whether the entity is alive, as it was asked.
     Bool(bool),
+    /// The value before an insertion, the value that was read, or the one that was removed, if there was one.
     Value(Option<V>),
+    /// How many values the slot has.
     Count(usize),
+    /// The members of the set, ascending.
     Indices(Vec<Index>),
+    /// What a `Maintain` did.
     Maintained(Maintained),
     /// The command was refused, and changed nothing.
     Refused(Refusal),

@@ -10,6 +10,6 @@ pub use command::{Command, Maintained, Refusal, Reply, SetExpr};
 pub use entities::{
     Allocator, CreateError, EntitiesRes, Entity, Error, Generation, Index, WrongGeneration,
 };
-pub use laws::only_living;
+pub use laws::{only_living, stays_dead};
 pub use slots::Storages;
 pub use world::{DeleteError, World};

@@ -1,5 +1,5 @@
 //! What a world asks of a struct of storages.
-ghost use Rattle.std.specs.Prelude.{◌≡◌, ℕ, Option, None, IfOk, OnOk, IfErr, OnErr, IsTrue, ◌↔◌, IsSome, MatchOption};
+ghost use Rattle.std.specs.Prelude.{◌≡◌, ℕ, Bool, Option, None, IfOk, OnOk, IfErr, OnErr, IsTrue, ◌↔◌, IsSome, MatchOption};
 ghost use Rattle.std.specs.Option.{option_map};
 ghost use Rattle.entities.specs.Census.{population};
 ghost use Rattle.specs.specs.Maps.{without};
@@ -23,6 +23,9 @@ pub trait Storages {
 
     /// The slot of a value.
     ghost place: { Self.Value → Self.Slot };
+
+    /// Whether a copy of a value of the slot may take memory.
+    ghost allocates: { Self.Slot → Bool };
 
     /// The slot of a value.
     fn slot_of(value: &Self::Value) -> Self::Slot
@@ -62,7 +65,7 @@ pub trait Storages {
         e: Entity,
     ) -> Result<Option<Self::Value>, Refusal>
         ensures ok { IfOk result (λ found. Gets (population entities.now) (table self.now) slot e found) }
-        ensures refused { IfErr result (GetIsRefused (population entities.now) (table self.now) slot e) };
+        ensures refused { IfErr result (GetIsRefused allocates (population entities.now) (table self.now) slot e) };
 
     /// Removes the value of an entity and answers it, or none where the entity is not alive.
     fn remove(

@@ -1,11 +1,15 @@
 //! The world.
 ghost use Rattle.std.specs.Prelude.{◌≡◌, ℕ, true, ◌∷◌, [], IsTrue, ◌↔◌, IfOk, IfErr, IsOk, OnOk, OnErr, MatchResult};
 ghost use Rattle.std.specs.Borrow.{sem};
+ghost use Rattle.std.specs.List.{All};
 ghost use Rattle.hibits.specs.MaskExprs.{expr_has};
 ghost use Rattle.hibits.specs.Sets.{has_part};
 ghost use Rattle.entities.specs.Census.{population};
+ghost use Rattle.entities.specs.declared.entity.Entity.{Entity as AnEntity};
 ghost use Rattle.entities.specs.Population.{no_one, born, born_pending, IsMerged};
+ghost use Rattle.specs.specs.Gone.{IsGone};
 ghost use Rattle.specs.specs.People.{NoneMarked};
+ghost use Rattle.specs.specs.Reached.{HasNoValue, IsNew, OnlyLiving};
 ghost use Rattle.specs.specs.Sets.{is_member, is_registered, SelectIsRefused};
 ghost use Rattle.specs.specs.State.{state_of, Deletes, Maintains, Selects, Step, Run};
 ghost use Rattle.specs.specs.Refused.{DeleteIsRefused, BirthStep, CountStep};
@@ -49,9 +53,12 @@ pub struct World<S> {
 
 impl<S: Storages> World<S> {
     /// A world without entities, over storages that are empty or not registered.
+    #[tactic(auto, using(crate::proofs::Living::begins))]
     pub fn new(alloc: Global, storages: S) -> Self
         ensures people { (state_of S.table result).people ≡ no_one }
         ensures table { (state_of S.table result).table ≡ S.table storages }
+        ensures begins { HasNoValue (S.table storages) → IsNew (state_of S.table result) }
+        ensures living { HasNoValue (S.table storages) → OnlyLiving (state_of S.table result) }
     {
         World {
             entities: EntitiesRes::new(alloc),
@@ -83,8 +90,10 @@ impl<S: Storages> World<S> {
     }
 
     /// The death at once of an entity, with its components. Ports `WorldExt::delete_entity`.
+    #[tactic(auto, using(crate::proofs::Gone::gone_deleted_one))]
     pub fn delete_entity(&mut self, e: Entity) -> Result<(), DeleteError>
         ensures ok { OnOk result (Deletes (e ∷ []) (state_of S.table self.old) (state_of S.table self.new)) }
+        ensures gone { OnOk result (IsGone (state_of S.table self.new).people e) }
         ensures refused { IfErr result (DeleteIsRefused (state_of S.table self.old).people (e ∷ [])) }
         ensures err { OnErr result (state_of S.table self.new ≡ state_of S.table self.old) }
     {
@@ -95,6 +104,7 @@ impl<S: Storages> World<S> {
     /// list, and no memory. Ports `WorldExt::delete_entities`.
     pub fn delete_entities(&mut self, list: &[Entity]) -> Result<(), DeleteError>
         ensures ok { OnOk result (Deletes list.now (state_of S.table self.old) (state_of S.table self.new)) }
+        ensures gone { OnOk result (All (IsGone (state_of S.table self.new).people) list.now) }
         ensures refused { IfErr result (DeleteIsRefused (state_of S.table self.old).people list.now) }
         ensures err { OnErr result (state_of S.table self.new ≡ state_of S.table self.old) }
     {
@@ -111,6 +121,7 @@ impl<S: Storages> World<S> {
     /// jobs to be done, of which there are none yet. Ports `WorldExt::maintain`.
     pub fn maintain(&mut self, _limit: u64) -> Result<Maintained, AllocError>
         ensures ok { IfOk result (λ m. Maintains (state_of S.table self.old) m (state_of S.table self.new)) }
+        ensures gone { IfOk result (λ m. All (IsGone (state_of S.table self.new).people) m.deleted.items) }
         ensures idle { NoneMarked (state_of S.table self.old).people → IsOk result }
         ensures err { OnErr result (state_of S.table self.new ≡ state_of S.table self.old) }
     {
@@ -145,7 +156,7 @@ impl<S: Storages> World<S> {
 
     /// Does one command.
     pub fn apply(&mut self, command: Command<S::Slot, S::Value>) -> Reply<S::Value>
-        ensures { Step S.place (state_of S.table self.old) command result (state_of S.table self.new) }
+        ensures { Step S.place S.allocates (state_of S.table self.old) command result (state_of S.table self.new) }
     {
         match command {
             Command::Register(slot) => match self.storages.register(self.alloc, slot) {
@@ -280,8 +291,12 @@ impl<S: Storages> World<S> {
         &mut self,
         commands: Vec<Command<S::Slot, S::Value>>,
     ) -> Result<Vec<Reply<S::Value>>, AllocError>
-        ensures run { IfOk result (λ replies. Run S.place (state_of S.table self.old) commands.items replies.items (state_of S.table self.new)) }
+        ensures run { IfOk result (λ replies. Run S.place S.allocates (state_of S.table self.old) commands.items replies.items (state_of S.table self.new)) }
         ensures err { OnErr result (state_of S.table self.new ≡ state_of S.table self.old) }
+
+        // The laws of runs, as this run kept them.
+        ensures living { OnlyLiving (state_of S.table self.old) → OnlyLiving (state_of S.table self.new) }
+        ensures gone { (e : AnEntity) → IsGone (state_of S.table self.old).people e → IsGone (state_of S.table self.new).people e }
     {
         let mut replies = Vec::with_capacity(self.alloc, commands.len())?;
         for command in commands {

@@ -39,10 +39,19 @@ fn run_lines<R: Read + Drop, O: Write + Drop>(
 ) -> io::Result<Option<u64>> {
     let mut reader = BufReader::new(alloc, input)?;
     let mut writer = BufWriter::new(alloc, output)?;
-    let mut world = World::new(alloc, Slots::new());
-    let unreadable = answer_lines(alloc, &mut world, &mut reader, &mut writer)?;
+    let unreadable = answer_by_new_world(alloc, &mut reader, &mut writer)?;
     writer.flush()?;
     Ok(unreadable)
+}
+
+/// Answers the lines by a new world.
+fn answer_by_new_world<R: Read, O: Write + Drop>(
+    alloc: Global,
+    reader: &mut BufReader<R>,
+    writer: &mut BufWriter<O>,
+) -> io::Result<Option<u64>> {
+    let mut world = World::new(alloc, Slots::new());
+    answer_lines(alloc, &mut world, reader, writer)
 }
 
 /// Answers the lines up to the end of the input, or up to one that can't be read, whose number is told.

@@ -1,4 +1,5 @@
 use Rattle.std.proofs.Common.{ap, ◌∙◌, arith}
+use Rattle.hibits.proofs.MemberLemmas.{has_none}
 use Rattle.hibits.proofs.RowLemmas.{sound_zeros, zero_members, same_rooms}
 use Rattle.hibits.proofs.bit_set.BitSet.clear.Goals as goal
 
@@ -12,3 +13,6 @@ returns-clause-members c = zero_members _ c.wipe.ensures.zero
 
 pub returns-clause-room : goal.returns-clause-room
 returns-clause-room c = same_rooms _ _ c.wipe.ensures.len ∙ ap (λ s. s.room) c.self.view_is
+
+pub returns-clause-none : goal.returns-clause-none
+returns-clause-none c = has_none _ (zero_members _ c.wipe.ensures.zero)

@@ -1,4 +1,5 @@
 use Rattle.std.proofs.Common.{ap, ◌∙◌, refl}
+use Rattle.hibits.proofs.MemberLemmas.{has_none}
 use Rattle.hibits.proofs.RowLemmas.{sound_empty, zero_members, empty_rooms}
 use Rattle.hibits.specs.Rows.{members_of, rooms_of}
 use Rattle.hibits.proofs.bit_set.BitSet.new.Goals as goal
@@ -11,3 +12,6 @@ returns-clause-members c = ap members_of c.new.ensures.items ∙ zero_members _ 
 
 pub returns-clause-room : goal.returns-clause-room
 returns-clause-room c = ap rooms_of c.new.ensures.items ∙ empty_rooms
+
+pub returns-clause-none : goal.returns-clause-none
+returns-clause-none c = has_none _ (ap members_of c.new.ensures.items ∙ zero_members _ (λ k. refl))

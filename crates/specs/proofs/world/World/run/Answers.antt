@@ -3,6 +3,8 @@ use Rattle.std.proofs.lemmas.List.{length_push, nil_from_length}
 use Rattle.std.specs.Vec.{vec_len, vec_capacity}
 use Rattle.std.specs.Vec.Iter.{into_iter_items}
 use Rattle.specs.specs.State.{state_of, Run}
+use Rattle.specs.proofs.Gone.{gone_run}
+use Rattle.specs.proofs.Living.{keeps_run}
 use Rattle.specs.proofs.Runs.{run_more, taken_front}
 use Rattle.specs.proofs.world.World.run.Goals as goal
 
@@ -18,16 +20,26 @@ loop-command-preserved g c =
     let less : vec_len c.loop-command.replies < vec_capacity c.loop-command.replies = omega (arith, len, ap length (sym all ∙ front), ap length next, length-append c.loop-command.yielded (into_iter_items c.loop-command.command-iterator), inv.count, inv.room) in
     let pushed : c.push.new.self.items ≡ c.loop-command.replies.items ++ c.apply-reply.result ∷ [] = rw (c.push.ensures.succeeds less) at c.push.ensures.items in
     record {
-      done = rw pushed (run_more g.S.Storages.place (state c.args.self.now) (state c.loop-command.self) (state c.apply-reply.new.self) c.loop-command.yielded c.loop-command.replies.items c.in-Some.command c.apply-reply.result inv.done c.apply-reply.ensures);
+      done = rw pushed (run_more g.S.Storages.place g.S.Storages.allocates (state c.args.self.now) (state c.loop-command.self) (state c.apply-reply.new.self) c.loop-command.yielded c.loop-command.replies.items c.in-Some.command c.apply-reply.result inv.done c.apply-reply.ensures);
       count = rw pushed (omega (arith, length_push c.loop-command.replies.items c.apply-reply.result, length_push c.loop-command.yielded c.in-Some.command, inv.count));
       room = omega (arith, inv.room, c.push.ensures.capacity);
     }
 
-pub returns-clause-run : goal.returns-clause-run
-returns-clause-run g c =
+-- the commands that were given are all of them
+whole_run : goal.returns-clause-run
+whole_run g c =
     let s = c.into_iter-command-iterator.result in
     let front = taken_front s c.loop-command.yielded c.loop-command.command-iterator c.loop-command.yielded_by in
     let none : into_iter_items c.loop-command.command-iterator ≡ [] = nil_from_length _ (omega (arith, c.in-None.ensures.steps.0)) in
     let all : into_iter_items s ≡ c.args.commands.items = c.into_iter-command-iterator.ensures.into_iter_gives.0 in
     let whole : c.loop-command.yielded ≡ c.args.commands.items = sym (append-nil c.loop-command.yielded) ∙ ap (λ xs. c.loop-command.yielded ++ xs) (sym none) ∙ sym front ∙ all in
     rw (← whole) c.loop-command.invariant.done
+
+pub returns-clause-run : goal.returns-clause-run
+returns-clause-run g c = whole_run g c
+
+pub returns-clause-living : goal.returns-clause-living
+returns-clause-living g c = keeps_run g.S.Storages.place g.S.Storages.allocates c.args.commands.items _ _ _ (whole_run g c)
+
+pub returns-clause-gone : goal.returns-clause-gone
+returns-clause-gone g c = λ e. gone_run g.S.Storages.place g.S.Storages.allocates c.args.commands.items _ _ _ e (whole_run g c)

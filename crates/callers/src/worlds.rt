@@ -1,0 +1,56 @@
+//! Worlds.
+ghost use Rattle.std.specs.Prelude.{◌≡◌, Some, None, true, IfOk};
+ghost use Rattle.slots.specs.Tables.{table_of};
+ghost use Rattle.specs.specs.Gone.{IsGone};
+ghost use Rattle.specs.specs.Reached.{OnlyLiving};
+ghost use Rattle.specs.specs.State.{state_of};
+
+use slots::{Slot, Slots, Value};
+use specs::{Command, DeleteError, Entity, Refusal, Reply, Storages, World};
+use std::alloc::{AllocError, Global};
+
+/// Whatever a new world is asked to do, each component belongs to a living entity.
+pub fn lived(
+    alloc: Global,
+    commands: Vec<Command<Slot, Value>>,
+) -> Result<World<Slots>, AllocError>
+    ensures { IfOk result (λ world. OnlyLiving (state_of table_of world)) }
+{
+    let mut world = World::new(alloc, Slots::new());
+    let _replies = world.run(commands)?;
+    Ok(world)
+}
+
+/// A deleted entity is not alive, and has no component.
+pub fn deleted_is_gone<S: Storages>(
+    world: &mut World<S>,
+    slot: S::Slot,
+    e: Entity,
+) -> Result<(bool, Option<S::Value>), DeleteError>
+    ensures alive { IfOk result (λ r. r.0 ≡ true → ⊥) }
+    ensures found { IfOk result (λ r. r.1 ≡ None) }
+{
+    world.delete_entity(e)?;
+    let alive = world.is_alive(e);
+    match world.apply(Command::Get(slot, e)) {
+        Reply::Value(found) => Ok((alive, found)),
+        _ => Ok((alive, None)),
+    }
+}
+
+/// Whether an entity that is gone is alive. It never is.
+pub fn is_back<S: Storages>(world: &World<S>, e: Entity) -> bool
+    requires { IsGone (state_of S.table world.now).people e }
+    ensures { result ≡ true → ⊥ }
+{
+    world.is_alive(e)
+}
+
+/// A component of a slot of the program. It is read without memory.
+pub fn component(world: &mut World<Slots>, slot: Slot, e: Entity) -> Option<Value> {
+    match world.apply(Command::Get(slot, e)) {
+        Reply::Value(found) => found,
+        Reply::Refused(Refusal::Unregistered) => None,
+        _ => unreachable!(),
+    }
+}
