@@ -1,13 +1,14 @@
 //! Values that were added to entities, until someone applies them.
-ghost use Rattle.std.specs.Prelude.{◌≡◌, ◌↔◌, ◌≤◌, ◌^◌, None, Err, IsSome, OnOk, OnErr, IfOk, IfErr};
+ghost use Rattle.std.specs.Prelude.{◌≡◌, ◌↔◌, ◌≤◌, ◌^◌, ℕ, None, Err, option_copied, IsSome, OnOk, OnErr, IfOk, IfErr};
 ghost use Rattle.std.specs.FinMap as map;
+ghost use Rattle.std.specs.FinSet as set;
 ghost use Rattle.entities.specs.Population.{index_of};
 ghost use Rattle.storages.specs.Limit.{IsIndex};
 ghost use Rattle.joins.specs.Changes.{with_change, all_changed, StopsIn, value_at};
 
 use crate::combine::Combine;
 use entities::Entity;
-use hibits::{INDEX_LIMIT, Index};
+use hibits::{BitSet, INDEX_LIMIT, Index};
 use std::alloc::{AllocError, Global};
 use std::marker::Model;
 use storages::{Component, DenseVecStorage, MaskedStorage};
@@ -130,6 +131,25 @@ impl<T: Combine + Drop> ChangeSet<T> {
         let mut changes = ChangeSet::new(alloc);
         changes.extend(list)?;
         Ok(changes)
+    }
+
+    /// The indices that have a value.
+    #[inline(always)]
+    pub fn mask(&self) -> &BitSet
+        ensures { (q : ℕ) → set.contains result.now.members q ≡ map.contains_key self.now q }
+    {
+        self.changes.mask()
+    }
+
+    /// The value of an index.
+    #[inline(always)]
+    pub fn get(&self, id: Index) -> Option<&T>
+        ensures { option_copied result ≡ map.get self.now id }
+    {
+        match self.changes.get(id) {
+            Some(change) => Some(&change.value),
+            None => None,
+        }
     }
 
     /// Takes every value out.

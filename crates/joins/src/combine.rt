@@ -19,3 +19,21 @@ pub trait Combine: Sized {
         ensures err { OnErr result (self.new ≡ self.old) }
         ensures refused { OnErr result (may_refuse self.old other) };
 }
+
+/// The sum, refused where it does not fit.
+impl Combine for i32 {
+    ghost use Rattle.std.specs.Prelude.{◌+ℤ◌, FitsSigned};
+    ghost use Rattle.std.specs.Int.{w32};
+
+    ghost combined = { λ a b. a +ℤ b };
+
+    ghost may_refuse = { λ a b. ¬ (FitsSigned w32 (a +ℤ b)) };
+
+    fn combine(&mut self, other: i32) -> Result<(), Refused> {
+        let Some(sum) = self.checked_add(other) else {
+            return Err(Refused);
+        };
+        *self = sum;
+        Ok(())
+    }
+}
