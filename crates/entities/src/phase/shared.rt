@@ -92,8 +92,9 @@ impl<'a> Opened<'a, Board> {
         }
     }
 
-    /// Marks an entity that lives, as `is_alive` finds it, by one atomic "or": it dies at the next merge after the phase. Any other is
-    /// refused, with the generation that its index had at the opening.
+    /// Marks an entity that lives, as `is_alive` finds it, by an atomic "or": it dies at the next merge after the phase. Any other is refused,
+    /// with the generation that its index had at the opening. An "or" is built as a load and a compare-and-exchange, which repeats where
+    /// another thread wrote between them.
     #[inline]
     pub fn delete(&self, pass: &mut Pass, entity: Entity) -> Result<(), WrongGeneration>
         requires open { IsOpen (entities_of self.now) (board_of self.now) }
