@@ -234,6 +234,7 @@ fn test_places<T: Number>(masked: &mut MaskedStorage<T>) -> bool {
         && masked.get_mut_or_default(9).is_ok()
         && masked.get_mut_or_default(4).is_ok()
         && take_out(masked, 4) == Some(0)
+        && !masked.contains(4)
         && masked.insert_mut(4, T::of(50)).is_ok()
         && masked.drop(9).is_ok()
         && masked.drop(9).is_ok()
