@@ -10,10 +10,7 @@ use specs::{Command, DeleteError, Entity, Refusal, Reply, Storages, World};
 use std::alloc::{AllocError, Global};
 
 /// Whatever a new world is asked to do, each component belongs to a living entity.
-pub fn lived(
-    alloc: Global,
-    commands: Vec<Command<Slot, Value>>,
-) -> Result<World<Slots>, AllocError>
+pub fn lived(alloc: Global, commands: Vec<Command<Slot, Value>>) -> Result<World<Slots>, AllocError>
     ensures { IfOk result (λ world. OnlyLiving (state_of table_of world)) }
 {
     let mut world = World::new(alloc, Slots::new());

@@ -17,11 +17,7 @@ pub fn is_gone(world: &World<Slots>, e: Entity) -> bool
 
 /// A phase of one entity and one pass over the entities of a world, which marks an entity. It answers the entity that the pass was given,
 /// whose birth is pending, if it was given one and the mark was made.
-pub fn born_in_a_phase(
-    alloc: Global,
-    world: &mut World<Slots>,
-    doomed: Entity,
-) -> Option<Entity> {
+pub fn born_in_a_phase(alloc: Global, world: &mut World<Slots>, doomed: Entity) -> Option<Entity> {
     let mut given = None;
     if let Ok((shared, mut passes)) = world.parts().open(alloc, 1, 1) {
         if let Some(mut pass) = passes.pop() {

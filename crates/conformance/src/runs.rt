@@ -32,7 +32,11 @@ pub fn assert_runs<R: Abort>(
     faults: &str,
 ) {
     let outcome = run(alloc, script.as_bytes());
-    assert_eq!(rt; outcome.written.as_slice(), output.as_bytes(), "of {script}");
+    assert_eq!(rt;
+        outcome.written.as_slice(),
+        output.as_bytes(),
+        "of {script}"
+    );
     assert_eq!(rt; outcome.told.as_slice(), faults.as_bytes(), "of {script}");
     assert_eq!(rt; outcome.status, status, "of {script}");
 }

@@ -84,7 +84,12 @@ fn the_living_are_merged_and_pending(rt: HostRuntime) -> Result<(), Fail> {
     let world = three(rt.alloc())?;
     assert!(rt; selects(&world, &SetExpr::Living, &[0, 1, 2]));
     assert!(rt; selects(&world, &SetExpr::Slot(Slot::Pos), &[0]));
-    assert!(rt; matches!(world.select(&SetExpr::Slot(Slot::Link)), Err(Refusal::Unregistered)));
+    assert!(rt;
+        matches!(
+            world.select(&SetExpr::Slot(Slot::Link)),
+            Err(Refusal::Unregistered)
+        )
+    );
     Ok(())
 }
 

@@ -33,11 +33,11 @@ gone_kept p q e grows was =
     elim (grows (index_of e)) [
       | inl more ↦
           gone q e (record { number = given.number; generation = given.generation; reached = omega arith })
-            (λ a. let same = ap nat_abs (sym given.generation ∙ a.1) in omega arith)
+          (λ a. let same = ap nat_abs (sym given.generation ∙ a.1) in omega arith)
       | inr same ↦
           let births = same.0 in
           gone q e (record { number = given.number; generation = given.generation; reached = omega arith })
-            (λ a. was.dead (same.1 a.0, a.1 ∙ ap pos births))
+          (λ a. was.dead (same.1 a.0, a.1 ∙ ap pos births))
     ]
 
 born_grows : (p : Population) (i : ℕ) → Grows p (born p i)
@@ -91,7 +91,7 @@ gone_deleted p q es dies k d lt =
     let at = All-contains_itself es k d lt in
     let listed : has_index es (index_of e) ≡ true = list_any-from_Any (λ x. x.0 == e.0) es (at.0, e, at.1, at.2, eq-eqb e.0 e.0 refl) in
     rw dies.dead (gone (all_dead es p) e (record { number = p.births e.0; generation = alive.1; reached = omega arith })
-      (λ a. off (p.merged e.0) (p.pending e.0) (has_index es e.0) listed a.0))
+    (λ a. off (p.merged e.0) (p.pending e.0) (has_index es e.0) listed a.0))
 
 -- the same of one entity
 pub gone_deleted_one : (p q : Population) (e : Entity) → Deaths p (e ∷ []) q → IsGone q e
@@ -108,7 +108,7 @@ gone_merged p q is = rw is (All-map (IsGone (merge p)) (living_entity p) (left p
     let i = slice_index_or (left p.marked 0) k d in
     let marked : p.marked i ≡ true = (contains-left p.marked 0 i (All-contains_itself (left p.marked 0) k d lt)).2 in
     gone (merge p) (living_entity p i) (record { number = p.births i; generation = refl; reached = omega arith })
-      (λ a. unmarked (lives p i) (p.marked i) marked a.0)))
+    (λ a. unmarked (lives p i) (p.marked i) marked a.0)))
 
 keeps_step : {K V : Type 0} (place : V → K) (allocates : K → Bool) (old : State K V) (c : Command K V) (r : Reply V) (new : State K V) (e : Entity) → Step place allocates old c r new → IsGone old.people e → IsGone new.people e
 keeps_step place allocates old (Register slot) Done new e s w = by old new e old.people s.people (same_grows old.people) w

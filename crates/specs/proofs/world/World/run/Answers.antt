@@ -25,9 +25,8 @@ loop-command-preserved g c =
       room = omega (arith, inv.room, c.push.ensures.capacity);
     }
 
--- the commands that were given are all of them
-whole_run : goal.returns-clause-run
-whole_run g c =
+pub returns-clause-run : goal.returns-clause-run
+returns-clause-run g c =
     let s = c.into_iter-command-iterator.result in
     let front = taken_front s c.loop-command.yielded c.loop-command.command-iterator c.loop-command.yielded_by in
     let none : into_iter_items c.loop-command.command-iterator ≡ [] = nil_from_length _ (omega (arith, c.in-None.ensures.steps.0)) in
@@ -35,11 +34,8 @@ whole_run g c =
     let whole : c.loop-command.yielded ≡ c.args.commands.items = sym (append-nil c.loop-command.yielded) ∙ ap (λ xs. c.loop-command.yielded ++ xs) (sym none) ∙ sym front ∙ all in
     rw (← whole) c.loop-command.invariant.done
 
-pub returns-clause-run : goal.returns-clause-run
-returns-clause-run g c = whole_run g c
-
 pub returns-clause-living : goal.returns-clause-living
-returns-clause-living g c = keeps_run g.S.Storages.place g.S.Storages.allocates c.args.commands.items _ _ _ (whole_run g c)
+returns-clause-living g c = keeps_run g.S.Storages.place g.S.Storages.allocates c.args.commands.items _ _ _ (returns-clause-run g c)
 
 pub returns-clause-gone : goal.returns-clause-gone
-returns-clause-gone g c = λ e. gone_run g.S.Storages.place g.S.Storages.allocates c.args.commands.items _ _ _ e (whole_run g c)
+returns-clause-gone g c = λ e. gone_run g.S.Storages.place g.S.Storages.allocates c.args.commands.items _ _ _ e (returns-clause-run g c)
