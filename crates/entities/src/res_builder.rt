@@ -1,8 +1,7 @@
 //! A builder of one entity.
 ghost use Rattle.std.specs.Prelude.{◌≡◌, IfOk};
 ghost use Rattle.std.specs.Borrow.{sem};
-ghost use Rattle.entities.specs.Lending.{KeptRests, err_of};
-ghost use Rattle.entities.specs.Population.{MarkedIfAlive};
+ghost use Rattle.entities.specs.Population.{IsAlive, MarkedIfAlive};
 ghost use Rattle.entities.specs.Census.{population};
 
 use crate::entities_res::EntitiesRes;
@@ -14,14 +13,16 @@ use crate::entity::Entity;
 pub struct EntityResBuilder<'a> {
     pub(crate) entities: &'a mut EntitiesRes,
     pub(crate) entity: Entity,
+    ghost lives: { IsAlive (population entities.now) entity },
 }
 
 impl<'a> EntityResBuilder<'a> {
-    ghost use Rattle.entities.specs.Lending.{lent_to_builder, entity_built};
+    ghost use Rattle.entities.specs.Lending.{lent_to_builder, entity_built, KeptRests, err_of};
 
-    /// The entity being built.
+    /// The entity being built. It lives.
     pub fn entity(&self) -> Entity
-        ensures { result ≡ entity_built self.now }
+        ensures entity { result ≡ entity_built self.now }
+        ensures alive { IsAlive (population (lent_to_builder self.now).now) (entity_built self.now) }
     {
         self.entity
     }
