@@ -1,7 +1,8 @@
 //! A builder of one entity.
-ghost use Rattle.std.specs.Prelude.{◌≡◌, IfOk};
+ghost use Rattle.std.specs.Prelude.{◌≡◌, ◌<◌, IfOk};
+ghost use Rattle.hibits.specs.declared.limits.TheConstants.{INDEX_LIMIT};
 ghost use Rattle.std.specs.Borrow.{sem};
-ghost use Rattle.entities.specs.Population.{IsAlive, MarkedIfAlive};
+ghost use Rattle.entities.specs.Population.{IsAlive, MarkedIfAlive, index_of};
 ghost use Rattle.entities.specs.Census.{population};
 
 use crate::entities_res::EntitiesRes;
@@ -14,6 +15,7 @@ pub struct EntityResBuilder<'a> {
     pub(crate) entities: &'a mut EntitiesRes,
     pub(crate) entity: Entity,
     ghost lives: { IsAlive (population entities.now) entity },
+    ghost below: { index_of entity < INDEX_LIMIT },
 }
 
 impl<'a> EntityResBuilder<'a> {
@@ -23,6 +25,7 @@ impl<'a> EntityResBuilder<'a> {
     pub fn entity(&self) -> Entity
         ensures entity { result ≡ entity_built self.now }
         ensures alive { IsAlive (population (lent_to_builder self.now).now) (entity_built self.now) }
+        ensures below { index_of (entity_built self.now) < INDEX_LIMIT }
     {
         self.entity
     }

@@ -26,3 +26,4 @@ pub mod WriteView
 pub mod Generic
 pub mod Replaced
 pub mod Entry
+pub mod Building

@@ -1,21 +1,18 @@
 //! Components for an entity that is being built.
 ghost use Rattle.std.specs.Prelude.{◌≡◌, IfOk, IfErr, OnOk, OnErr, cond, is_some};
+ghost use Rattle.std.specs.Borrow.{sem};
 ghost use Rattle.std.specs.FinMap as map;
-ghost use Rattle.entities.specs.Census.{population};
-ghost use Rattle.entities.specs.Lending.{lent_to_builder, entity_built};
-ghost use Rattle.entities.specs.Population.{generation_now, index_of, MarkedIfAlive};
+ghost use Rattle.entities.specs.Lending.{lent_to_builder, entity_built, KeptRests};
+ghost use Rattle.entities.specs.Population.{index_of};
 ghost use Rattle.storages.specs.declared.event.ComponentEvent.TheVariants.{Inserted, Modified};
 ghost use Rattle.storages.specs.declared.event.ComponentEvent.{ComponentEvent};
-ghost use Rattle.storages.specs.Found.{found_in};
-ghost use Rattle.storages.specs.Life.{is_alive};
-ghost use Rattle.storages.specs.WriteView.{IsInsertError};
-ghost use Rattle.storages.specs.Slot.{IsSame, Becomes};
+ghost use Rattle.storages.specs.Building.{Completes};
+ghost use Rattle.storages.specs.Slot.{IsSame};
 
-use crate::event::ComponentEvent;
 use crate::masked::MaskedStorage;
 use crate::unprotected::Component;
-use crate::write_storage::{INSERT, InsertError, WriteStorage};
 use entities::EntityResBuilder;
+use std::alloc::AllocError;
 
 /// Puts a component at the entity that a builder builds.
 pub trait WithComponent: Sized {
@@ -27,7 +24,7 @@ pub trait WithComponent: Sized {
         self,
         masked: &mut MaskedStorage<T>,
         component: T,
-    ) -> Result<Self, InsertError<T>>;
+    ) -> Result<Self, (AllocError, T)>;
 }
 
 impl<'a> WithComponent for EntityResBuilder<'a> {
@@ -35,20 +32,17 @@ impl<'a> WithComponent for EntityResBuilder<'a> {
         self,
         masked: &mut MaskedStorage<T>,
         component: T,
-    ) -> Result<Self, InsertError<T>>
+    ) -> Result<Self, (AllocError, T)>
+        ensures* rests { sem 𝓛 (KeptRests self.entry result) }
         ensures same_reference { IfOk result (λ b. (lent_to_builder b).ghost_name ≡ (lent_to_builder self.entry).ghost_name) }
         ensures entity { IfOk result (λ b. entity_built b ≡ entity_built self.entry) }
         ensures entities { IfOk result (λ b. (lent_to_builder b).now ≡ (lent_to_builder self.entry).now) }
-        ensures ok { OnOk result (Becomes masked.old masked.new (map.insert masked.old.map (index_of (entity_built self.entry)) component)
-            (cond (is_some (found_in (lent_to_builder self.entry).now masked.old (entity_built self.entry))) (ComponentEvent.Modified (index_of (entity_built self.entry))) (ComponentEvent.Inserted (index_of (entity_built self.entry))))) }
+        ensures ok { OnOk result (Completes masked.old masked.new (index_of (entity_built self.entry)) component) }
         ensures err { OnErr result (IsSame masked.old masked.new) }
-        ensures refused { IfErr result (λ e. IsInsertError e (entity_built self.entry) component INSERT.now
-            (is_alive (population (lent_to_builder self.entry).now) (entity_built self.entry)) (generation_now (population (lent_to_builder self.entry).now) (index_of (entity_built self.entry)))) }
+        ensures refused { IfErr result (λ e. e.1 ≡ component) }
     {
-        match put_at(&self, masked, component) {
-            Ok(()) => Ok(self),
-            Err(e) => Err(e),
-        }
+        let outcome = put_at(&self, masked, component);
+        self.kept_if(outcome)
     }
 }
 
@@ -57,16 +51,13 @@ fn put_at<T: Component + Drop>(
     builder: &EntityResBuilder<'_>,
     masked: &mut MaskedStorage<T>,
     component: T,
-) -> Result<(), InsertError<T>>
-    ensures ok { OnOk result (Becomes masked.old masked.new (map.insert masked.old.map (index_of (entity_built builder.now)) component)
-        (cond (is_some (found_in (lent_to_builder builder.now).now masked.old (entity_built builder.now))) (ComponentEvent.Modified (index_of (entity_built builder.now))) (ComponentEvent.Inserted (index_of (entity_built builder.now))))) }
+) -> Result<(), (AllocError, T)>
+    ensures ok { OnOk result (Completes masked.old masked.new (index_of (entity_built builder.now)) component) }
     ensures err { OnErr result (IsSame masked.old masked.new) }
-    ensures refused { IfErr result (λ e. IsInsertError e (entity_built builder.now) component INSERT.now
-        (is_alive (population (lent_to_builder builder.now).now) (entity_built builder.now)) (generation_now (population (lent_to_builder builder.now).now) (index_of (entity_built builder.now)))) }
+    ensures refused { IfErr result (λ e. e.1 ≡ component) }
 {
-    let mut view = WriteStorage::new(builder.entities(), masked);
-    match view.insert(builder.entity(), component) {
-        Ok(_) => Ok(()),
+    match masked.put(builder.entity().id(), component) {
+        Ok(_before) => Ok(()),
         Err(e) => Err(e),
     }
 }

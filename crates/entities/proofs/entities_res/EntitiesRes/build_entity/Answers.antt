@@ -22,4 +22,4 @@ returns c =
     )
 
 pub invariant_of-result : goal.invariant_of-result
-invariant_of-result c = let e = c.in_ok-entity.ensures in record { lives = newborn_alive (population c.args.self.now) _ c.in_ok-entity.entity e.generation e.born }
+invariant_of-result c = let e = c.in_ok-entity.ensures in record { lives = newborn_alive (population c.args.self.now) _ c.in_ok-entity.entity e.generation e.born; below = e.below }

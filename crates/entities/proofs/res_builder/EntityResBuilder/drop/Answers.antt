@@ -11,4 +11,4 @@ still_lives (Ok x) s s' e lives marked same = subst (λ (p : Population). IsAliv
 still_lives (Err x) s s' e lives marked same = subst (λ (p : Population). IsAlive p e) (sym (ap population same)) lives
 
 pub invariant_of-self : goal.invariant_of-self
-invariant_of-self c = record { lives = still_lives c.delete.result _ _ c.args.self.entity c.args.self.lives c.delete.ensures.marked c.delete.ensures.err }
+invariant_of-self c = record { lives = still_lives c.delete.result _ _ c.args.self.entity c.args.self.lives c.delete.ensures.marked c.delete.ensures.err; below = c.args.self.below }
