@@ -64,7 +64,9 @@ fn changes_are_subtracted_from_healths(rt: HostRuntime) -> Result<(), Fail> {
     assert!(rt; view.insert(b, Health(200)).is_ok());
     assert!(rt; view.insert(c, Health(300)).is_ok());
     let changes = listed(rt.alloc(), [(a, 32), (b, 12), (b, 13)].as_slice())?;
-    let set = ChangeSet::from_list(rt.alloc(), changes).ok().ok_or("refused")?;
+    let set = ChangeSet::from_list(rt.alloc(), changes)
+        .ok()
+        .ok_or("refused")?;
     subtract(&mut view, &set, a);
     subtract(&mut view, &set, b);
     subtract(&mut view, &set, c);
@@ -89,7 +91,10 @@ fn what_came_before_a_refused_value_stays(rt: HostRuntime) -> Result<(), Fail> {
     let a = Entity::from_parts(0, 1).ok_or("no entity")?;
     let b = Entity::from_parts(1, 1).ok_or("no entity")?;
     let mut set = ChangeSet::new(rt.alloc());
-    let list = listed(rt.alloc(), [(a, 2147483647), (b, 5), (a, 1), (b, 6)].as_slice())?;
+    let list = listed(
+        rt.alloc(),
+        [(a, 2147483647), (b, 5), (a, 1), (b, 6)].as_slice(),
+    )?;
     assert!(rt; matches!(set.extend(list), Err(ChangeError::Refused)));
     assert_eq!(rt; at(&set, a), Some(2147483647));
     assert_eq!(rt; at(&set, b), Some(5));

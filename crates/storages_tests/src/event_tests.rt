@@ -7,9 +7,7 @@ use hibits::BitSet;
 use std::alloc::{AllocError, Global};
 use std::test::Fail;
 use storages::ComponentEvent::{Inserted, Modified, Removed};
-use storages::{
-    ComponentEvent, EventChannel, ReaderId, StorageEntry, UnknownReader, WriteStorage,
-};
+use storages::{ComponentEvent, EventChannel, ReaderId, StorageEntry, UnknownReader, WriteStorage};
 
 // Whether the reader of a number reads just these events.
 fn reads(view: &mut WriteStorage<'_, InFlagged>, number: u64, wanted: &[ComponentEvent]) -> bool {
@@ -74,7 +72,23 @@ fn each_change_is_told_in_its_order(rt: HostRuntime) -> Result<(), Fail> {
     assert!(rt; put_by_entry(&mut view, list[3], 4));
     assert!(rt; take(&mut view, list[0]) == Some(2));
     assert!(rt; view.clear().is_ok());
-    assert!(rt; reads(&mut view, 0, &[Inserted(0), Modified(0), Inserted(1), Modified(1), Inserted(3), Modified(3), Removed(0), Removed(1), Removed(3)]));
+    assert!(rt;
+        reads(
+            &mut view,
+            0,
+            &[
+                Inserted(0),
+                Modified(0),
+                Inserted(1),
+                Modified(1),
+                Inserted(3),
+                Modified(3),
+                Removed(0),
+                Removed(1),
+                Removed(3)
+            ]
+        )
+    );
     assert!(rt; reads(&mut view, 0, &[]));
     view.set_event_emission(false);
     assert!(rt; put(&mut view, list[0], 1) == Some(None));
@@ -109,8 +123,11 @@ fn an_event_by_hand_is_told_while_emission_is_off(rt: HostRuntime) -> Result<(),
 
 // The indices of each kind of event that a reader reads.
 fn sorted(alloc: Global, events: &[ComponentEvent]) -> Result<(BitSet, BitSet, BitSet), Fail> {
-    let (mut inserted, mut modified, mut removed) =
-        (BitSet::new(alloc), BitSet::new(alloc), BitSet::new(alloc));
+    let (mut inserted, mut modified, mut removed) = (
+        BitSet::new(alloc),
+        BitSet::new(alloc),
+        BitSet::new(alloc),
+    );
     for event in events {
         match *event {
             Inserted(id) => inserted.add(id)?,
@@ -122,7 +139,10 @@ fn sorted(alloc: Global, events: &[ComponentEvent]) -> Result<(BitSet, BitSet, B
 }
 
 // What the first reader reads, by kinds: how many were inserted, modified and removed.
-fn counts(alloc: Global, view: &mut WriteStorage<'_, InFlagged>) -> Result<(usize, usize, usize), Fail> {
+fn counts(
+    alloc: Global,
+    view: &mut WriteStorage<'_, InFlagged>,
+) -> Result<(usize, usize, usize), Fail> {
     let events = view.read(&ReaderId::of(0)).ok().ok_or("no reader")?;
     let (inserted, modified, removed) = sorted(alloc, events.as_slice())?;
     Ok((inserted.count(), modified.count(), removed.count()))

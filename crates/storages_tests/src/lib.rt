@@ -22,7 +22,9 @@ mod view_tests;
 #[cfg(test)]
 mod world;
 
-pub use components::{Flag, Flagged, InBTree, InDefaultVec, InDense, InFlagged, InHash, InVec, Number, Shared};
+pub use components::{
+    Flag, Flagged, InBTree, InDefaultVec, InDense, InFlagged, InHash, InVec, Number, Shared,
+};
 pub use loans::{
     double_all, entry_or_seven, seven_at_place, seven_through_entry, seven_through_storage,
     seven_through_view,

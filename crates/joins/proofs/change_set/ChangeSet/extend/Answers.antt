@@ -19,7 +19,7 @@ loop-entity-preserved g c =
     record {
       split = moved c.loop-entity.yielded _ _ ∙ ap (λ r. c.loop-entity.yielded ++ r) (sym next) ∙ c.loop-entity.invariant.split;
       added = c.in_ok-add.ensures.ok ∙ ap (λ m. with_change g.T.Combine.combined m (index_of c.in-Some.entity) c.in-Some.value) c.loop-entity.invariant.added
-          ∙ sym (all_changed_more g.T.Combine.combined c.loop-entity.yielded (c.in-Some.entity, c.in-Some.value) _)
+          ∙ sym (all_changed_more g.T.Combine.combined c.loop-entity.yielded (c.in-Some.entity, c.in-Some.value) _);
     }
 
 pub returns-in_err-add-clause-err : goal.returns-in_err-add-clause-err
@@ -30,7 +30,7 @@ returns-in_err-add-clause-err g c =
       refused = (c.in-Some.entity, c.in-Some.value);
       rest = c.next.new.self.rest.items;
       list = sym (ap (λ r. c.loop-entity.yielded ++ r) (sym next) ∙ c.loop-entity.invariant.split);
-      before = c.in_err-add.ensures.err ∙ c.loop-entity.invariant.added
+      before = c.in_err-add.ensures.err ∙ c.loop-entity.invariant.added;
     } in
     on_err _ _ stop
 
