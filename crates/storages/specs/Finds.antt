@@ -1,5 +1,5 @@
 -- What is found after a call: the lemmas that a caller of the storages needs, for `using(..)` in its `tactic`.
-use Rattle.std.proofs.Common.{◌≡◌, ◌≢◌, ◌∙◌, ap, sym, refl, ℕ, Bool, true, false, not, ◌&&◌, ◌||◌, cond, nat_eq, Some, None, List, [], ◌∷◌, arith}
+use Rattle.std.proofs.Common.{◌≡◌, ◌≢◌, ◌∙◌, ap, refl, ℕ, Bool, true, false, not, ◌&&◌, ◌||◌, cond, nat_eq, Some, None, List, [], ◌∷◌, arith}
 use Rattle.std.specs.Prelude.{Option, pos}
 use Rattle.std.proofs.lemmas.Bool.{false≢true}
 use Rattle.std.proofs.lemmas.Bool.Decides.{nat_tests}
@@ -7,7 +7,7 @@ use Rattle.std.specs.Ordering.{nat_cmp, int_eq}
 use Rattle.std.specs.Cmp.{nat_cmp_total, unsigned_tied}
 use Rattle.std.specs.FinMap as map
 use Rattle.entities.specs.Census.{Census, population}
-use Rattle.entities.specs.Population.{Population, index_of, generation_of, lives}
+use Rattle.entities.specs.Population.{Population, index_of, generation_of}
 use Rattle.entities.specs.Deaths.{all_dead, has_index}
 use Rattle.entities.specs.declared.entity.Entity.{Entity}
 use Rattle.storages.specs.Life.{is_alive}

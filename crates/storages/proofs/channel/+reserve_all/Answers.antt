@@ -1,7 +1,7 @@
-use Rattle.std.proofs.Common.{◌≡◌, ◌∷◌, ◌≤◌, ◌+◌, ◌++◌, [], ℕ, map, ap, subst, ◌∙◌, arith, rules}
-use Rattle.storages.specs.Unread.{is_read, written}
+use Rattle.std.proofs.Common.{◌≡◌, ◌∷◌, ◌≤◌, ℕ, ap, subst, arith, rules}
+use Rattle.storages.specs.Unread.{is_read}
 use Rattle.storages.specs.declared.channel.Reader.{Reader}
-use Rattle.storages.specs.Readers.{shown, least_room, room_of}
+use Rattle.storages.specs.Readers.{least_room, room_of}
 use Rattle.storages.specs.Meaning.{HasRoom}
 use Rattle.storages.proofs.Readers.{rest_of_least}
 use Rattle.storages.proofs.channel.+reserve_all.Goals as goal

@@ -1,4 +1,4 @@
-use Rattle.std.proofs.Common.{◌≡◌, ap, sym, ◌∙◌, refl, subst, None}
+use Rattle.std.proofs.Common.{◌≡◌, sym, ◌∙◌, refl, subst, None}
 use Rattle.std.specs.FinMap as map
 use Rattle.joins.specs.Changes.{with_change}
 use Rattle.joins.specs.Held.{held}

@@ -1,4 +1,4 @@
-use Rattle.std.proofs.Common.{ap, ◌∙◌, is_ok}
+use Rattle.std.proofs.Common.{ap, is_ok}
 use Rattle.joins.proofs.Holding.{present_here, combined_there, kept_there, where_here}
 use Rattle.joins.proofs.change_set.ChangeSet.combine_at.Goals as goal
 

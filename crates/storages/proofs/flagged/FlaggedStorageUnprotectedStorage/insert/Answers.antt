@@ -1,4 +1,4 @@
-use Rattle.std.proofs.Common.{ℕ, ◌∙◌, ap, rules, ◌+◌}
+use Rattle.std.proofs.Common.{◌∙◌, ap, rules, ◌+◌}
 use Rattle.storages.specs.declared.event.ComponentEvent.TheVariants.{Inserted}
 use Rattle.storages.specs.Unread.{written}
 use Rattle.storages.proofs.Telling.{puts}

@@ -1,6 +1,5 @@
-use Rattle.std.proofs.Common.{◌≡◌, ◌∙◌, ap, ◌||◌, is_some, ℕ}
+use Rattle.std.proofs.Common.{◌∙◌, ap, ◌||◌, is_some}
 use Rattle.storages.specs.Channel.{is_heard}
-use Rattle.storages.specs.Meaning.{HasRoom}
 use Rattle.storages.specs.Slot.{Slot}
 use Rattle.storages.proofs.masked.MaskedStorage.needs_room.Goals as goal
 
