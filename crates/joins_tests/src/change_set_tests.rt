@@ -1,9 +1,9 @@
 //! Change sets.
-use entities::{EntitiesRes, Entity};
+use entities::Entity;
 use joins::{ChangeError, ChangeSet};
-use std::alloc::Global;
+use std::alloc::{AllocError, Global};
 use std::test::Fail;
-use storages::{Component, DenseVecStorage, MaskedStorage, TryDefault, WriteStorage};
+use storages::{Component, DenseVecStorage, MaskedStorage, TryDefault};
 
 // What an entity has left.
 #[derive(Clone, Copy)]
@@ -13,17 +13,13 @@ impl Component for Health {
     type Storage = DenseVecStorage<Self>;
 }
 
-// So many living entities.
-fn living(alloc: Global, entities: &mut EntitiesRes, count: u32) -> Result<Vec<Entity>, Fail> {
-    let mut list = Vec::new(alloc);
-    for _ in 0..count {
-        list.push(entities.create().ok().ok_or("no entity")?)?;
-    }
-    Ok(list)
+// The value of an entity, or none.
+fn at(set: &ChangeSet<i32>, e: Entity) -> Option<i32> {
+    set.get(e.id()).copied()
 }
 
 // A list of changes, which takes memory that is there.
-fn listed(alloc: Global, changes: &[(Entity, i32)]) -> Result<Vec<(Entity, i32)>, Fail> {
+fn listed(alloc: Global, changes: &[(Entity, i32)]) -> Result<Vec<(Entity, i32)>, AllocError> {
     let mut list = Vec::new(alloc);
     for change in changes {
         list.push(*change)?;
@@ -31,88 +27,115 @@ fn listed(alloc: Global, changes: &[(Entity, i32)]) -> Result<Vec<(Entity, i32)>
     Ok(list)
 }
 
-// The value of an entity, or none.
-fn at(set: &ChangeSet<i32>, e: Entity) -> Option<i32> {
-    set.get(e.id()).copied()
+// Healths of 100, 200 and 300, at the indices 0 to 2.
+fn fill(healths: &mut MaskedStorage<Health>) -> bool {
+    healths.put(0, Health(100)).is_ok()
+        && healths.put(1, Health(200)).is_ok()
+        && healths.put(2, Health(300)).is_ok()
 }
 
-// Subtracts the changes of an entity, if there are any.
-fn subtract(view: &mut WriteStorage<'_, Health>, set: &ChangeSet<i32>, e: Entity) {
-    if let Some(change) = at(set, e) {
-        if let Ok(health) = view.get_mut(e) {
-            health.0 = health.0.wrapping_sub(change);
+// Subtracts the change of an index, if there is one.
+fn subtract(healths: &mut MaskedStorage<Health>, set: &ChangeSet<i32>, id: u32) {
+    if let Some(change) = set.get(id) {
+        if let Ok(health) = healths.get_mut(id) {
+            health.0 = health.0.wrapping_sub(*change);
         }
     }
 }
 
-fn health(view: &WriteStorage<'_, Health>, e: Entity) -> Option<i32> {
-    match view.get(e) {
-        Some(health) => Some(health.0),
-        None => None,
+// What is left at the three indices.
+fn left(healths: &MaskedStorage<Health>) -> Option<(i32, i32, i32)> {
+    match (healths.get(0), healths.get(1), healths.get(2)) {
+        (Some(a), Some(b), Some(c)) => Some((a.0, b.0, c.0)),
+        _ => None,
     }
+}
+
+// Subtracts all.
+fn subtract_all(healths: &mut MaskedStorage<Health>, set: &ChangeSet<i32>) {
+    subtract(healths, set, 0);
+    subtract(healths, set, 1);
+    subtract(healths, set, 2);
+}
+
+// The change set of a list.
+fn changes(alloc: Global, list: &[(Entity, i32)]) -> Option<ChangeSet<i32>> {
+    match listed(alloc, list) {
+        Ok(list) => match ChangeSet::from_list(alloc, list) {
+            Ok(set) => Some(set),
+            Err(_) => None,
+        },
+        Err(_) => None,
+    }
+}
+
+// The entity of an index that was born once.
+fn first_at(index: u32) -> Option<Entity> {
+    Entity::from_parts(index, 1)
 }
 
 #[test]
 fn changes_are_subtracted_from_healths(rt: HostRuntime) -> Result<(), Fail> {
-    let mut entities = EntitiesRes::new(rt.alloc());
-    let list = living(rt.alloc(), &mut entities, 3)?;
-    let (a, b, c) = (list[0], list[1], list[2]);
+    let a = first_at(0).ok_or("no entity")?;
+    let b = first_at(1).ok_or("no entity")?;
     let inner = DenseVecStorage::<Health>::try_default(rt.alloc())?;
-    let mut masked = MaskedStorage::new(rt.alloc(), inner);
-    let mut view = WriteStorage::new(&entities, &mut masked);
-    assert!(rt; view.insert(a, Health(100)).is_ok());
-    assert!(rt; view.insert(b, Health(200)).is_ok());
-    assert!(rt; view.insert(c, Health(300)).is_ok());
-    let changes = listed(rt.alloc(), [(a, 32), (b, 12), (b, 13)].as_slice())?;
-    let set = ChangeSet::from_list(rt.alloc(), changes)
-        .ok()
-        .ok_or("refused")?;
-    subtract(&mut view, &set, a);
-    subtract(&mut view, &set, b);
-    subtract(&mut view, &set, c);
-    assert_eq!(rt; health(&view, a), Some(68));
-    assert_eq!(rt; health(&view, b), Some(175));
-    assert_eq!(rt; health(&view, c), Some(300));
+    let mut healths = MaskedStorage::new(rt.alloc(), inner);
+    assert!(rt; fill(&mut healths));
+    let set = changes(rt.alloc(), [(a, 32), (b, 12), (b, 13)].as_slice()).ok_or("refused")?;
+    subtract_all(&mut healths, &set);
+    assert!(rt; left(&healths) == Some((68, 175, 300)));
     Ok(())
+}
+
+// A sum that does not fit is refused, and changes nothing.
+fn refuses_a_sum(set: &mut ChangeSet<i32>, e: Entity) -> bool {
+    set.add(e, 2147483647).is_ok()
+        && matches!(set.add(e, 1), Err(ChangeError::Refused))
+        && at(set, e) == Some(2147483647)
 }
 
 #[test]
 fn a_sum_that_does_not_fit_is_refused(rt: HostRuntime) -> Result<(), Fail> {
-    let e = Entity::from_parts(7, 1).ok_or("no entity")?;
+    let e = first_at(7).ok_or("no entity")?;
     let mut set = ChangeSet::new(rt.alloc());
-    assert!(rt; set.add(e, 2147483647).is_ok());
-    assert!(rt; matches!(set.add(e, 1), Err(ChangeError::Refused)));
-    assert_eq!(rt; at(&set, e), Some(2147483647));
+    assert!(rt; refuses_a_sum(&mut set, e));
     Ok(())
+}
+
+// Adds a list of which one is refused.
+fn stops(alloc: Global, set: &mut ChangeSet<i32>, a: Entity, b: Entity) -> bool {
+    match listed(alloc, [(a, 2147483647), (b, 5), (a, 1), (b, 6)].as_slice()) {
+        Ok(list) => matches!(set.extend(list), Err(ChangeError::Refused)),
+        Err(_) => false,
+    }
 }
 
 #[test]
 fn what_came_before_a_refused_value_stays(rt: HostRuntime) -> Result<(), Fail> {
-    let a = Entity::from_parts(0, 1).ok_or("no entity")?;
-    let b = Entity::from_parts(1, 1).ok_or("no entity")?;
+    let a = first_at(0).ok_or("no entity")?;
+    let b = first_at(1).ok_or("no entity")?;
     let mut set = ChangeSet::new(rt.alloc());
-    let list = listed(
-        rt.alloc(),
-        [(a, 2147483647), (b, 5), (a, 1), (b, 6)].as_slice(),
-    )?;
-    assert!(rt; matches!(set.extend(list), Err(ChangeError::Refused)));
-    assert_eq!(rt; at(&set, a), Some(2147483647));
-    assert_eq!(rt; at(&set, b), Some(5));
+    assert!(rt; stops(rt.alloc(), &mut set, a, b));
+    assert!(rt; at(&set, a) == Some(2147483647) && at(&set, b) == Some(5));
     Ok(())
+}
+
+// Two lives of an index share a value, and an index past the limit has none.
+fn looks_at_indices(set: &mut ChangeSet<i32>, old: Entity, new: Entity, far: Entity) -> bool {
+    set.add(old, 1).is_ok()
+        && set.add(new, 2).is_ok()
+        && at(set, new) == Some(3)
+        && matches!(set.add(far, 1), Err(ChangeError::IndexLimit))
 }
 
 #[test]
 fn the_index_alone_counts(rt: HostRuntime) -> Result<(), Fail> {
     let old = Entity::from_parts(3, 1).ok_or("no entity")?;
     let new = Entity::from_parts(3, 2).ok_or("no entity")?;
-    let far = Entity::from_parts(16777216, 1).ok_or("no entity")?;
+    let far = first_at(16777216).ok_or("no entity")?;
     let mut set = ChangeSet::new(rt.alloc());
-    assert!(rt; set.add(old, 1).is_ok());
-    assert!(rt; set.add(new, 2).is_ok());
-    assert_eq!(rt; at(&set, new), Some(3));
-    assert!(rt; matches!(set.add(far, 1), Err(ChangeError::IndexLimit)));
+    assert!(rt; looks_at_indices(&mut set, old, new, far));
     set.clear();
-    assert_eq!(rt; at(&set, old), None);
-    assert_eq!(rt; set.mask().count(), 0);
+    assert!(rt; at(&set, old).is_none() && set.mask().count() == 0);
     Ok(())
 }
