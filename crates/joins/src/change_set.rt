@@ -1,5 +1,5 @@
 //! Values that were added to entities, until someone applies them.
-ghost use Rattle.std.specs.Prelude.{◌≡◌, ◌↔◌, ◌≤◌, ◌^◌, ℕ, None, Err, option_copied, IsSome, OnOk, OnErr, IfOk, IfErr};
+ghost use Rattle.std.specs.Prelude.{◌≡◌, ◌↔◌, ◌≤◌, ◌^◌, ℕ, None, Some, Err, option_copied, IsSome, OnOk, OnErr, IfOk, IfErr};
 ghost use Rattle.std.specs.FinMap as map;
 ghost use Rattle.std.specs.FinSet as set;
 ghost use Rattle.entities.specs.Population.{index_of};
@@ -139,6 +139,18 @@ impl<T: Combine + Drop> ChangeSet<T> {
         ensures { (q : ℕ) → set.contains result.now.members q ≡ map.contains_key self.now q }
     {
         self.changes.mask()
+    }
+
+    // The value of an index that has one.
+    #[inline(always)]
+    pub(crate) fn present(&self, id: Index) -> &T
+        requires { IsSome (map.get self.now id) }
+        ensures { map.get self.now id ≡ Some result.now }
+    {
+        let Some(change) = self.changes.get(id) else {
+            unreachable!()
+        };
+        &change.value
     }
 
     /// The value of an index.

@@ -1,0 +1,180 @@
+//! Sets as joins: they give their indices.
+ghost use Rattle.std.specs.Prelude.{◌≡◌, true};
+ghost use Rattle.std.specs.FinSet as set;
+
+use crate::join::Join;
+use hibits::{BitSet, BitSetAll, BitSetAnd, BitSetNot, BitSetOr, BitSetXor, Index, Layers};
+
+impl<'a> Join for &'a BitSet {
+    type Type = Index;
+
+    type Value = &'a BitSet;
+
+    type Mask = &'a BitSet;
+
+    ghost has = { λ j i. set.contains j.now.members i };
+
+    ghost cost = { λ _. 1 };
+
+    ghost gives = { λ _ i r. r ≡ i };
+
+    ghost can_get = { λ _ _. true };
+
+    ghost value_gives = { λ _ i r. r ≡ i };
+
+    #[inline(always)]
+    fn open(self) -> (&'a BitSet, &'a BitSet) {
+        (self, self)
+    }
+
+    #[inline(always)]
+    fn get(value: &mut &'a BitSet, id: Index) -> Index {
+        let _ = value;
+        id
+    }
+}
+
+impl<A: Layers + Drop, B: Layers + Drop> Join for BitSetAnd<A, B> {
+    type Type = Index;
+
+    type Value = ();
+
+    type Mask = BitSetAnd<A, B>;
+
+    ghost has = { λ j i. ⟦<BitSetAnd<A, B> as Layers>⟧.has j 0 i };
+
+    ghost cost = { λ j. ⟦<BitSetAnd<A, B> as Layers>⟧.cost j };
+
+    ghost gives = { λ _ i r. r ≡ i };
+
+    ghost can_get = { λ _ _. true };
+
+    ghost value_gives = { λ _ i r. r ≡ i };
+
+    #[inline(always)]
+    fn open(self) -> (BitSetAnd<A, B>, ()) {
+        (self, ())
+    }
+
+    #[inline(always)]
+    fn get(value: &mut (), id: Index) -> Index {
+        let _ = value;
+        id
+    }
+}
+
+impl<A: Layers + Drop, B: Layers + Drop> Join for BitSetOr<A, B> {
+    type Type = Index;
+
+    type Value = ();
+
+    type Mask = BitSetOr<A, B>;
+
+    ghost has = { λ j i. ⟦<BitSetOr<A, B> as Layers>⟧.has j 0 i };
+
+    ghost cost = { λ j. ⟦<BitSetOr<A, B> as Layers>⟧.cost j };
+
+    ghost gives = { λ _ i r. r ≡ i };
+
+    ghost can_get = { λ _ _. true };
+
+    ghost value_gives = { λ _ i r. r ≡ i };
+
+    #[inline(always)]
+    fn open(self) -> (BitSetOr<A, B>, ()) {
+        (self, ())
+    }
+
+    #[inline(always)]
+    fn get(value: &mut (), id: Index) -> Index {
+        let _ = value;
+        id
+    }
+}
+
+impl<A: Layers + Drop, B: Layers + Drop> Join for BitSetXor<A, B> {
+    type Type = Index;
+
+    type Value = ();
+
+    type Mask = BitSetXor<A, B>;
+
+    ghost has = { λ j i. ⟦<BitSetXor<A, B> as Layers>⟧.has j 0 i };
+
+    ghost cost = { λ j. ⟦<BitSetXor<A, B> as Layers>⟧.cost j };
+
+    ghost gives = { λ _ i r. r ≡ i };
+
+    ghost can_get = { λ _ _. true };
+
+    ghost value_gives = { λ _ i r. r ≡ i };
+
+    #[inline(always)]
+    fn open(self) -> (BitSetXor<A, B>, ()) {
+        (self, ())
+    }
+
+    #[inline(always)]
+    fn get(value: &mut (), id: Index) -> Index {
+        let _ = value;
+        id
+    }
+}
+
+impl<A: Layers + Drop> Join for BitSetNot<A> {
+    type Type = Index;
+
+    type Value = ();
+
+    type Mask = BitSetNot<A>;
+
+    ghost has = { λ j i. ⟦<BitSetNot<A> as Layers>⟧.has j 0 i };
+
+    ghost cost = { λ j. ⟦<BitSetNot<A> as Layers>⟧.cost j };
+
+    ghost gives = { λ _ i r. r ≡ i };
+
+    ghost can_get = { λ _ _. true };
+
+    ghost value_gives = { λ _ i r. r ≡ i };
+
+    #[inline(always)]
+    fn open(self) -> (BitSetNot<A>, ()) {
+        (self, ())
+    }
+
+    #[inline(always)]
+    fn get(value: &mut (), id: Index) -> Index {
+        let _ = value;
+        id
+    }
+}
+
+impl Join for BitSetAll {
+    type Type = Index;
+
+    type Value = ();
+
+    type Mask = BitSetAll;
+
+    ghost has = { λ j i. ⟦<BitSetAll as Layers>⟧.has j 0 i };
+
+    ghost cost = { λ j. ⟦<BitSetAll as Layers>⟧.cost j };
+
+    ghost gives = { λ _ i r. r ≡ i };
+
+    ghost can_get = { λ _ _. true };
+
+    ghost value_gives = { λ _ i r. r ≡ i };
+
+    #[inline(always)]
+    fn open(self) -> (BitSetAll, ()) {
+        (self, ())
+    }
+
+    #[inline(always)]
+    fn get(value: &mut (), id: Index) -> Index {
+        let _ = value;
+        id
+    }
+}
