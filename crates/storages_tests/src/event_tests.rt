@@ -46,6 +46,7 @@ fn flagged_storage_meets_all(rt: HostRuntime) -> Result<(), Fail> {
 fn two_readers_are_told_until_they_read(rt: HostRuntime) -> Result<(), Fail> {
     let mut world = World::<InFlagged>::of(rt.alloc(), 5)?;
     let (mut view, list) = world.parts();
+    assert_eq!(rt; list.len(), 5);
     let e = list[4];
     assert_eq!(rt; new_reader(&mut view), Some(0));
     assert_eq!(rt; new_reader(&mut view), Some(1));
@@ -65,6 +66,7 @@ fn two_readers_are_told_until_they_read(rt: HostRuntime) -> Result<(), Fail> {
 fn each_change_is_told_in_its_order(rt: HostRuntime) -> Result<(), Fail> {
     let mut world = World::<InFlagged>::of(rt.alloc(), 4)?;
     let (mut view, list) = world.parts();
+    assert_eq!(rt; list.len(), 4);
     assert_eq!(rt; new_reader(&mut view), Some(0));
     assert!(rt; put(&mut view, list[0], 1) == Some(None));
     assert!(rt; put(&mut view, list[0], 2) == Some(Some(1)));
@@ -100,6 +102,7 @@ fn each_change_is_told_in_its_order(rt: HostRuntime) -> Result<(), Fail> {
 fn a_channel_keeps_nothing_for_nobody(rt: HostRuntime) -> Result<(), Fail> {
     let mut world = World::<InFlagged>::of(rt.alloc(), 2)?;
     let (mut view, list) = world.parts();
+    assert_eq!(rt; list.len(), 2);
     assert!(rt; view.event_emission());
     assert!(rt; put(&mut view, list[0], 1) == Some(None));
     assert_eq!(rt; new_reader(&mut view), Some(0));
