@@ -15,16 +15,12 @@ pub fn is_gone(world: &World<Slots>, e: Entity) -> bool
     !world.is_alive(e)
 }
 
-/// A phase of one entity and one pass over the entities of a world, which marks an entity. It answers the entity that the pass was given,
-/// whose birth is pending, if it was given one and the mark was made.
-pub fn born_in_a_phase(alloc: Global, world: &mut World<Slots>, doomed: Entity) -> Option<Entity> {
+/// A phase of one entity and one pass over the entities of a world. It answers the entity that the pass was given, whose birth is pending.
+pub fn born_in_a_phase(alloc: Global, world: &mut World<Slots>) -> Option<Entity> {
     let mut given = None;
     if let Ok((shared, mut passes)) = world.parts().open(alloc, 1, 1) {
         if let Some(mut pass) = passes.pop() {
-            let born = shared.create(&mut pass).ok();
-            if shared.delete(&mut pass, doomed).is_ok() {
-                given = born;
-            }
+            given = shared.create(&mut pass).ok();
         }
         let _ = shared.close(passes);
     }

@@ -1,6 +1,5 @@
 //! Scripts that run to their end.
-use crate::runs::{assert_runs, assert_tale};
-use std::test::Fail;
+use crate::runs::assert_runs;
 
 #[test]
 fn an_index_is_used_again_with_the_next_generation(rt: HostRuntime) {
@@ -104,39 +103,6 @@ fn each_kind_of_storage_answers_alike(rt: HostRuntime) {
             );
         }
     }
-}
-
-#[test]
-fn each_component_is_read(rt: HostRuntime) -> Result<(), Fail> {
-    assert_tale(
-        &rt,
-        rt.alloc(),
-        "
-        create -> 0:1
-        register pos -> ok
-        register vel -> ok
-        register def -> ok
-        register map -> ok
-        register tree -> ok
-        register tag -> ok
-        register link -> ok
-        insert pos 0:1 1 -> none
-        insert vel 0:1 2 -> none
-        insert def 0:1 3 -> none
-        insert map 0:1 4 -> none
-        insert tree 0:1 5 -> none
-        insert tag 0:1 tag -> none
-        insert link 0:1 0:1 -> none
-        get pos 0:1 -> 1
-        get vel 0:1 -> 2
-        get def 0:1 -> 3
-        get map 0:1 -> 4
-        get tree 0:1 -> 5
-        get tag 0:1 -> tag
-        get link 0:1 -> 0:1
-        ",
-    )?;
-    Ok(())
 }
 
 #[test]

