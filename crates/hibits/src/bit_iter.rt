@@ -63,6 +63,14 @@ impl<M: Layers> BitIter<M> {
         self.walk.next(&self.mask)
     }
 
+    /// What is walked.
+    #[inline(always)]
+    pub fn mask(&self) -> &M
+        ensures { result.now ≡ self.now.mask }
+    {
+        &self.mask
+    }
+
     /// How many words of plain sets were read so far: at most one of each for the top, and one for each bit that is
     /// set in the layers above the lowest, of which none has more than `most`.
     #[inline(always)]

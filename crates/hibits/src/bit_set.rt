@@ -226,6 +226,14 @@ impl BitSet {
         ones_of(&self.layer0)
     }
 
+    /// As many indices are walked as the set has members. It runs nothing.
+    #[inline(always)]
+    pub fn sized(&self)
+        ensures { set.len self.now.members ≡ length (left (λ i. set.contains self.now.members i) 0) }
+    {
+        let _row = &self.layer0;
+    }
+
     /// The least member that is not below `id`. It reads at most two words of each layer.
     pub fn first_from(&self, id: Index) -> Option<Index>
         ensures first { MatchOption result ((j : ℕ) → id ≤ j → set.contains self.now.members j ≡ true → ⊥) (IsNext (λ j. set.contains self.now.members j) id) }

@@ -22,6 +22,3 @@ pub use mask_expr::MaskExpr;
 pub use reads::Reads;
 pub use views::{BitSetAll, BitSetAnd, BitSetNot, BitSetOr, BitSetXor};
 pub use walk::Walk;
-
-#[cfg(test)]
-mod tests;

@@ -1,0 +1,5 @@
+//! Sets and their views, as tests.
+#![tactic(auto)]
+
+#[cfg(test)]
+mod sets;
