@@ -10,8 +10,6 @@ mod error;
 mod lowering;
 mod phase;
 mod res_builder;
-#[cfg(test)]
-mod tests;
 
 pub use allocator::{Allocator, CreateError};
 pub use constants::limits;

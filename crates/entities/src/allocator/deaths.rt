@@ -40,11 +40,23 @@ impl Allocator {
         ensures action { IfErr result (λ w. w.action.now ≡ DELETE.now) }
         ensures err { OnErr result (self.new ≡ self.old) }
     {
-        if let Some(entity) = self.first_refused(list) {
-            return Err(self.wrong_generation(DELETE, entity));
-        }
+        self.may_kill(list)?;
         self.bury_all(list);
         Ok(())
+    }
+
+    /// Whether a list may die at once: the test of `kill`, which changes nothing. It takes time linear in the list, and no memory.
+    pub fn may_kill(&mut self, list: &[Entity]) -> Result<(), WrongGeneration>
+        ensures may { OnOk result (MayAllDie (population self.old) list.now) }
+        ensures first { IfErr result (λ w. IsFirstRefused (population self.old) list.now w.entity) }
+        ensures actual { IfErr result (λ w. number_of w.actual_gen ≡ generation_reported (population self.old) (index_of w.entity)) }
+        ensures action { IfErr result (λ w. w.action.now ≡ DELETE.now) }
+        ensures same { self.new ≡ self.old }
+    {
+        match self.first_refused(list) {
+            Some(entity) => Err(self.wrong_generation(DELETE, entity)),
+            None => Ok(()),
+        }
     }
 
     /// The first of a list that doesn't live, or that equals an earlier one.

@@ -5,8 +5,8 @@ use Rattle.std.proofs.lemmas.Bool.{both_ways}
 use Rattle.std.proofs.lemmas.List.{get_or_default}
 use Rattle.entities.specs.declared.entity.Entity.{Entity}
 use Rattle.entities.specs.Lowered.{IsOneOf}
-use Rattle.entities.proofs.Stack.{alive_at}
-use Rattle.entities.proofs.Lowers.{lowered_is, lowered_more, distinct_of_more, stands_earlier}
+use Rattle.entities.proofs.Kept.Stack.{alive_at}
+use Rattle.entities.proofs.Population.Lowers.{lowered_is, lowered_more, distinct_of_more, stands_earlier}
 use Rattle.entities.proofs.lowering.lower.Goals as goal
 
 pub returns-then-not-is_one_of-clause-stopped : goal.returns-then-not-is_one_of-clause-stopped

@@ -2,7 +2,7 @@ use Rattle.std.proofs.Common.{◌≡◌, ◌∙◌, ◌<◌, pos, length, take, 
 use Rattle.std.proofs.lemmas.List.{take_all}
 use Rattle.std.proofs.lemmas.Int.{to_z-of_z}
 use Rattle.entities.specs.declared.entity.Entity.{Entity}
-use Rattle.entities.proofs.Lowers.{raised_more, raised_all}
+use Rattle.entities.proofs.Population.Lowers.{raised_more, raised_all}
 use Rattle.entities.proofs.lowering.raise.Goals as goal
 
 pub loop-e-preserved : goal.loop-e-preserved

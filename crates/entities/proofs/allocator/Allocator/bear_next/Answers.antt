@@ -1,8 +1,8 @@
 use Rattle.std.proofs.Common.{◌≡◌, ◌∷◌, ◌++◌, ◌<◌, [], rules, arith, pos, refl, length}
 use Rattle.std.proofs.lemmas.List.{length_push}
-use Rattle.entities.proofs.Room.{moved_room}
-use Rattle.entities.proofs.Stack.{stacked_push, revived_push}
-use Rattle.entities.proofs.Steps.{population_born_as, sets_born_as}
+use Rattle.entities.proofs.Kept.Room.{moved_room}
+use Rattle.entities.proofs.Kept.Stack.{stacked_push, revived_push}
+use Rattle.entities.proofs.Population.Steps.{population_born_as, sets_born_as}
 use Rattle.entities.proofs.allocator.Allocator.bear_next.Goals as goal
 
 pub enlist-requires : goal.enlist-requires

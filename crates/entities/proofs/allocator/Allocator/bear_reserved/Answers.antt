@@ -1,7 +1,7 @@
 use Rattle.std.proofs.Common.{◌≡◌, ◌∙◌, ap, sym, subst}
 use Rattle.entities.specs.Census.{Census}
 use Rattle.entities.specs.Kept.{IsStacked}
-use Rattle.entities.proofs.Upcoming.{IsBorne, borne_none, borne_revived, borne_first}
+use Rattle.entities.proofs.Population.Upcoming.{IsBorne, borne_none, borne_revived, borne_first}
 use Rattle.entities.proofs.allocator.Allocator.bear_reserved.Goals as goal
 use Rattle.entities.proofs.allocator.Allocator.bear_reserved.Goals.{in-Some, in-None}
 

@@ -1,4 +1,4 @@
-use Rattle.entities.proofs.Upcoming.{IsBorne}
+use Rattle.entities.proofs.Population.Upcoming.{IsBorne}
 use Rattle.entities.proofs.allocator.Allocator.bear_reserved.Given as goal
 
 abbrev pub invariant-loop-earlier : goal.invariant-loop-earlier

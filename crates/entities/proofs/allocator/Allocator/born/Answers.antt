@@ -1,6 +1,6 @@
 use Rattle.std.proofs.Common.{◌≤◌, length, arith}
 use Rattle.entities.specs.Census.{Census}
-use Rattle.entities.proofs.Givable.{givable_is}
+use Rattle.entities.proofs.Population.Givable.{givable_is}
 use Rattle.entities.proofs.allocator.Allocator.born.Goals as goal
 
 pub returns-clause-left : goal.returns-clause-left

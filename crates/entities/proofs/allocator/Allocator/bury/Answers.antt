@@ -4,10 +4,10 @@ use Rattle.std.proofs.lemmas.Bool.{lt-ltb, le-ltb, ltb-true, ltb-false}
 use Rattle.std.proofs.lemmas.List.{length_push}
 use Rattle.std.proofs.lemmas.List.Sums.{sum_by_push}
 use Rattle.std.specs.List.{count_by}
-use Rattle.entities.proofs.Stack.{buried_set, stacked_buried, room_to_die}
-use Rattle.entities.proofs.Room.{moved_room}
-use Rattle.entities.proofs.Lowers.{lowered_is}
-use Rattle.entities.proofs.Steps.{stands, sets_buried, population_buried}
+use Rattle.entities.proofs.Kept.Stack.{buried_set, stacked_buried, room_to_die}
+use Rattle.entities.proofs.Kept.Room.{moved_room}
+use Rattle.entities.proofs.Population.Lowers.{lowered_is}
+use Rattle.entities.proofs.Population.Steps.{stands, sets_buried, population_buried}
 use lib.Signed.{lt_z}
 use Rattle.entities.proofs.allocator.Allocator.bury.Goals as goal
 

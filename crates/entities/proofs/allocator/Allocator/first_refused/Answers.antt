@@ -3,7 +3,7 @@ use Rattle.std.specs.Vec.{vec_capacity}
 use Rattle.std.proofs.lemmas.List.{take-append-le, take_all}
 use Rattle.entities.specs.declared.entity.Entity.{Entity}
 use Rattle.entities.specs.Kept.{IsKept}
-use Rattle.entities.proofs.Steps.{census, first_refused}
+use Rattle.entities.proofs.Population.Steps.{census, first_refused}
 use Rattle.entities.proofs.allocator.Allocator.first_refused.Goals as goal
 
 pub returns-then-lowered-list-clause-refused : goal.returns-then-lowered-list-clause-refused

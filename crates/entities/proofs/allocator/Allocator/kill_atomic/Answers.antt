@@ -1,7 +1,7 @@
-use Rattle.entities.proofs.Sets.{on_ok}
+use Rattle.entities.proofs.Kept.Sets.{on_ok}
 use Rattle.std.proofs.Common.{arith}
-use Rattle.entities.proofs.Room.{same_room}
-use Rattle.entities.proofs.Steps.{stands, sets_marked, population_marked}
+use Rattle.entities.proofs.Kept.Room.{same_room}
+use Rattle.entities.proofs.Population.Steps.{stands, sets_marked, population_marked}
 use Rattle.entities.proofs.allocator.Allocator.kill_atomic.Goals as goal
 
 pub invariant_of-self : goal.invariant_of-self

@@ -1,6 +1,6 @@
 use Rattle.std.proofs.Common.{◌≡◌, arith, length, rules}
 use Rattle.entities.specs.Census.{births_of}
-use Rattle.entities.proofs.Stack.{unborn_past}
+use Rattle.entities.proofs.Kept.Stack.{unborn_past}
 use Rattle.entities.proofs.allocator.Allocator.make_next_room.Goals as goal
 
 pub returns-in-Err-clause-memory : goal.returns-in-Err-clause-memory

@@ -1,9 +1,9 @@
 use Rattle.std.proofs.Common.{◌≡◌, true, arith, ◌∙◌, sym}
 use Rattle.entities.specs.Census.{living_of}
-use Rattle.entities.proofs.Sets.{on_ok, lives_is}
-use Rattle.entities.proofs.Room.{same_room}
-use Rattle.entities.proofs.Stack.{alive_at}
-use Rattle.entities.proofs.Steps.{census, sets_marked, population_marked}
+use Rattle.entities.proofs.Kept.Sets.{on_ok, lives_is}
+use Rattle.entities.proofs.Kept.Room.{same_room}
+use Rattle.entities.proofs.Kept.Stack.{alive_at}
+use Rattle.entities.proofs.Population.Steps.{census, sets_marked, population_marked}
 use Rattle.entities.proofs.allocator.Allocator.mark_index.Goals as goal
 
 pub invariant_of-self : goal.invariant_of-self

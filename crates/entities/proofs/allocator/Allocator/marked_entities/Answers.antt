@@ -5,7 +5,7 @@ use Rattle.hibits.specs.Left.{left}
 use Rattle.hibits.specs.Sets.{has_part_zero}
 use Rattle.entities.specs.Census.{Census, population, has, living_of}
 use Rattle.entities.specs.Merges.{living_entity}
-use Rattle.entities.proofs.Merging.{entity_is, layer_is, marked_below}
+use Rattle.entities.proofs.Population.Merging.{entity_is, layer_is, marked_below}
 use Rattle.entities.proofs.allocator.Allocator.marked_entities.Goals as goal
 
 pub loop-id-init : goal.loop-id-init

@@ -1,6 +1,6 @@
 use Rattle.std.proofs.Common.{ap, arith, length}
-use Rattle.entities.proofs.Steps.{sets_empty}
-use Rattle.entities.proofs.Stack.{stacked_empty}
+use Rattle.entities.proofs.Population.Steps.{sets_empty}
+use Rattle.entities.proofs.Kept.Stack.{stacked_empty}
 use Rattle.entities.proofs.allocator.Allocator.new.Goals as goal
 
 pub invariant_of-result : goal.invariant_of-result

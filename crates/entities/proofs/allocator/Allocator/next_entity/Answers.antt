@@ -2,8 +2,8 @@ use Rattle.std.proofs.Common.{◌≡◌, ◌<◌, ◌-◌, ℕ, List, ℤ, true,
 use Rattle.std.proofs.lemmas.Int.{to_z-of_z}
 use Rattle.std.proofs.lemmas.List.{get_or_read}
 use Rattle.entities.specs.Kept.{free_at, IsStacked}
-use Rattle.entities.proofs.Stack.{within}
-use Rattle.entities.proofs.Upcoming.{stack_free}
+use Rattle.entities.proofs.Kept.Stack.{within}
+use Rattle.entities.proofs.Population.Upcoming.{stack_free}
 use Rattle.entities.proofs.allocator.Allocator.next_entity.Goals as goal
 
 -- the index that was read from the stack is of a dead one that was born

@@ -2,10 +2,10 @@ use Rattle.std.proofs.Common.{◌+◌, rules, arith, pos, w32, FitsSigned, set, 
 use Rattle.std.proofs.lemmas.Int.{to_z-of_z}
 use Rattle.std.proofs.lemmas.List.{get_or_read}
 use Rattle.entities.specs.Census.{births_of}
-use Rattle.entities.proofs.Sets.{free_is}
-use Rattle.entities.proofs.Room.{moved_room}
-use Rattle.entities.proofs.Stack.{last_is_free, within, stacked_revived, revived_set}
-use Rattle.entities.proofs.Steps.{census, population_born_as, sets_born_as}
+use Rattle.entities.proofs.Kept.Sets.{free_is}
+use Rattle.entities.proofs.Kept.Room.{moved_room}
+use Rattle.entities.proofs.Kept.Stack.{last_is_free, within, stacked_revived, revived_set}
+use Rattle.entities.proofs.Population.Steps.{census, population_born_as, sets_born_as}
 use Rattle.entities.proofs.allocator.Allocator.revive.Goals as goal
 
 pub index-requires : goal.index-requires

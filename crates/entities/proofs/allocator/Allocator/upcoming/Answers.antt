@@ -4,7 +4,7 @@ use Rattle.entities.specs.Census.{Census, population}
 use Rattle.entities.specs.Kept.{IsStacked}
 use Rattle.entities.specs.Upcoming.{upcoming}
 use Rattle.entities.specs.Phase.Reserve.{IsReserve}
-use Rattle.entities.proofs.Upcoming.{reserve_is, revived_below}
+use Rattle.entities.proofs.Population.Upcoming.{reserve_is, revived_below}
 use Rattle.entities.proofs.allocator.Allocator.upcoming.Goals as goal
 
 pub returns-clause-reserve : goal.returns-clause-reserve

@@ -3,7 +3,7 @@ use Rattle.std.proofs.lemmas.Bool.{cases_eq, cases_lt, cases_Bool, ne_eqb, or_le
 use Rattle.std.specs.Cmp.{both_ways}
 use Rattle.hibits.specs.Sets.{has_part_zero}
 use Rattle.entities.specs.Census.{has}
-use Rattle.entities.proofs.Sets.{has-insert, on_ok}
+use Rattle.entities.proofs.Kept.Sets.{has-insert, on_ok}
 use Rattle.entities.proofs.allocator.merging.add_all.Goals as goal
 
 pub loop-i-preserved : goal.loop-i-preserved

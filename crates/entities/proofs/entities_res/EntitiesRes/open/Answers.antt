@@ -6,13 +6,13 @@ use Rattle.entities.specs.Upcoming.{upcoming}
 use Rattle.entities.specs.Phase.Reserve.{IsReserve}
 use Rattle.entities.specs.Phase.Plan.{phase_of, AreLocated}
 use Rattle.entities.specs.Phase.Calls.{EveryOrderIsSound}
-use Rattle.entities.proofs.Upcoming.{upcoming_length}
-use Rattle.entities.proofs.PhaseCalls.{population_but}
-use Rattle.entities.proofs.PhasePasses.{fresh_each, all_from_each}
+use Rattle.entities.proofs.Population.Upcoming.{upcoming_length}
+use Rattle.entities.proofs.Shared.Calls.{population_but}
+use Rattle.entities.proofs.Shared.Passes.{fresh_each, all_from_each}
 use Rattle.entities.specs.Phase.Board.{IsPassOf}
-use Rattle.entities.proofs.PhaseSound.{sound}
+use Rattle.entities.proofs.Shared.Sound.{sound}
 use Rattle.entities.specs.Phase.Given.{IsBlank}
-use Rattle.entities.proofs.PhaseGiven.{fresh_blank}
+use Rattle.entities.proofs.Shared.Given.{fresh_blank}
 use Rattle.entities.proofs.entities_res.EntitiesRes.open.Goals as goal
 
 pub returns : goal.returns

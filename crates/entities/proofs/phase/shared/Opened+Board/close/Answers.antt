@@ -14,13 +14,13 @@ use Rattle.entities.specs.Phase.Trace.{run, start}
 use Rattle.entities.specs.declared.phase.board.Board.{Board}
 use Rattle.entities.specs.Phase.Board.{record_of}
 use Rattle.entities.specs.Phase.Calls.{IsOpen}
-use Rattle.entities.proofs.Upcoming.{same_upcoming, upcoming_take}
-use Rattle.entities.proofs.PhaseCalls.{population_but}
-use Rattle.entities.proofs.PhaseSound.{marked_alive}
-use Rattle.entities.proofs.PhaseEnds.{closes, alive_then, spent_all}
+use Rattle.entities.proofs.Population.Upcoming.{same_upcoming, upcoming_take}
+use Rattle.entities.proofs.Shared.Calls.{population_but}
+use Rattle.entities.proofs.Shared.Sound.{marked_alive}
+use Rattle.entities.proofs.Shared.Ends.{closes, alive_then, spent_all}
 use Rattle.entities.specs.Phase.Reserve.{IsReserve}
-use Rattle.entities.proofs.PhaseGiven.{given_once, taken_up}
-use Rattle.entities.proofs.PhaseTheirs.{all_theirs}
+use Rattle.entities.proofs.Shared.Given.{given_once, taken_up}
+use Rattle.entities.proofs.Shared.Theirs.{all_theirs}
 use Rattle.entities.proofs.phase.shared.Opened+Board.close.Goals as goal
 
 -- the entities that are born are the first of the reserve

@@ -1,8 +1,8 @@
 use Rattle.std.proofs.Common.{◌≡◌, true, false, true≢false, sym, ap, ◌∙◌, arith, Some}
 use Rattle.std.proofs.lemmas.Option.{slice_get-get_or}
-use Rattle.entities.proofs.PhasePasses.{drew, next_spent}
+use Rattle.entities.proofs.Shared.Passes.{drew, next_spent}
 use Rattle.entities.specs.Phase.Plan.{phase_of}
-use Rattle.entities.proofs.PhaseGiven.{gains_none, gains_draw, gains_miss}
+use Rattle.entities.proofs.Shared.Given.{gains_none, gains_draw, gains_miss}
 use Rattle.entities.proofs.phase.shared.Opened+Board.create.Goals as goal
 
 pub returns-then-ticket-len-clause-pass : goal.returns-then-ticket-len-clause-pass

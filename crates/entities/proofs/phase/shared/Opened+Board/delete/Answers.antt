@@ -1,7 +1,7 @@
 use Rattle.std.proofs.Common.{refl, subst, Bool}
 use Rattle.entities.specs.Phase.Calls.{AliveSteps}
-use Rattle.entities.proofs.PhaseCalls.{index_within, mark_after, marked_pass, marked_steps}
-use Rattle.entities.proofs.PhaseGiven.{alive_gains, mark_gains}
+use Rattle.entities.proofs.Shared.Calls.{index_within, mark_after, marked_pass, marked_steps}
+use Rattle.entities.proofs.Shared.Given.{alive_gains, mark_gains}
 use Rattle.entities.proofs.phase.shared.Opened+Board.delete.Goals as goal
 
 pub mark_as-requires-clause-calls : goal.mark_as-requires-clause-calls

@@ -2,10 +2,10 @@ use Rattle.std.proofs.Common.{◌≡◌, inl, inr, true, subst, refl, [], ◌∷
 use Rattle.entities.specs.declared.phase.trace.Step.TheVariants.{Look}
 use Rattle.std.specs.Prelude.{◌↔◌}
 use Rattle.entities.specs.Population.{Population, IsAlive}
-use Rattle.entities.proofs.PhasePasses.{looked_at}
-use Rattle.entities.proofs.PhaseCalls.{population_but}
+use Rattle.entities.proofs.Shared.Passes.{looked_at}
+use Rattle.entities.proofs.Shared.Calls.{population_but}
 use Rattle.entities.specs.Phase.Plan.{phase_of}
-use Rattle.entities.proofs.PhaseGiven.{gains, own_alive}
+use Rattle.entities.proofs.Shared.Given.{gains, own_alive}
 use Rattle.entities.proofs.phase.shared.Opened+Board.is_alive.Goals as goal
 
 pub returns-in-Some-clause-pass : goal.returns-in-Some-clause-pass

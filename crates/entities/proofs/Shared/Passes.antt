@@ -2,8 +2,8 @@
 use Rattle.std.proofs.Common.{◌≡◌, ℕ, zero, suc, ◌+◌, ◌-◌, ◌<◌, ◌≤◌, Bool, true, false, true≢false, List, [], ◌∷◌, ◌++◌, length, refl, sym, ap, ◌∙◌, subst, arith, append_assoc, Some}
 use Rattle.entities.specs.Population.{IsAlive}
 use Rattle.entities.specs.Census.{Census, population}
-use Rattle.entities.proofs.Sets.{lives_is}
-use Rattle.entities.proofs.Stack.{alive_at}
+use Rattle.entities.proofs.Kept.Sets.{lives_is}
+use Rattle.entities.proofs.Kept.Stack.{alive_at}
 use Rattle.std.proofs.lemmas.Bool.{lt-leb, le-leb}
 use Rattle.std.specs.Prelude.{nat_le, slice_get}
 use Rattle.std.specs.List.{All}
@@ -18,7 +18,7 @@ use Rattle.entities.specs.Phase.Rule.{line, blank_lines, with_step, number_of, s
 use Rattle.entities.specs.Phase.Plan.{phase_of}
 use Rattle.entities.specs.Phase.Board.{IsPassOf, IsNext, steps_of_pass, AreDealt, AreFresh}
 use Rattle.atomic_table.specs.Seated.{TableId}
-use Rattle.entities.proofs.PhasePushes.{AreCalls-push, misses-push}
+use Rattle.entities.proofs.Shared.Pushes.{AreCalls-push, misses-push}
 
 with_step_one : (s : Step) (v : List Line) → IsOne v → with_step s v ≡ line (number_of v) (steps_in v ++ s ∷ []) ∷ []
 with_step_one s v one = ap (with_step s) one

@@ -12,7 +12,7 @@ use Rattle.std.proofs.Common.{set, min, [], lt-ltb, le-ltb}
 use Rattle.entities.specs.Census.{Census, population}
 use Rattle.entities.specs.Upcoming.{upcoming}
 use Rattle.entities.specs.Phase.Plan.{ArePlaced, place_of_index}
-use Rattle.entities.proofs.Upcoming.{some_same, upcoming_is, upcoming_length, next_high}
+use Rattle.entities.proofs.Population.Upcoming.{some_same, upcoming_is, upcoming_length, next_high}
 use Rattle.entities.specs.Phase.Reserve.{IsReserve, AreApart, AreNew}
 
 pub slice_get_within : (es : List Entity) (k : ℕ) (e : Entity) → slice_get es k ≡ Some e → k < length es

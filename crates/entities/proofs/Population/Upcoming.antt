@@ -16,8 +16,8 @@ use Rattle.entities.specs.Deaths.{has_index}
 use Rattle.entities.specs.Kept.{IsStacked, SameBut, free_at}
 use Rattle.entities.specs.Upcoming.{next_index, next_entity, upcoming}
 use Rattle.entities.specs.Phase.Reserve.{IsReserve, with_births}
-use Rattle.entities.proofs.Sets.{same_population, free_is}
-use Rattle.entities.proofs.Stack.{within, born_in, unborn_past}
+use Rattle.entities.proofs.Kept.Sets.{same_population, free_is}
+use Rattle.entities.proofs.Kept.Stack.{within, born_in, unborn_past}
 
 -- ---- places in a list, and how often a number stands there
 one_more : (b : Bool) (n : ℕ) → n ≤ cond b 1 0 + n

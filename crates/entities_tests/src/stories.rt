@@ -1,5 +1,5 @@
 //! What the entities answer, step by step, on small worlds.
-use crate::{CreateError, EntitiesRes, Entity, Error, INDEX_LIMIT, WrongGeneration};
+use entities::{CreateError, EntitiesRes, Entity, Error, INDEX_LIMIT, WrongGeneration};
 use std::alloc::{AllocError, Global};
 use std::test::Fail;
 
@@ -18,8 +18,8 @@ enum Step {
     IsMerged(u32, i32),
 }
 
-fn entity(index: u32, generation: i32) -> Entity {
-    Entity::from_parts(index, generation).unwrap_or(Entity(index, crate::Generation(1)))
+fn entity(index: u32, generation: i32) -> Option<Entity> {
+    Entity::from_parts(index, generation)
 }
 
 fn text_of_birth(alloc: Global, birth: Result<Entity, CreateError>) -> Result<String, AllocError> {
@@ -59,7 +59,9 @@ fn kill(
 ) -> Result<String, AllocError> {
     let mut all = Vec::new(alloc);
     for (index, generation) in list {
-        all.push(entity(*index, *generation))?;
+        if let Some(e) = entity(*index, *generation) {
+            all.push(e)?;
+        }
     }
     text_of_death(alloc, entities.alloc_mut().kill(all.as_slice()))
 }
@@ -80,10 +82,10 @@ fn text_of(alloc: Global, entities: &mut EntitiesRes, step: &Step) -> Result<Str
         Step::Create => text_of_birth(alloc, entities.create()),
         Step::Build => text_of_birth(alloc, build(entities, true)),
         Step::BuildAndDrop => text_of_birth(alloc, build(entities, false)),
-        Step::Delete(index, generation) => text_of_death(
-            alloc,
-            entities.delete(entity(*index, *generation)),
-        ),
+        Step::Delete(index, generation) => match entity(*index, *generation) {
+            Some(e) => text_of_death(alloc, entities.delete(e)),
+            None => "no entity".to_string(alloc),
+        },
         Step::Kill(list) => kill(alloc, entities, list),
         Step::Merge => merge(alloc, entities),
         Step::EntityAt(index) => text_of_birth(alloc, Ok(entities.entity(*index))),
@@ -92,11 +94,17 @@ fn text_of(alloc: Global, entities: &mut EntitiesRes, step: &Step) -> Result<Str
             None => "none".to_string(alloc),
         },
         Step::IsAlive(index, generation) => {
-            let alive = entities.is_alive(entity(*index, *generation));
+            let alive = match entity(*index, *generation) {
+                Some(e) => entities.is_alive(e),
+                None => false,
+            };
             format!(in alloc; "{alive}")
         }
         Step::IsMerged(index, generation) => {
-            let merged = entities.alloc_mut().is_merged(entity(*index, *generation));
+            let merged = match entity(*index, *generation) {
+                Some(e) => entities.alloc_mut().is_merged(e),
+                None => false,
+            };
             format!(in alloc; "{merged}")
         }
     }
@@ -228,7 +236,9 @@ fn five_made_and_marked(rt: HostRuntime) -> Result<(), Fail> {
     let mut entities = EntitiesRes::new(rt.alloc());
     assert_eq!(rt; made(&mut entities, 5), (5, 5));
     for index in (0..5).rev() {
-        let _ = entities.delete(entity(index, 1));
+        if let Some(e) = entity(index, 1) {
+            let _ = entities.delete(e);
+        }
     }
     let text = merge(rt.alloc(), &mut entities)?;
     assert_eq!(rt;
@@ -253,9 +263,9 @@ fn two_indices_below_the_limit(rt: HostRuntime) -> Result<(), Fail> {
     assert_eq!(rt; made(&mut entities, 4), (2, 2));
     assert_eq!(rt; made(&mut entities, 4), (0, 0));
     assert_eq!(rt; entities.create(), Err(CreateError::IndexLimit));
-    let last = entity(INDEX_LIMIT - 1, 1);
+    let last = entity(INDEX_LIMIT - 1, 1).ok_or("an entity")?;
     assert_eq!(rt; entities.is_alive(last), true);
     assert_eq!(rt; entities.alloc_mut().kill(&[last]).is_ok(), true);
-    assert_eq!(rt; entities.create(), Ok(entity(INDEX_LIMIT - 1, 2)));
+    assert_eq!(rt; entities.create().ok(), entity(INDEX_LIMIT - 1, 2));
     Ok(())
 }

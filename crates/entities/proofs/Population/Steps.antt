@@ -10,14 +10,14 @@ use Rattle.std.specs.Prelude.{nat_abs}
 use Rattle.std.specs.List.{Contains}
 use Rattle.std.proofs.lemmas.Option.{slice_get-get_or}
 use Rattle.entities.specs.Lowered.{IsOneOf, AreDistinctOf}
-use Rattle.entities.proofs.Stack.{alive_at}
-use Rattle.entities.proofs.Sets.{lives_is}
+use Rattle.entities.proofs.Kept.Stack.{alive_at}
+use Rattle.entities.proofs.Kept.Sets.{lives_is}
 use Rattle.entities.specs.Population.{IsAlive, born, born_pending, born_as, mark}
 use Rattle.entities.specs.Census.{Census, population, living_of, has}
 use Rattle.entities.specs.Deaths.{all_dead, has_index, MayAllDie, IsFirstRefused}
 use Rattle.entities.specs.Kept.{AreSets}
-use Rattle.entities.proofs.Sets.{same_population, has-insert, has-remove}
-use Rattle.entities.proofs.Stack.{IsRevived, IsBuried}
+use Rattle.entities.proofs.Kept.Sets.{same_population, has-insert, has-remove}
+use Rattle.entities.proofs.Kept.Stack.{IsRevived, IsBuried}
 
 abbrev pub Members : Type 0
 Members = set.FinSet nat_cmp

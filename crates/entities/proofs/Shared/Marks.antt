@@ -8,7 +8,7 @@ use Rattle.hibits.specs.Counts.{count_below}
 use Rattle.entities.specs.Population.{Population, mark}
 use Rattle.entities.specs.Phase.Reserve.{with_marks}
 use Rattle.entities.specs.Phase.Rule.{marks_index, marks_below, bit_of}
-use Rattle.entities.proofs.Sets.{same_population}
+use Rattle.entities.proofs.Kept.Sets.{same_population}
 
 pub same_marks : (p : Population) (f g : ℕ → Bool) → ((i : ℕ) → f i ≡ g i) → with_marks f p ≡ with_marks g p
 same_marks p f g h = same_population _ _ (λ _. refl) (λ _. refl) (λ _. refl) (λ i. ap (λ b. p.marked i || b) (h i))

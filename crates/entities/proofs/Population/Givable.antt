@@ -8,9 +8,9 @@ use Rattle.entities.specs.Census.{Census, population, births_of}
 use Rattle.entities.specs.Population.{is_free}
 use Rattle.entities.specs.Kept.{IsStacked, free_at}
 use Rattle.entities.specs.Phase.Reserve.{givable}
-use Rattle.entities.proofs.Sets.{free_is}
-use Rattle.entities.proofs.Stack.{within, born_in, unborn_past}
-use Rattle.entities.proofs.Upcoming.{stack_free}
+use Rattle.entities.proofs.Kept.Sets.{free_is}
+use Rattle.entities.proofs.Kept.Stack.{within, born_in, unborn_past}
+use Rattle.entities.proofs.Population.Upcoming.{stack_free}
 
 -- how often the numbers below n stand in a list
 sums : List ℕ → ℕ → ℕ

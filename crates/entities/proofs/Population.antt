@@ -1,0 +1,6 @@
+pub mod Newborn
+pub mod Steps
+pub mod Lowers
+pub mod Merging
+pub mod Upcoming
+pub mod Givable

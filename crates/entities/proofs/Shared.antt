@@ -1,0 +1,12 @@
+pub mod Reserve
+pub mod Marks
+pub mod Pushes
+pub mod Sound
+pub mod Keeps
+pub mod Passes
+pub mod Ends
+pub mod Calls
+pub mod Tickets
+pub mod Given
+pub mod Theirs
+pub mod Shares
