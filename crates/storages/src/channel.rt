@@ -1,7 +1,7 @@
 //! A channel of events: for each reader a list of what it has not read.
-ghost use Rattle.std.specs.Prelude.{◌≡◌, ◌<◌, ◌+◌, ◌^◌, ◌++◌, ◌∷◌, ℕ, [], None, Some, is_some, IsOk, OnOk, OnErr, IfOk, IfErr, IfSome, MatchOption, MatchResult, true, false, map, length};
+ghost use Rattle.std.specs.Prelude.{◌≡◌, ◌≢◌, ◌<◌, ◌+◌, ◌^◌, ◌++◌, ◌∷◌, ℕ, [], None, Some, is_some, IsOk, OnOk, OnErr, IfOk, IfErr, IfSome, MatchOption, MatchResult, true, false, map, length};
 ghost use Rattle.std.specs.List.{remove};
-ghost use Rattle.storages.specs.Unread.{written, unread_of, is_read, emptied, dropped, first_dropped};
+ghost use Rattle.storages.specs.Unread.{written, with_event, unread_of, is_read, emptied, dropped, first_dropped};
 ghost use Rattle.storages.specs.Readers.{shown, least_room};
 ghost use Rattle.storages.specs.Meaning.{HasRoom};
 
@@ -59,6 +59,7 @@ impl<E: Copy> EventChannel<E> {
         ensures number { IfOk result (λ id. id ≡ self.old.registered) }
         ensures fresh { unread_of self.old.registered self.old.readers ≡ None }
         ensures ok { OnOk result (self.new.readers ≡ self.old.readers ++ (self.old.registered, []) ∷ []) }
+        ensures begins { OnOk result (unread_of self.old.registered self.new.readers ≡ Some []) }
         ensures registered { OnOk result (self.new.registered ≡ self.old.registered + 1) }
         ensures err { OnErr result (self.new ≡ self.old) }
     {
@@ -88,6 +89,7 @@ impl<E: Copy> EventChannel<E> {
     #[inline(always)]
     pub fn single_write(&mut self, event: E) -> Result<(), AllocError>
         ensures ok { OnOk result (self.new.readers ≡ written event self.old.readers) }
+        ensures told { OnOk result ((n : ℕ) → unread_of n self.new.readers ≡ with_event event (unread_of n self.old.readers)) }
         ensures registered { self.new.registered ≡ self.old.registered }
         ensures needs_room { is_some (room_in self.new) ≡ is_some (room_in self.old) }
         ensures room { (n : ℕ) → HasRoom (room_in self.old) (n + 1) → HasRoom (room_in self.new) n }
@@ -116,6 +118,8 @@ impl<E: Copy> EventChannel<E> {
     pub fn read(&mut self, id: &ReaderId) -> Result<Vec<E>, UnknownReader>
         ensures events { MatchResult result (λ v. unread_of id.now self.old.readers ≡ Some v.items) (λ _. unread_of id.now self.old.readers ≡ None) }
         ensures readers { self.new.readers ≡ emptied id.now self.old.readers }
+        ensures nothing { OnOk result (unread_of id.now self.new.readers ≡ Some []) }
+        ensures others { (n : ℕ) → n ≢ id.now → unread_of n self.new.readers ≡ unread_of n self.old.readers }
         ensures registered { self.new.registered ≡ self.old.registered }
         ensures needs_room { is_some (room_in self.new) ≡ is_some (room_in self.old) }
     {

@@ -13,6 +13,7 @@ mod generic;
 mod kinds;
 mod life;
 mod masked;
+mod maybe_tracked;
 mod read_storage;
 mod reader_id;
 mod slices;
@@ -34,6 +35,7 @@ pub use kinds::{
     VecStorage,
 };
 pub use masked::{MaskedStorage, NotLent, Replaced};
+pub use maybe_tracked::MaybeTracked;
 pub use read_storage::ReadStorage;
 pub use reader_id::{ReaderId, UnknownReader};
 pub use slices::{SliceAccess, SliceAccessMut};

@@ -151,6 +151,21 @@ impl<T: Component> MaskedStorage<T> {
         self.inner.get_mut(id)
     }
 
+    /// `present_mut`, with the error of `get_mut`.
+    #[inline(always)]
+    pub fn lend_present(&mut self, id: Index) -> Result<&mut T, NotLent>
+        requires { IsSome (map.get self.old.map id) }
+        ensures* writes_back { sem 𝓛 (lends_present T.row T.Storage.row T.Storage.meaning T.Storage.IsDefault self.entry id result) }
+        ensures value { IfOk result (λ x. map.get self.old.map id ≡ Some x.now) }
+        ensures refused { IfErr result (λ e. e ≡ NotLent.OutOfMemory) }
+        ensures succeeds { HasRoom self.old.room 1 → IsOk result }
+    {
+        match self.present_mut(id) {
+            Ok(component) => Ok(component),
+            Err(_) => Err(NotLent::OutOfMemory),
+        }
+    }
+
     // `present_mut`, which hands a component that is not needed back with an error.
     #[inline(always)]
     pub(crate) fn present_mut_or(&mut self, id: Index, value: T) -> Result<&mut T, (AllocError, T)>

@@ -195,9 +195,9 @@ impl<'a, T: Component> WriteStorage<'a, T> {
         self.data.clear()
     }
 
-    // The storage.
+    /// The storage without the entities, to read.
     #[inline(always)]
-    pub(crate) fn storage(&self) -> &MaskedStorage<T>
+    pub fn storage(&self) -> &MaskedStorage<T>
         ensures { result.now ≡ slot self.now }
     {
         self.data
@@ -241,7 +241,7 @@ impl<'a, T: Component> WriteStorage<'a, T> {
 
     /// The entities.
     #[inline(always)]
-    pub fn fetched_entities(&self) -> &EntitiesRes
+    pub fn fetched_entities(&self) -> &'a EntitiesRes
         ensures { result.now ≡ entities_of self.now }
     {
         self.entities
