@@ -1,1 +1,3 @@
+pub mod CursorLemmas
 pub mod Holding
+pub mod PassedLemmas

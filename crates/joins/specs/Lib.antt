@@ -1,2 +1,13 @@
+pub mod Both
 pub mod Changes
+pub mod Cursor
+pub mod CursorOfTwo
+pub mod CursorOfView
+pub mod Draining
+pub mod Each
+pub mod EntryCursor
 pub mod Held
+pub mod Indexed
+pub mod Keys
+pub mod Restricted
+pub mod Restricting

@@ -37,3 +37,55 @@ impl Combine for i32 {
         Ok(())
     }
 }
+
+/// The sum, refused where it does not fit.
+impl Combine for i64 {
+    ghost use Rattle.std.specs.Prelude.{◌+ℤ◌, FitsSigned};
+    ghost use Rattle.std.specs.Int.{w64};
+
+    ghost combined = { λ a b. a +ℤ b };
+
+    ghost may_refuse = { λ a b. ¬ (FitsSigned w64 (a +ℤ b)) };
+
+    fn combine(&mut self, other: i64) -> Result<(), Refused> {
+        let Some(sum) = self.checked_add(other) else {
+            return Err(Refused);
+        };
+        *self = sum;
+        Ok(())
+    }
+}
+
+/// The sum, refused where it does not fit.
+impl Combine for u32 {
+    ghost use Rattle.std.specs.Prelude.{◌^◌, ◌≤◌};
+
+    ghost combined = { λ a b. a + b };
+
+    ghost may_refuse = { λ a b. 2 ^ 32 ≤ a + b };
+
+    fn combine(&mut self, other: u32) -> Result<(), Refused> {
+        let Some(sum) = self.checked_add(other) else {
+            return Err(Refused);
+        };
+        *self = sum;
+        Ok(())
+    }
+}
+
+/// The sum, refused where it does not fit.
+impl Combine for u64 {
+    ghost use Rattle.std.specs.Prelude.{◌^◌, ◌≤◌};
+
+    ghost combined = { λ a b. a + b };
+
+    ghost may_refuse = { λ a b. 2 ^ 64 ≤ a + b };
+
+    fn combine(&mut self, other: u64) -> Result<(), Refused> {
+        let Some(sum) = self.checked_add(other) else {
+            return Err(Refused);
+        };
+        *self = sum;
+        Ok(())
+    }
+}

@@ -1,6 +1,7 @@
 //! Storages, views of them and change sets as joins: they give what they have at an index.
-ghost use Rattle.std.specs.Prelude.{◌≡◌, Some};
+ghost use Rattle.std.specs.Prelude.{◌≡◌, Some, true, length};
 ghost use Rattle.std.specs.FinMap as map;
+ghost use Rattle.hibits.specs.Left.{left};
 ghost use Rattle.storages.specs.ReadView.{slot};
 ghost use Rattle.storages.specs.WriteView as writing;
 
@@ -21,6 +22,10 @@ impl<'a, T: Component> Join for &'a MaskedStorage<T> {
 
     ghost cost = { λ _. 1 };
 
+    ghost most = { λ j. length (left (λ i. map.contains_key j.now.map i) 0) };
+
+    ghost repeats = { true };
+
     ghost gives = { λ j i r. map.get j.now.map i ≡ Some r.now };
 
     ghost can_get = { λ v i. map.contains_key v.now.map i };
@@ -29,7 +34,9 @@ impl<'a, T: Component> Join for &'a MaskedStorage<T> {
 
     #[inline(always)]
     fn open(self) -> (&'a BitSet, &'a MaskedStorage<T>) {
-        (self.mask(), self)
+        let mask = self.mask();
+        mask.sized();
+        (mask, self)
     }
 
     #[inline(always)]
@@ -50,6 +57,10 @@ impl<'a, 'b, T: Component> Join for &'b ReadStorage<'a, T> {
 
     ghost cost = { λ _. 1 };
 
+    ghost most = { λ j. length (left (λ i. map.contains_key (slot j.now).map i) 0) };
+
+    ghost repeats = { true };
+
     ghost gives = { λ j i r. map.get (slot j.now).map i ≡ Some r.now };
 
     ghost can_get = { λ v i. map.contains_key (slot v.now).map i };
@@ -58,7 +69,9 @@ impl<'a, 'b, T: Component> Join for &'b ReadStorage<'a, T> {
 
     #[inline(always)]
     fn open(self) -> (&'b BitSet, &'b ReadStorage<'a, T>) {
-        (self.mask(), self)
+        let mask = self.mask();
+        mask.sized();
+        (mask, self)
     }
 
     #[inline(always)]
@@ -79,6 +92,10 @@ impl<'a, 'b, T: Component> Join for &'b WriteStorage<'a, T> {
 
     ghost cost = { λ _. 1 };
 
+    ghost most = { λ j. length (left (λ i. map.contains_key (writing.slot j.now).map i) 0) };
+
+    ghost repeats = { true };
+
     ghost gives = { λ j i r. map.get (writing.slot j.now).map i ≡ Some r.now };
 
     ghost can_get = { λ v i. map.contains_key (writing.slot v.now).map i };
@@ -87,7 +104,9 @@ impl<'a, 'b, T: Component> Join for &'b WriteStorage<'a, T> {
 
     #[inline(always)]
     fn open(self) -> (&'b BitSet, &'b WriteStorage<'a, T>) {
-        (self.mask(), self)
+        let mask = self.mask();
+        mask.sized();
+        (mask, self)
     }
 
     #[inline(always)]
@@ -108,6 +127,10 @@ impl<'a, T: Combine + Drop> Join for &'a ChangeSet<T> {
 
     ghost cost = { λ _. 1 };
 
+    ghost most = { λ j. length (left (λ i. map.contains_key j.now i) 0) };
+
+    ghost repeats = { true };
+
     ghost gives = { λ j i r. map.get j.now i ≡ Some r.now };
 
     ghost can_get = { λ v i. map.contains_key v.now i };
@@ -116,7 +139,9 @@ impl<'a, T: Combine + Drop> Join for &'a ChangeSet<T> {
 
     #[inline(always)]
     fn open(self) -> (&'a BitSet, &'a ChangeSet<T>) {
-        (self.mask(), self)
+        let mask = self.mask();
+        mask.sized();
+        (mask, self)
     }
 
     #[inline(always)]

@@ -1,27 +1,35 @@
 //! The values of a join.
-ghost use Rattle.std.specs.Prelude.{◌≡◌, ℕ, ◌+◌, ◌-◌, ◌*◌, ◌≤◌, ◌<◌, true, [], ◌∷◌, MatchOption, IfSome};
+ghost use Rattle.std.specs.Prelude.{◌≡◌, ℕ, ◌+◌, ◌-◌, ◌*◌, ◌≤◌, ◌<◌, true, false, [], ◌∷◌, MatchOption, IfSome, IfNone};
 ghost use Rattle.std.specs.Iterator.{item_count, MakesProgress};
 ghost use Rattle.hibits.specs.Left.{left};
+ghost use Rattle.entities.specs.Census.{population};
+ghost use Rattle.entities.specs.Population.{index_of, IsAlive};
 
 use crate::join::Join;
-use hibits::{BitIter, INDEX_LIMIT, LAYERS, Layers};
+use crate::lookup::Lookup;
+use crate::repeatable::RepeatableJoin;
+use entities::{EntitiesRes, Entity};
+use hibits::{BitIter, BitSetLike, INDEX_LIMIT, Index, LAYERS, Layers};
 
-/// The values of a join at its indices, ascending.
+/// The values of a join at its indices, ascending. Ports `specs::join::JoinIter`.
 #[derive(Drop)]
 pub struct JoinIter<J: Join> {
     keys: BitIter<J::Mask>,
     values: J::Value,
     ghost ready: { (i : ℕ) → keys.position ≤ i → J.Mask.has keys.mask 0 i ≡ true → J.can_get values i ≡ true },
+    ghost again: { J.repeats ≡ true → (i : ℕ) → J.Mask.has keys.mask 0 i ≡ true → J.can_get values i ≡ true },
 }
 
 impl<J: Join> JoinIter<J> {
     /// At the first index.
     #[inline(always)]
     pub fn new(join: J) -> Self
+        ensures mask { (i : ℕ) → J.Mask.has result.keys.mask 0 i ≡ J.has join i }
         ensures items { left (J.Mask.has result.keys.mask 0) 0 ≡ left (J.has join) 0 }
         ensures gives { (i : ℕ) (r : J.Type) → J.value_gives result.values i r → J.gives join i r }
         ensures position { result.keys.position ≡ 0 }
         ensures cost { J.Mask.cost result.keys.mask ≡ J.cost join }
+        ensures most { J.Mask.most result.keys.mask ≡ J.most join }
     {
         let (mask, values) = join.open();
         JoinIter {
@@ -49,9 +57,42 @@ impl<J: Join> JoinIter<J> {
             (λ r. (i : ℕ) × (left (J.Mask.has self.old.keys.mask 0) self.old.keys.position ≡ i ∷ left (J.Mask.has self.old.keys.mask 0) self.new.keys.position) × J.value_gives self.old.values i r) }
         ensures forward { IfSome result (λ _. (self.old.keys.position < self.new.keys.position) × (self.new.keys.position ≤ INDEX_LIMIT)) }
         ensures later_gives { (i : ℕ) (r : J.Type) → self.new.keys.position ≤ i → J.value_gives self.new.values i r → J.value_gives self.old.values i r }
+        ensures again_gives { J.repeats ≡ true → (i : ℕ) (r : J.Type) → J.value_gives self.new.values i r → J.value_gives self.old.values i r }
     {
         let id = self.keys.next()?;
         Some(J::get(&mut self.values, id))
+    }
+}
+
+impl<J: RepeatableJoin> JoinIter<J>
+where
+    J::Mask: BitSetLike,
+    J::Value: Lookup<J::Type>,
+{
+    /// The values at an index, wherever the walk is, if the index is in the mask. It walks nothing, and its look into the mask is not
+    /// counted in `reads`.
+    #[inline(always)]
+    pub fn get_unchecked(&self, index: Index) -> Option<J::Type>
+        ensures { MatchOption result
+            (J.Mask.has self.now.keys.mask 0 index ≡ false)
+            (λ r. (J.Mask.has self.now.keys.mask 0 index ≡ true) × J.value_gives self.now.values index r) }
+    {
+        if self.keys.mask().contains(index) {
+            return Some(self.values.at(index));
+        }
+        None
+    }
+
+    /// The values at an entity's index, wherever the walk is, if the entity is alive and the index is in the mask.
+    #[inline(always)]
+    pub fn get(&self, entity: Entity, entities: &EntitiesRes) -> Option<J::Type>
+        ensures present { IfSome result (λ r. IsAlive (population entities.now) entity × (J.Mask.has self.now.keys.mask 0 (index_of entity) ≡ true) × J.value_gives self.now.values (index_of entity) r) }
+        ensures absent { IfNone result (IsAlive (population entities.now) entity → J.Mask.has self.now.keys.mask 0 (index_of entity) ≡ false) }
+    {
+        if !entities.is_alive(entity) {
+            return None;
+        }
+        self.get_unchecked(entity.id())
     }
 }
 

@@ -1,9 +1,12 @@
 //! Joins: what several hold at the indices that all of them have.
-ghost use Rattle.std.specs.Prelude.{◌≡◌, ℕ, Bool, ◌&&◌, ◌+◌, ◌<◌, ◌≤◌, true};
+ghost use Rattle.std.specs.Prelude.{◌≡◌, ℕ, Bool, ◌&&◌, ◌+◌, ◌<◌, ◌≤◌, true, false, min};
+ghost use Rattle.hibits.specs.Left.{left};
 
-use hibits::{BitSetAnd, Index, Layers};
+use crate::iter::JoinIter;
+use crate::optional::MaybeJoin;
+use hibits::{BitSetAnd, INDEX_LIMIT, Index, Layers};
 
-/// What several hold at the indices that all of them have.
+/// What several hold at the indices that all of them have. Ports `specs::join::Join`, for joins that only read.
 pub trait Join: Sized {
     /// What stands at an index.
     type Type;
@@ -18,6 +21,9 @@ pub trait Join: Sized {
     // how many plain masks it walks
     ghost cost: { Self → ℕ };
 
+    // how many indices the smallest of them has
+    ghost most: { Self → ℕ };
+
     // what it gives at an index
     ghost gives: { Self → ℕ → Self.Type → Type 0 };
 
@@ -26,10 +32,14 @@ pub trait Join: Sized {
 
     ghost value_gives: { Self.Value → ℕ → Self.Type → Type 0 };
 
+    // whether it gives at each index as often as it is asked
+    ghost repeats: { Bool } = { false };
+
     /// The mask and the values.
     fn open(self) -> (Self::Mask, Self::Value)
         ensures mask { (i : ℕ) → Self.Mask.has result.0 0 i ≡ has self i }
         ensures cost { Self.Mask.cost result.0 ≡ cost self }
+        ensures most { Self.Mask.most result.0 ≡ most self }
         ensures ready { (i : ℕ) → has self i ≡ true → can_get result.1 i ≡ true }
         ensures gives { (i : ℕ) (r : Self.Type) → value_gives result.1 i r → gives self i r };
 
@@ -38,7 +48,41 @@ pub trait Join: Sized {
         requires { can_get value.old id ≡ true }
         ensures given { value_gives value.old id result }
         ensures later { (i : ℕ) → id < i → can_get value.old i ≡ true → can_get value.new i ≡ true }
-        ensures later_gives { (i : ℕ) (r : Self.Type) → id < i → value_gives value.new i r → value_gives value.old i r };
+        ensures later_gives { (i : ℕ) (r : Self.Type) → id < i → value_gives value.new i r → value_gives value.old i r }
+        ensures again { repeats ≡ true → (i : ℕ) → can_get value.old i ≡ true → can_get value.new i ≡ true }
+        ensures again_gives { repeats ≡ true → (i : ℕ) (r : Self.Type) → value_gives value.new i r → value_gives value.old i r };
+
+    /// Whether it has every index, as what may be there has. A walk over such joins alone, without one that has fewer, takes all the
+    /// indices below the limit: 16,777,216 steps.
+    #[inline(always)]
+    fn is_unconstrained() -> bool
+        ensures { result ≡ true → (j : Self) (i : ℕ) → i < INDEX_LIMIT → has j i ≡ true }
+    {
+        false
+    }
+
+    /// The values at the indices, ascending.
+    #[inline(always)]
+    final fn join(self) -> JoinIter<Self>
+        ensures mask { (i : ℕ) → Self.Mask.has result.keys.mask 0 i ≡ has self i }
+        ensures items { left (Self.Mask.has result.keys.mask 0) 0 ≡ left (has self) 0 }
+        ensures gives { (i : ℕ) (r : Self.Type) → value_gives result.values i r → gives self i r }
+        ensures position { result.keys.position ≡ 0 }
+        ensures cost { Self.Mask.cost result.keys.mask ≡ cost self }
+        ensures most { Self.Mask.most result.keys.mask ≡ most self }
+    {
+        JoinIter::new(self)
+    }
+
+    /// The same, which shrinks no other join, and gives `None` where it has nothing.
+    #[inline(always)]
+    final fn maybe(self) -> MaybeJoin<Self>
+    where
+        Self: Drop,
+        ensures { result.0 ≡ self }
+    {
+        MaybeJoin(self)
+    }
 }
 
 impl<A: Join, B: Join> Join for (A, B) {
@@ -51,6 +95,10 @@ impl<A: Join, B: Join> Join for (A, B) {
     ghost has = { λ j i. A.has j.0 i && B.has j.1 i };
 
     ghost cost = { λ j. A.cost j.0 + B.cost j.1 };
+
+    ghost most = { λ j. min (A.most j.0) (B.most j.1) };
+
+    ghost repeats = { A.repeats && B.repeats };
 
     ghost gives = { λ j i r. A.gives j.0 i r.0 × B.gives j.1 i r.1 };
 
@@ -71,5 +119,10 @@ impl<A: Join, B: Join> Join for (A, B) {
         let first = A::get(&mut value.0, id);
         let rest = B::get(&mut value.1, id);
         (first, rest)
+    }
+
+    #[inline(always)]
+    fn is_unconstrained() -> bool {
+        A::is_unconstrained() && B::is_unconstrained()
     }
 }

@@ -1,13 +1,23 @@
 //! Entities, and what has no component, as joins.
-ghost use Rattle.std.specs.Prelude.{◌≡◌, true, not, nat_lt, ◌&&◌, ◌||◌, ◌^◌};
+ghost use Rattle.std.specs.Prelude.{◌≡◌, true, not, nat_lt, ◌&&◌, ◌||◌, ◌^◌, ◌+◌, length};
 ghost use Rattle.std.specs.FinSet as set;
+ghost use Rattle.hibits.specs.Left.{left};
 ghost use Rattle.entities.specs.Census.{population};
 ghost use Rattle.entities.specs.Population.{index_of, generation_of, generation_now};
+ghost use Rattle.storages.specs.Life.{is_alive};
 
 use crate::join::Join;
 use entities::{EntitiesRes, Entity};
 use hibits::{BitSet, BitSetNot, BitSetOr, Index};
 use storages::AntiStorage;
+
+// Whether an entity is alive.
+#[inline(always)]
+pub(crate) fn is_living(entities: &EntitiesRes, entity: Entity) -> bool
+    ensures { result ≡ is_alive (population entities.now) entity }
+{
+    entities.is_alive(entity)
+}
 
 impl<'a> Join for &'a EntitiesRes {
     type Type = Entity;
@@ -20,6 +30,10 @@ impl<'a> Join for &'a EntitiesRes {
 
     ghost cost = { λ _. 2 };
 
+    ghost most = { λ j. length (left (population j.now).merged 0) + length (left (population j.now).pending 0) };
+
+    ghost repeats = { true };
+
     ghost gives = { λ j i r. (index_of r ≡ i) × (generation_of r ≡ generation_now (population j.now) i) };
 
     ghost can_get = { λ _ _. true };
@@ -28,7 +42,10 @@ impl<'a> Join for &'a EntitiesRes {
 
     #[inline(always)]
     fn open(self) -> (BitSetOr<&'a BitSet, &'a BitSet>, &'a EntitiesRes) {
-        (self.living(), self)
+        let living = self.living();
+        living.0.sized();
+        living.1.sized();
+        (living, self)
     }
 
     #[inline(always)]
@@ -48,6 +65,10 @@ impl<'a> Join for AntiStorage<'a> {
     ghost has = { λ j i. nat_lt i (64 ^ 4) && not (set.contains j.0.now.members i) };
 
     ghost cost = { λ _. 1 };
+
+    ghost most = { λ _. 64 ^ 4 };
+
+    ghost repeats = { true };
 
     ghost gives = { λ _ _ _. Unit {0} };
 

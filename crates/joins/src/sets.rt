@@ -16,6 +16,10 @@ impl<'a> Join for &'a BitSet {
 
     ghost cost = { λ _. 1 };
 
+    ghost most = { λ j. set.len j.now.members };
+
+    ghost repeats = { true };
+
     ghost gives = { λ _ i r. r ≡ i };
 
     ghost can_get = { λ _ _. true };
@@ -44,6 +48,10 @@ impl<A: Layers + Drop, B: Layers + Drop> Join for BitSetAnd<A, B> {
     ghost has = { λ j i. ⟦<BitSetAnd<A, B> as Layers>⟧.has j 0 i };
 
     ghost cost = { λ j. ⟦<BitSetAnd<A, B> as Layers>⟧.cost j };
+
+    ghost most = { λ j. ⟦<BitSetAnd<A, B> as Layers>⟧.most j };
+
+    ghost repeats = { true };
 
     ghost gives = { λ _ i r. r ≡ i };
 
@@ -74,6 +82,10 @@ impl<A: Layers + Drop, B: Layers + Drop> Join for BitSetOr<A, B> {
 
     ghost cost = { λ j. ⟦<BitSetOr<A, B> as Layers>⟧.cost j };
 
+    ghost most = { λ j. ⟦<BitSetOr<A, B> as Layers>⟧.most j };
+
+    ghost repeats = { true };
+
     ghost gives = { λ _ i r. r ≡ i };
 
     ghost can_get = { λ _ _. true };
@@ -102,6 +114,10 @@ impl<A: Layers + Drop, B: Layers + Drop> Join for BitSetXor<A, B> {
     ghost has = { λ j i. ⟦<BitSetXor<A, B> as Layers>⟧.has j 0 i };
 
     ghost cost = { λ j. ⟦<BitSetXor<A, B> as Layers>⟧.cost j };
+
+    ghost most = { λ j. ⟦<BitSetXor<A, B> as Layers>⟧.most j };
+
+    ghost repeats = { true };
 
     ghost gives = { λ _ i r. r ≡ i };
 
@@ -132,6 +148,10 @@ impl<A: Layers + Drop> Join for BitSetNot<A> {
 
     ghost cost = { λ j. ⟦<BitSetNot<A> as Layers>⟧.cost j };
 
+    ghost most = { λ j. ⟦<BitSetNot<A> as Layers>⟧.most j };
+
+    ghost repeats = { true };
+
     ghost gives = { λ _ i r. r ≡ i };
 
     ghost can_get = { λ _ _. true };
@@ -160,6 +180,10 @@ impl Join for BitSetAll {
     ghost has = { λ j i. ⟦<BitSetAll as Layers>⟧.has j 0 i };
 
     ghost cost = { λ j. ⟦<BitSetAll as Layers>⟧.cost j };
+
+    ghost most = { λ j. ⟦<BitSetAll as Layers>⟧.most j };
+
+    ghost repeats = { true };
 
     ghost gives = { λ _ i r. r ≡ i };
 

@@ -14,6 +14,10 @@ impl<A: Join, B: Join, C: Join> Join for (A, B, C) {
 
     ghost cost = { λ j. ⟦<(A, (B, C)) as Join>⟧.cost (j.0, (j.1, j.2)) };
 
+    ghost most = { λ j. ⟦<(A, (B, C)) as Join>⟧.most (j.0, (j.1, j.2)) };
+
+    ghost repeats = { ⟦<(A, (B, C)) as Join>⟧.repeats };
+
     ghost gives = { λ j i r. ⟦<(A, (B, C)) as Join>⟧.gives (j.0, (j.1, j.2)) i (r.0, (r.1, r.2)) };
 
     ghost can_get = { λ v i. ⟦<(A, (B, C)) as Join>⟧.can_get v i };
@@ -31,6 +35,11 @@ impl<A: Join, B: Join, C: Join> Join for (A, B, C) {
         let (a, (b, c)) = <(A, (B, C)) as Join>::get(value, id);
         (a, b, c)
     }
+
+    #[inline(always)]
+    fn is_unconstrained() -> bool {
+        <(A, (B, C)) as Join>::is_unconstrained()
+    }
 }
 
 impl<A: Join, B: Join, C: Join, D: Join> Join for (A, B, C, D) {
@@ -43,6 +52,10 @@ impl<A: Join, B: Join, C: Join, D: Join> Join for (A, B, C, D) {
     ghost has = { λ j i. ⟦<(A, (B, C, D)) as Join>⟧.has (j.0, (j.1, j.2, j.3)) i };
 
     ghost cost = { λ j. ⟦<(A, (B, C, D)) as Join>⟧.cost (j.0, (j.1, j.2, j.3)) };
+
+    ghost most = { λ j. ⟦<(A, (B, C, D)) as Join>⟧.most (j.0, (j.1, j.2, j.3)) };
+
+    ghost repeats = { ⟦<(A, (B, C, D)) as Join>⟧.repeats };
 
     ghost gives = { λ j i r. ⟦<(A, (B, C, D)) as Join>⟧.gives (j.0, (j.1, j.2, j.3)) i (r.0, (r.1, r.2, r.3)) };
 
@@ -69,6 +82,11 @@ impl<A: Join, B: Join, C: Join, D: Join> Join for (A, B, C, D) {
         let (a, (b, c, d)) = <(A, (B, C, D)) as Join>::get(value, id);
         (a, b, c, d)
     }
+
+    #[inline(always)]
+    fn is_unconstrained() -> bool {
+        <(A, (B, C, D)) as Join>::is_unconstrained()
+    }
 }
 
 impl<A: Join, B: Join, C: Join, D: Join, E: Join> Join for (A, B, C, D, E) {
@@ -81,6 +99,10 @@ impl<A: Join, B: Join, C: Join, D: Join, E: Join> Join for (A, B, C, D, E) {
     ghost has = { λ j i. ⟦<(A, (B, C, D, E)) as Join>⟧.has (j.0, (j.1, j.2, j.3, j.4)) i };
 
     ghost cost = { λ j. ⟦<(A, (B, C, D, E)) as Join>⟧.cost (j.0, (j.1, j.2, j.3, j.4)) };
+
+    ghost most = { λ j. ⟦<(A, (B, C, D, E)) as Join>⟧.most (j.0, (j.1, j.2, j.3, j.4)) };
+
+    ghost repeats = { ⟦<(A, (B, C, D, E)) as Join>⟧.repeats };
 
     ghost gives = { λ j i r. ⟦<(A, (B, C, D, E)) as Join>⟧.gives (j.0, (j.1, j.2, j.3, j.4)) i (r.0, (r.1, r.2, r.3, r.4)) };
 
@@ -107,6 +129,11 @@ impl<A: Join, B: Join, C: Join, D: Join, E: Join> Join for (A, B, C, D, E) {
         let (a, (b, c, d, e)) = <(A, (B, C, D, E)) as Join>::get(value, id);
         (a, b, c, d, e)
     }
+
+    #[inline(always)]
+    fn is_unconstrained() -> bool {
+        <(A, (B, C, D, E)) as Join>::is_unconstrained()
+    }
 }
 
 impl<A: Join, B: Join, C: Join, D: Join, E: Join, F: Join> Join for (A, B, C, D, E, F) {
@@ -119,6 +146,10 @@ impl<A: Join, B: Join, C: Join, D: Join, E: Join, F: Join> Join for (A, B, C, D,
     ghost has = { λ j i. ⟦<(A, (B, C, D, E, F)) as Join>⟧.has (j.0, (j.1, j.2, j.3, j.4, j.5)) i };
 
     ghost cost = { λ j. ⟦<(A, (B, C, D, E, F)) as Join>⟧.cost (j.0, (j.1, j.2, j.3, j.4, j.5)) };
+
+    ghost most = { λ j. ⟦<(A, (B, C, D, E, F)) as Join>⟧.most (j.0, (j.1, j.2, j.3, j.4, j.5)) };
+
+    ghost repeats = { ⟦<(A, (B, C, D, E, F)) as Join>⟧.repeats };
 
     ghost gives = { λ j i r. ⟦<(A, (B, C, D, E, F)) as Join>⟧.gives (j.0, (j.1, j.2, j.3, j.4, j.5)) i (r.0, (r.1, r.2, r.3, r.4, r.5)) };
 
@@ -144,5 +175,10 @@ impl<A: Join, B: Join, C: Join, D: Join, E: Join, F: Join> Join for (A, B, C, D,
     ) -> (A::Type, B::Type, C::Type, D::Type, E::Type, F::Type) {
         let (a, (b, c, d, e, f)) = <(A, (B, C, D, E, F)) as Join>::get(value, id);
         (a, b, c, d, e, f)
+    }
+
+    #[inline(always)]
+    fn is_unconstrained() -> bool {
+        <(A, (B, C, D, E, F)) as Join>::is_unconstrained()
     }
 }

@@ -1,6 +1,7 @@
 //! Joins.
 use crate::walks::{beside, contradictions, shared, six};
 use hibits::{BitSet, SetError};
+use joins::{Join, maybe};
 use std::alloc::Global;
 use std::test::Fail;
 
@@ -58,5 +59,20 @@ fn what_may_be_there_shrinks_nothing(rt: HostRuntime) -> Result<(), Fail> {
 fn a_set_and_its_complement_share_nothing(rt: HostRuntime) -> Result<(), Fail> {
     let a = set_of(rt.alloc(), [0, 1, 2, 3, 4, 5, 6, 7, 8, 9].as_slice())?;
     assert_eq!(rt; contradictions(&a), 0);
+    Ok(())
+}
+
+// Whether a join has every index.
+fn unconstrained<J: Join>(_join: &J) -> bool {
+    J::is_unconstrained()
+}
+
+#[test]
+fn joins_of_what_may_be_there_alone_are_unconstrained(rt: HostRuntime) -> Result<(), Fail> {
+    let a = set_of(rt.alloc(), [0, 2].as_slice())?;
+    assert!(rt; !unconstrained(&&a));
+    assert!(rt; unconstrained(&maybe(&a)));
+    assert!(rt; !unconstrained(&(&a, maybe(&a))));
+    assert!(rt; unconstrained(&(maybe(&a), maybe(&a), maybe(&a))));
     Ok(())
 }

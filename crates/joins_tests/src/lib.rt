@@ -4,7 +4,17 @@
 #[cfg(test)]
 mod change_set_tests;
 #[cfg(test)]
+mod cursor_tests;
+mod cursor_walks;
+#[cfg(test)]
+mod getting_tests;
+#[cfg(test)]
 mod join_tests;
 mod walks;
+mod worlds;
 
+pub use cursor_walks::{
+    beside_one, counted, drained, drained_at, exchange, go_on, increase, raise_low, shown_and_lent,
+};
 pub use walks::{beside, contradictions, shared, six};
+pub use worlds::{Chosen, Number, Position, Velocity, World, put_all};

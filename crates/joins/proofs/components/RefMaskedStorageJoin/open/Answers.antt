@@ -3,4 +3,4 @@ use Rattle.hibits.specs.Sets.{has_part_zero}
 use Rattle.joins.proofs.components.RefMaskedStorageJoin.open.Goals as goal
 
 pub returns-clause-mask : goal.returns-clause-mask
-returns-clause-mask g c i = has_part_zero c.mask.result.now.members i ∙ c.mask.ensures i
+returns-clause-mask g c i = has_part_zero c.mask-mask.result.now.members i ∙ c.mask-mask.ensures i

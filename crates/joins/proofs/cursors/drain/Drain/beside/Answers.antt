@@ -1,0 +1,6 @@
+use Rattle.joins.proofs.cursors.drain.Drain.beside.Goals as goal
+
+pub invariant_of-self : goal.invariant_of-self
+invariant_of-self g c = record {
+  valid = rw (c.beside.ensures.mask, c.beside.ensures.walk) c.args.self.now.valid;
+}

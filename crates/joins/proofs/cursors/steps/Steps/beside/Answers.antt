@@ -1,0 +1,13 @@
+use Rattle.std.proofs.Common.{arith}
+use Rattle.joins.proofs.cursors.steps.Steps.beside.Goals as goal
+
+pub invariant_of-self : goal.invariant_of-self
+invariant_of-self g c =
+    let at = c.args.self.now.here c.in_ok-id.id c.in_ok-id.was in
+    record {
+      ready = λ i ge h. c.get.ensures.later i (omega (arith, at.1, ge)) (c.args.self.now.ready i ge h);
+      here = λ x e. let b = c.args.self.now.here x e in ((λ t. cc), b.1);
+    }
+
+pub returns-clause-later : goal.returns-clause-later
+returns-clause-later g c = λ i r ge v. let at = c.args.self.now.here c.in_ok-id.id c.in_ok-id.was in c.get.ensures.later_gives i r (omega (arith, at.1, ge)) v

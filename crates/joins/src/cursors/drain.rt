@@ -1,0 +1,103 @@
+//! A cursor that takes components out.
+ghost use Rattle.std.specs.Prelude.{◌≡◌, ℕ, ◌&&◌, not, true, false, None, Ok, IfSome, IfOk, IsOk, OnOk, OnErr, IsSome, [], ◌∷◌, MatchOption, is_some};
+ghost use Rattle.std.specs.FinMap as map;
+ghost use Rattle.hibits.specs.Sets.{has_part};
+ghost use Rattle.hibits.specs.WalkOf.{IsWalkOf};
+ghost use Rattle.joins.specs.Keys.{keys_of};
+
+use crate::cursors::steps::Steps;
+use crate::join::Join;
+use hibits::{Index, Layers};
+use std::alloc::AllocError;
+use storages::{Component, ComponentEvent, MaskedStorage};
+
+/// Walks the indices that a storage and a join share, ascending, and takes the storage's component out where it is asked to. Ports
+/// `specs::storage::Drain`, which takes each out.
+#[derive(Drop)]
+pub struct Drain<'a, T: Component, J: Join> {
+    storage: &'a mut MaskedStorage<T>,
+    steps: Steps<J>,
+    ghost valid: { IsWalkOf (λ l i. has_part (keys_of storage.now.map) l i && J.Mask.has steps.mask l i) 0 steps.walk },
+}
+
+impl<'a, T: Component, J: Join> Drain<'a, T, J> {
+    ghost use Rattle.hibits.specs.Left.{left};
+    ghost use Rattle.joins.specs.Draining.{slot, storage_name, here, component, is_given, rest, gives};
+    ghost use Rattle.storages.specs.Meaning.{HasRoom};
+    ghost use Rattle.storages.specs.Slot.{Becomes, IsSame};
+    ghost use Rattle.storages.specs.declared.event.ComponentEvent.TheVariants.{Removed};
+    ghost use Rattle.storages.specs.declared.event.ComponentEvent.{ComponentEvent};
+
+    /// Before the first index.
+    #[inline(always)]
+    pub fn new(storage: &'a mut MaskedStorage<T>, join: J) -> Self
+        ensures same_reference { storage_name result ≡ storage.entry.ghost_name }
+        ensures slot { slot result ≡ storage.old }
+        ensures rest { rest result ≡ left (λ i. map.contains_key storage.old.map i && J.has join i) 0 }
+        ensures here { here result ≡ None }
+        ensures gives { (i : ℕ) (r : J.Type) → gives result i r → J.gives join i r }
+    {
+        let steps = Steps::new(storage.mask(), join);
+        Drain { storage, steps }
+    }
+
+    /// Before the first index that the storage and another join share. The join of this cursor is given up.
+    #[inline(always)]
+    pub fn join_with<K: Join>(self, join: K) -> Drain<'a, T, K>
+        ensures same_reference { storage_name result ≡ storage_name self.entry }
+        ensures slot { slot result ≡ slot self.entry }
+        ensures rest { rest result ≡ left (λ i. map.contains_key (slot self.entry).map i && K.has join i) 0 }
+        ensures here { here result ≡ None }
+        ensures gives { (i : ℕ) (r : K.Type) → gives result i r → K.gives join i r }
+    {
+        let Drain { storage, steps: _ } = self;
+        Drain::new(storage, join)
+    }
+
+    /// Goes on to the next index, which it answers.
+    #[inline(always)]
+    pub fn next(&mut self) -> Option<Index>
+        ensures same_reference { storage_name self.new ≡ storage_name self.old }
+        ensures slot { slot self.new ≡ slot self.old }
+        ensures rest { MatchOption result (rest self.old ≡ []) (λ i. rest self.old ≡ i ∷ rest self.new) }
+        ensures here { here self.new ≡ result }
+        ensures there { IfSome result (λ i. map.contains_key (slot self.old).map i ≡ true) }
+        ensures given { is_given self.new ≡ false }
+        ensures gives { (i : ℕ) (r : J.Type) → gives self.new i r → gives self.old i r }
+    {
+        self.steps.next(self.storage.mask())
+    }
+
+    /// Takes the component at the current index out, if it was not taken before. After an error it is there as before.
+    #[inline(always)]
+    pub fn item(&mut self) -> Result<Option<T>, AllocError>
+        ensures same_reference { storage_name self.new ≡ storage_name self.old }
+        ensures here { here self.new ≡ here self.old }
+        ensures rest { rest self.new ≡ rest self.old }
+        ensures given { is_given self.new ≡ is_given self.old }
+        ensures gives { (i : ℕ) (r : J.Type) → gives self.new i r → gives self.old i r }
+        ensures value { IfOk result (λ x. x ≡ component self.old) }
+        ensures removed { OnOk result (IfSome (here self.old) (λ i. IsSome (component self.old) → Becomes (slot self.old) (slot self.new) (map.remove (slot self.old).map i) (ComponentEvent.Removed i))) }
+        ensures absent { component self.old ≡ None → (result ≡ Ok None) × (slot self.new ≡ slot self.old) }
+        ensures err { OnErr result (IsSame (slot self.old) (slot self.new)) }
+        ensures succeeds { HasRoom (slot self.old).room 1 → IsOk result }
+    {
+        let Some(id) = self.steps.current else {
+            return Ok(None);
+        };
+        self.storage.remove(id)
+    }
+
+    /// What the join has at the current index. It is given once.
+    #[inline(always)]
+    pub fn beside(&mut self) -> Option<J::Type>
+        ensures same_reference { storage_name self.new ≡ storage_name self.old }
+        ensures slot { slot self.new ≡ slot self.old }
+        ensures rest { rest self.new ≡ rest self.old }
+        ensures here { here self.new ≡ here self.old }
+        ensures some { is_some result ≡ (not (is_given self.old) && is_some (here self.old)) }
+        ensures given { IfSome result (λ r. IfSome (here self.old) (λ i. gives self.old i r)) }
+    {
+        self.steps.beside()
+    }
+}

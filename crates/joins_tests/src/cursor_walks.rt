@@ -1,0 +1,198 @@
+//! Walks of cursors.
+ghost use Rattle.std.specs.Prelude.{◌≡◌};
+ghost use Rattle.joins.specs.CursorOfTwo.{first_name, second_name, rest};
+
+use crate::worlds::{Chosen, Number, Position, Velocity};
+use entities::{EntitiesRes, Entity};
+use hibits::BitSetAll;
+use joins::{
+    Drain, EntryJoin, Join, JoinIter, JoinMut, RestrictedStorage, RestrictedStorageMut, WriteJoin2,
+    maybe,
+};
+use std::alloc::{AllocError, Global};
+use storages::MaskedStorage;
+
+/// Adds its velocity to each position, where there is one.
+pub fn go_on(positions: &mut MaskedStorage<Position>, velocities: &MaskedStorage<Velocity>) {
+    let mut cursor = positions.join_mut(maybe(velocities));
+    while let Some(_id) = cursor.next() {
+        if let Some(Some(velocity)) = cursor.beside() {
+            if let Ok(position) = cursor.item() {
+                position.x = position.x.wrapping_add(velocity.x);
+                position.y = position.y.wrapping_add(velocity.y);
+            }
+        }
+    }
+}
+
+/// The indices of a drain, of which it takes the component of one out, twice. Answers whether the second time there was none.
+pub fn drained_at(
+    alloc: Global,
+    positions: &mut MaskedStorage<Position>,
+    at: u32,
+) -> Result<(Vec<u32>, bool), AllocError> {
+    let mut list = Vec::new(alloc);
+    let mut once = false;
+    let mut cursor = positions.drain();
+    while let Some(id) = cursor.next() {
+        list.push(id)?;
+        if id == at {
+            let first = cursor.item()?;
+            let second = cursor.item()?;
+            once = first.is_some() && second.is_none();
+        }
+    }
+    Ok((list, once))
+}
+
+/// The entities of which a component was taken out.
+pub fn drained(
+    alloc: Global,
+    positions: &mut MaskedStorage<Position>,
+    entities: &EntitiesRes,
+) -> Result<Vec<Entity>, AllocError> {
+    let mut list = Vec::new(alloc);
+    let mut cursor = Drain::new(positions, entities);
+    while let Some(_id) = cursor.next() {
+        if let Some(entity) = cursor.beside() {
+            if cursor.item()?.is_some() {
+                list.push(entity)?;
+            }
+        }
+    }
+    Ok(list)
+}
+
+/// How many indices a storage has by a join.
+pub fn counted<J: Join>(join: J) -> u32
+where
+    J::Type: Drop,
+{
+    let mut count: u32 = 0;
+    let mut iter = JoinIter::new(join);
+    while let Some(_item) = iter.next() {
+        count = count.wrapping_add(1);
+    }
+    count
+}
+
+/// Increases the number of each chosen entity that lives, from 0 where it has none, and resets it at a limit.
+pub fn increase(
+    entities: &EntitiesRes,
+    numbers: &mut MaskedStorage<Number>,
+    chosen: &MaskedStorage<Chosen>,
+    limit: u32,
+) -> Result<(), AllocError> {
+    let mut cursor = EntryJoin::new(entities, numbers, chosen);
+    while let Some(id) = cursor.next() {
+        if let Ok(masked) = cursor.item() {
+            match masked.entry(id).or_insert(Number(0)) {
+                Ok(number) => {
+                    let next = number.0.wrapping_add(1);
+                    *number = Number(if next >= limit { 0 } else { next });
+                }
+                Err((e, _)) => return Err(e),
+            }
+        }
+    }
+    Ok(())
+}
+
+/// Increases the numbers that are below a limit, and only looks at the others.
+pub fn raise_low(entities: &EntitiesRes, numbers: &mut MaskedStorage<Number>, limit: u32) {
+    let mut cursor = RestrictedStorageMut::over(entities, numbers);
+    while let Some(_id) = cursor.next() {
+        if is_low(&cursor, limit) {
+            if let Ok(number) = cursor.get_mut_unchecked() {
+                number.0 = number.0.wrapping_add(1);
+            }
+        }
+    }
+}
+
+// Whether the number at a cursor is below a limit.
+fn is_low(cursor: &RestrictedStorageMut<'_, '_, Number, BitSetAll>, limit: u32) -> bool {
+    match cursor.get_unchecked() {
+        Some(number) => number.0 < limit,
+        None => false,
+    }
+}
+
+/// The numbers as they are shown, of which each is lent the same; and `None` where one is not.
+pub fn shown_and_lent(
+    alloc: Global,
+    entities: &EntitiesRes,
+    positions: &mut MaskedStorage<Position>,
+) -> Result<Option<Vec<i32>>, AllocError> {
+    let mut list = Vec::new(alloc);
+    let mut cursor = RestrictedStorageMut::over(entities, positions);
+    while let Some(_id) = cursor.next() {
+        let shown = shown(&cursor);
+        let lent = cursor.get_mut_unchecked().ok().copied();
+        match lent {
+            Some(position) if shown == lent => list.push(position.x)?,
+            _ => return Ok(None),
+        }
+    }
+    Ok(Some(list))
+}
+
+// The position at a cursor.
+fn shown(cursor: &RestrictedStorageMut<'_, '_, Position, BitSetAll>) -> Option<Position> {
+    cursor.get_unchecked().copied()
+}
+
+/// Each position beside that of one entity, to read.
+pub fn beside_one(
+    alloc: Global,
+    entities: &EntitiesRes,
+    positions: &MaskedStorage<Position>,
+    one: Entity,
+) -> Result<Vec<(i32, i32)>, AllocError> {
+    let mut list = Vec::new(alloc);
+    let restricted = RestrictedStorage::new(entities, positions);
+    let mut iter = JoinIter::new(&restricted);
+    while let Some(paired) = iter.next() {
+        let other = match paired.get(one) {
+            Some(position) => position.x,
+            None => -1,
+        };
+        list.push((paired.get_unchecked().x, other))?;
+    }
+    Ok(list)
+}
+
+/// Exchanges positions and velocities where an entity is chosen.
+pub fn exchange(
+    positions: &mut MaskedStorage<Position>,
+    velocities: &mut MaskedStorage<Velocity>,
+    chosen: &MaskedStorage<Chosen>,
+) {
+    let mut cursor = WriteJoin2::new(positions, velocities, chosen);
+    while let Some(_id) = cursor.next() {
+        exchange_here(&mut cursor);
+    }
+}
+
+// Exchanges what stands at a cursor.
+fn exchange_here(cursor: &mut WriteJoin2<'_, '_, Position, Velocity, &MaskedStorage<Chosen>>)
+    ensures first_reference { first_name cursor.new ≡ first_name cursor.old }
+    ensures second_reference { second_name cursor.new ≡ second_name cursor.old }
+    ensures rest { rest cursor.new ≡ rest cursor.old }
+{
+    let old = match cursor.first() {
+        Ok(position) => *position,
+        Err(_) => return,
+    };
+    let new = match cursor.second() {
+        Ok(velocity) => {
+            let before = *velocity;
+            *velocity = Velocity { x: old.x, y: old.y };
+            before
+        }
+        Err(_) => return,
+    };
+    if let Ok(position) = cursor.first() {
+        *position = Position { x: new.x, y: new.y };
+    }
+}

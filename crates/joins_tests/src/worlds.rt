@@ -1,0 +1,104 @@
+//! Entities and storages for the tests of cursors.
+use entities::{EntitiesRes, Entity};
+use std::alloc::Global;
+use std::test::Fail;
+use storages::{
+    Component, DenseVecStorage, FlaggedStorage, MaskedStorage, NullComponent, NullStorage,
+    TryDefault, VecStorage,
+};
+
+/// Where an entity is, or how fast it goes.
+#[derive(Clone, Copy, PartialEq, Eq, Debug, Default)]
+pub struct Position {
+    /// To the right.
+    pub x: i32,
+    /// Up.
+    pub y: i32,
+}
+
+impl Component for Position {
+    type Storage = VecStorage<Self>;
+}
+
+/// How fast an entity goes.
+#[derive(Clone, Copy, PartialEq, Eq, Debug, Default)]
+pub struct Velocity {
+    /// To the right.
+    pub x: i32,
+    /// Up.
+    pub y: i32,
+}
+
+impl Component for Velocity {
+    type Storage = DenseVecStorage<Self>;
+}
+
+/// A number whose changes are told.
+#[derive(Clone, Copy, PartialEq, Eq, Debug, Default)]
+pub struct Number(
+    /// The number.
+    pub u32,
+);
+
+impl Component for Number {
+    type Storage = FlaggedStorage<Self, VecStorage<Self>>;
+}
+
+/// What a chosen entity has.
+#[derive(Clone, Copy, PartialEq, Eq, Debug, Default)]
+pub struct Chosen;
+
+impl NullComponent for Chosen {
+    ghost use Rattle.std.specs.Prelude.{refl};
+
+    ghost all_equal = { λ a b. refl };
+}
+
+impl Component for Chosen {
+    type Storage = NullStorage<Self>;
+}
+
+/// Entities, and storages of two components.
+#[derive(Drop)]
+pub struct World<A: Component, B: Component> {
+    /// The entities.
+    pub entities: EntitiesRes,
+    /// A storage.
+    pub first: MaskedStorage<A>,
+    /// Another.
+    pub second: MaskedStorage<B>,
+}
+
+impl<A: Component, B: Component> World<A, B> {
+    /// So many living entities, from index 0 on, and no component.
+    pub fn of(alloc: Global, count: u32) -> Result<Self, Fail> {
+        let mut entities = EntitiesRes::new(alloc);
+        for _ in 0..count {
+            entities.create().ok().ok_or("no entity")?;
+        }
+        Ok(World {
+            entities,
+            first: MaskedStorage::new(alloc, A::Storage::try_default(alloc)?),
+            second: MaskedStorage::new(alloc, B::Storage::try_default(alloc)?),
+        })
+    }
+
+    /// The entity of an index that was born once.
+    pub fn entity(index: u32) -> Result<Entity, Fail> {
+        Ok(Entity::from_parts(index, 1).ok_or("no entity")?)
+    }
+}
+
+/// Puts a component at each of some indices, and says whether that succeeded.
+pub fn put_all<T: Component + Copy + Drop>(
+    storage: &mut MaskedStorage<T>,
+    indices: &[u32],
+    value: T,
+) -> bool {
+    for index in indices {
+        if *index >= 16777216 || storage.put(*index, value).is_err() {
+            return false;
+        }
+    }
+    true
+}
