@@ -1,0 +1,3 @@
+mod Cuts
+mod Each
+mod Replacing

@@ -1,0 +1,11 @@
+//! Tests of joins in threads.
+#![tactic(auto)]
+
+#[cfg(test)]
+mod components;
+#[cfg(test)]
+mod meeting_tests;
+#[cfg(test)]
+mod update_tests;
+#[cfg(test)]
+mod upstream_tests;
