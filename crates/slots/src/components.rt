@@ -1,13 +1,11 @@
 //! The program's component types, one for each slot.
 ghost use Rattle.std.specs.Prelude.{◌≡◌, refl};
-ghost use Rattle.slots.specs.declared.slots.Value.TheVariants.{Pos as PosValue, Vel as VelValue, Def as DefValue, Map as MapValue, Tree as TreeValue, Tag as TagValue, Link as LinkValue};
 
-use crate::field::Kept;
-use crate::slots::Value;
 use specs::Entity;
+use std::fmt;
 use storages::{
-    BTreeStorage, Component, DefaultVecStorage, DenseVecStorage, HashMapStorage, NullComponent,
-    NullStorage, VecStorage,
+    BTreeStorage, Component, DefaultVecStorage, DenseVecStorage, FlaggedStorage, HashMapStorage,
+    NullComponent, NullStorage, VecStorage,
 };
 
 /// A whole number, kept in a vector.
@@ -18,11 +16,9 @@ impl Component for Position {
     type Storage = VecStorage<Position>;
 }
 
-impl Kept for Position {
-    ghost value = { PosValue };
-
-    fn wrap(self) -> Value {
-        Value::Pos(self)
+impl fmt::Display for Position {
+    fn fmt<W: fmt::Write>(&self, f: &mut fmt::Formatter<W>) -> fmt::Result {
+        self.0.fmt(f)
     }
 }
 
@@ -34,11 +30,9 @@ impl Component for Velocity {
     type Storage = DenseVecStorage<Velocity>;
 }
 
-impl Kept for Velocity {
-    ghost value = { VelValue };
-
-    fn wrap(self) -> Value {
-        Value::Vel(self)
+impl fmt::Display for Velocity {
+    fn fmt<W: fmt::Write>(&self, f: &mut fmt::Formatter<W>) -> fmt::Result {
+        self.0.fmt(f)
     }
 }
 
@@ -50,11 +44,9 @@ impl Component for Defense {
     type Storage = DefaultVecStorage<Defense>;
 }
 
-impl Kept for Defense {
-    ghost value = { DefValue };
-
-    fn wrap(self) -> Value {
-        Value::Def(self)
+impl fmt::Display for Defense {
+    fn fmt<W: fmt::Write>(&self, f: &mut fmt::Formatter<W>) -> fmt::Result {
+        self.0.fmt(f)
     }
 }
 
@@ -66,11 +58,9 @@ impl Component for Mapped {
     type Storage = HashMapStorage<Mapped>;
 }
 
-impl Kept for Mapped {
-    ghost value = { MapValue };
-
-    fn wrap(self) -> Value {
-        Value::Map(self)
+impl fmt::Display for Mapped {
+    fn fmt<W: fmt::Write>(&self, f: &mut fmt::Formatter<W>) -> fmt::Result {
+        self.0.fmt(f)
     }
 }
 
@@ -82,11 +72,9 @@ impl Component for Treed {
     type Storage = BTreeStorage<Treed>;
 }
 
-impl Kept for Treed {
-    ghost value = { TreeValue };
-
-    fn wrap(self) -> Value {
-        Value::Tree(self)
+impl fmt::Display for Treed {
+    fn fmt<W: fmt::Write>(&self, f: &mut fmt::Formatter<W>) -> fmt::Result {
+        self.0.fmt(f)
     }
 }
 
@@ -98,16 +86,28 @@ impl Component for Tag {
     type Storage = NullStorage<Tag>;
 }
 
-impl Kept for Tag {
-    ghost value = { TagValue };
-
-    fn wrap(self) -> Value {
-        Value::Tag(self)
+impl fmt::Display for Tag {
+    fn fmt<W: fmt::Write>(&self, f: &mut fmt::Formatter<W>) -> fmt::Result {
+        write!(f, "tag")
     }
 }
 
 impl NullComponent for Tag {
     ghost all_equal = { λ a b. refl };
+}
+
+/// A whole number, kept in a dense vector whose changes are told.
+#[derive(Clone, Copy, Debug, Default, PartialEq, Eq)]
+pub struct Health(pub i64);
+
+impl Component for Health {
+    type Storage = FlaggedStorage<Health, DenseVecStorage<Health>>;
+}
+
+impl fmt::Display for Health {
+    fn fmt<W: fmt::Write>(&self, f: &mut fmt::Formatter<W>) -> fmt::Result {
+        self.0.fmt(f)
+    }
 }
 
 /// An entity that another one refers to, kept in a vector.
@@ -118,10 +118,10 @@ impl Component for Link {
     type Storage = VecStorage<Link>;
 }
 
-impl Kept for Link {
-    ghost value = { LinkValue };
-
-    fn wrap(self) -> Value {
-        Value::Link(self)
+impl fmt::Display for Link {
+    fn fmt<W: fmt::Write>(&self, f: &mut fmt::Formatter<W>) -> fmt::Result {
+        let index = self.0.id();
+        let generation = self.0.generation().id();
+        write!(f, "{index}:{generation}")
     }
 }

@@ -2,8 +2,7 @@
 #![tactic(auto)]
 
 mod components;
-mod field;
 mod slots;
 
-pub use components::{Defense, Link, Mapped, Position, Tag, Treed, Velocity};
-pub use slots::{Slot, Slots, Value};
+pub use components::{Defense, Health, Link, Mapped, Position, Tag, Treed, Velocity};
+pub use slots::{DEF, HP, LINK, MAP, POS, Slot, Slots, TAG, TREE, VEL, Value};

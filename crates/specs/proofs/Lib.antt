@@ -1,3 +1,4 @@
+mod Counting
 pub mod Runs
 pub mod Living
 pub mod Gone

@@ -13,33 +13,40 @@ use Rattle.entities.specs.declared.entity.Entity.{Entity}
 use Rattle.entities.specs.Population.{index_of, Population, IsAlive, MayBeBorn, lives, born, born_pending, one_birth, with_one, is_free}
 use Rattle.entities.specs.Deaths.{has_index, all_dead}
 use Rattle.entities.specs.Merges.{the_marked, merge, living_entity}
-use Rattle.specs.specs.Maps.{Map, put, without, without_one, no_value}
+use Rattle.specs.specs.Maps.{Map, put, without_one}
+use Rattle.specs.specs.Column.{Column, without_values}
 use Rattle.specs.specs.declared.command.Command.{Command}
-use Rattle.specs.specs.declared.command.Command.TheVariants.{Register, Create, CreatePending, Delete, MarkDead, IsAlive as AskAlive, IsLiving as AskLiving, EntityAt, Insert, Get, Remove, Clear, Count as AskCount, Select, Maintain}
+use Rattle.specs.specs.declared.command.Command.TheVariants.{Register, Create, CreatePending, Delete, MarkDead, IsAlive as AskAlive, IsLiving as AskLiving, EntityAt, Insert, Get, Remove, Clear, Count as AskCount, Select, Maintain, Reader, Events, DropReader, Emit}
 use Rattle.specs.specs.declared.command.Reply.{Reply}
-use Rattle.specs.specs.declared.command.Reply.TheVariants.{Done, Entity as Told, Bool as Yes, Value, Count, Indices, Maintained as Kept, Refused, InsertRefused}
+use Rattle.specs.specs.declared.command.Reply.TheVariants.{Done, Entity as Told, Bool as Yes, Value, Count, Indices, Maintained as Kept, Reader as NewReader, Events as Given, Refused, InsertRefused}
 use Rattle.specs.specs.declared.command.Refusal.TheVariants.{WrongGeneration as Wrong, Unregistered, IndexLimit, OutOfMemory}
-use Rattle.specs.specs.Table.{Table, Becomes, Registers, Inserts, Removes, Clears}
+use Rattle.specs.specs.Table.{Table, Becomes, Begins, Registers, Inserts, Removes, Clears}
+use Rattle.storages.specs.Channel.{Channel}
+use Rattle.specs.specs.Readers.{Rechannels}
 use Rattle.specs.specs.People.{Births, Deaths, Marks}
 use Rattle.specs.specs.State.{State, OnPeople, OnTable, Deletes, Maintains, Step, Run}
 use Rattle.specs.specs.Reached.{IsNew, OnlyLiving}
 
 -- a table's values are at indices of a set
 abbrev pub Within : {K V : Type 0} → Table K V → (ℕ → Bool) → Type 0
-Within {K} {V} t living = (slot : K) (m : Map V) (i : ℕ) → t slot ≡ Some m → IsSome (m i) → living i ≡ true
+Within {K} {V} t living = (slot : K) (c : Column V) (i : ℕ) → t slot ≡ Some c → IsSome (c.values i) → living i ≡ true
 
 -- the one map that changes has its values within the set too
-within_becomes : {K V : Type 0} (old new : Table K V) (slot : K) (m : Map V) (living : ℕ → Bool) → Becomes old slot m new → Within old living → ((i : ℕ) → IsSome (m i) → living i ≡ true) → Within new living
+within_becomes : {K V : Type 0} (old new : Table K V) (slot : K) (m : Column V) (living : ℕ → Bool) → Becomes old slot m new → Within old living → ((i : ℕ) → IsSome (m.values i) → living i ≡ true) → Within new living
 within_becomes {K} old new slot m living b w here s m' i e has = elim (cases_Bool (living i)) [
   | inl t ↦ t
   | inr f ↦
-      let apart : (s ≡ slot → ⊥) = λ (same : s ≡ slot). both_ways (living i) f (here i (subst (λ (n : Map _). IsSome (n i)) (same_Some m' m (sym e ∙ ap new same ∙ b.here)) has)) in
+      let apart : (s ≡ slot → ⊥) = λ (same : s ≡ slot). both_ways (living i) f (here i (subst (λ (n : Column _). IsSome (n.values i)) (same_Some m' m (sym e ∙ ap new same ∙ b.here)) has)) in
       absurd (both_ways (living i) f (w s m' i (sym (b.others s apart) ∙ e) has))
 ]
 
-within_register : {K V : Type 0} (old new : Table K V) (slot : K) (living : ℕ → Bool) (o : Option (Map V)) → o ≡ old slot → MatchOption o (Becomes old slot no_value new) (λ _. new ≡ old) → Within old living → Within new living
-within_register old new slot living None e r w = within_becomes old new slot no_value living r w (λ i h. absurd (false≢true h))
+within_register : {K V : Type 0} (old new : Table K V) (slot : K) (living : ℕ → Bool) (o : Option (Column V)) → o ≡ old slot → MatchOption o (Begins old slot new) (λ _. new ≡ old) → Within old living → Within new living
+within_register old new slot living None e r w = within_becomes old new slot r.column living r.becomes w (λ i h. absurd (false≢true (subst (λ (n : Map _). IsSome (n i)) r.fresh.values h)))
 within_register old new slot living (Some m) e r w = subst (λ t. Within t living) (sym r) w
+
+-- a change of a channel leaves the values
+rechannels_within : {K V : Type 0} (old new : Table K V) (slot : K) {says : Channel → Type 0} {change : Channel → Channel} (living : ℕ → Bool) → Rechannels old slot says change new → Within old living → Within new living
+rechannels_within old new slot living r w = within_becomes old new slot _ living r.becomes w (λ i. w slot r.column i r.registered)
 
 put_within : {V : Type 0} (m : Map V) (i : ℕ) (v : V) (living : ℕ → Bool) → living i ≡ true → ((j : ℕ) → IsSome (m j) → living j ≡ true) → (j : ℕ) → IsSome (put m i v j) → living j ≡ true
 put_within m i v living alive w j = elim (cases_eq i j) [
@@ -57,18 +64,18 @@ removes_within : {K V : Type 0} (p : Population) (old new : Table K V) (slot : K
 removes_within p old new slot e found living r w s m i is has = elim (cases_Bool (living i)) [
   | inl t ↦ t
   | inr f ↦
-      let dead : (IsAlive p e → ⊥) = λ a. both_ways (living i) f (within_becomes old new slot _ living (r.alive a).1 w (without_one_within r.map (index_of e) living (λ j. w slot r.map j r.registered)) s m i is has) in
+      let dead : (IsAlive p e → ⊥) = λ a. both_ways (living i) f (within_becomes old new slot _ living (r.alive a).1 w (without_one_within r.column.values (index_of e) living (λ j. w slot r.column j r.registered)) s m i is has) in
       absurd (both_ways (living i) f (w s m i (sym (ap (λ (t : Table _ _). t s) (r.dead dead).1) ∙ is) has))
 ]
 
 -- what is kept of a map has no value at an index of the list
-kept_values : {V : Type 0} (es : List Entity) (o : Option (Map V)) (living : ℕ → Bool) → ((m : Map V) (i : ℕ) → o ≡ Some m → IsSome (m i) → living i ≡ true) → (m : Map V) (i : ℕ) → option_map (without es) o ≡ Some m → IsSome (m i) → (has_index es i ≡ false) × (living i ≡ true)
+kept_values : {V : Type 0} (es : List Entity) (o : Option (Column V)) (living : ℕ → Bool) → ((m : Column V) (i : ℕ) → o ≡ Some m → IsSome (m.values i) → living i ≡ true) → (m : Column V) (i : ℕ) → option_map (without_values es) o ≡ Some m → IsSome (m.values i) → (has_index es i ≡ false) × (living i ≡ true)
 kept_values es None living w m i e has = absurd (none-some m e)
 kept_values {V} es (Some n) living w m i e has =
-    elim (has_index es i) as (λ b. is_some (cond b None (n i)) ≡ true → (b ≡ false) × (living i ≡ true)) [
+    elim (has_index es i) as (λ b. is_some (cond b None (n.values i)) ≡ true → (b ≡ false) × (living i ≡ true)) [
       | true ↦ λ h. absurd (false≢true h)
       | false ↦ λ h. (refl, w n i refl h)
-    ] (subst (λ (k : Map V). is_some (k i) ≡ true) (sym (same_Some (without es n) m e)) has)
+    ] (subst (λ (k : Column V). is_some (k.values i) ≡ true) (sym (same_Some (without_values es n) m e)) has)
 
 true_or : (b : Bool) → (b || true) ≡ true
 true_or true = refl
@@ -196,7 +203,7 @@ deletes_kept es old new s w = record {
   below = rw s.people.dead w.below;
 }
 
-maintains_kept : {K V : Type 0} (old new : State K V) (people : new.people ≡ merge old.people) → ((s : K) → new.table s ≡ option_map (without (the_marked old.people)) (old.table s)) → OnlyLiving old → OnlyLiving new
+maintains_kept : {K V : Type 0} (old new : State K V) (people : new.people ≡ merge old.people) → ((s : K) → new.table s ≡ option_map (without_values (the_marked old.people)) (old.table s)) → OnlyLiving old → OnlyLiving new
 maintains_kept old new people table w = record {
   values = rw people (λ slot m i is has.
       let kept = kept_values (the_marked old.people) (old.table slot) (lives old.people) (w.values slot) m i (sym (table slot) ∙ is) has in
@@ -227,18 +234,19 @@ keeps_step place allocates old CreatePending (Refused IndexLimit) new s w = unch
 keeps_step place allocates old CreatePending (Refused OutOfMemory) new s w = unchanged old new s.1 w
 keeps_step place allocates old (Delete es) Done new s w = deletes_kept es.items old new s w
 keeps_step place allocates old (Delete es) (Refused (Wrong x)) new s w = unchanged old new s.1 w
+keeps_step place allocates old (Delete es) (Refused OutOfMemory) new s w = unchanged old new s.1 w
 keeps_step place allocates old (MarkDead e) Done new s w = mark_kept old new e s w
 keeps_step place allocates old (MarkDead e) (Refused (Wrong x)) new s w = unchanged old new s.1 w
 keeps_step place allocates old (AskAlive e) (Yes b) new s w = unchanged old new s.1 w
 keeps_step place allocates old (AskLiving e) (Yes b) new s w = unchanged old new s.1 w
 keeps_step place allocates old (EntityAt i) (Told e) new s w = unchanged old new s.1 w
-keeps_step place allocates old (Insert e value) (Value before) new s w = table_only old new s.people w (within_becomes old.table new.table (place value) _ (lives old.people) s.table.put w.values (put_within s.table.map (index_of e) value (lives old.people) s.table.alive.0 (λ j. w.values (place value) s.table.map j s.table.registered)))
+keeps_step place allocates old (Insert e value) (Value before) new s w = table_only old new s.people w (within_becomes old.table new.table (place value) _ (lives old.people) s.table.put w.values (put_within s.table.column.values (index_of e) value (lives old.people) s.table.alive.0 (λ j. w.values (place value) s.table.column j s.table.registered)))
 keeps_step place allocates old (Insert e value) (InsertRefused r back) new s w = unchanged old new s.2 w
 keeps_step place allocates old (Get slot e) (Value found) new s w = unchanged old new s.1 w
 keeps_step place allocates old (Get slot e) (Refused r) new s w = unchanged old new s.1 w
 keeps_step place allocates old (Remove slot e) (Value found) new s w = table_only old new s.people w (removes_within old.people old.table new.table slot e found (lives old.people) s.table w.values)
 keeps_step place allocates old (Remove slot e) (Refused r) new s w = unchanged old new s.1 w
-keeps_step place allocates old (Clear slot) Done new s w = table_only old new s.people w (within_becomes old.table new.table slot no_value (lives old.people) s.table.cleared w.values (λ i h. absurd (false≢true h)))
+keeps_step place allocates old (Clear slot) Done new s w = table_only old new s.people w (within_becomes old.table new.table slot _ (lives old.people) s.table.cleared w.values (λ i h. absurd (false≢true h)))
 keeps_step place allocates old (Clear slot) (Refused r) new s w = unchanged old new s.1 w
 keeps_step place allocates old (AskCount slot) (Count n) new s w = unchanged old new s.1 w
 keeps_step place allocates old (AskCount slot) (Refused r) new s w = unchanged old new s.1 w
@@ -246,6 +254,14 @@ keeps_step place allocates old (Select x) (Indices is) new s w = unchanged old n
 keeps_step place allocates old (Select x) (Refused r) new s w = unchanged old new s.1 w
 keeps_step place allocates old (Maintain limit) (Kept m) new s w = maintains_kept old new s.people s.table w
 keeps_step place allocates old (Maintain limit) (Refused OutOfMemory) new s w = unchanged old new s.1 w
+keeps_step place allocates old (Reader slot) (NewReader n) new s w = table_only old new s.people w (rechannels_within old.table new.table slot (lives old.people) s.table w.values)
+keeps_step place allocates old (Reader slot) (Refused r) new s w = unchanged old new s.1 w
+keeps_step place allocates old (Events slot n) (Given es) new s w = table_only old new s.people w (rechannels_within old.table new.table slot (lives old.people) s.table w.values)
+keeps_step place allocates old (Events slot n) (Refused r) new s w = unchanged old new s.1 w
+keeps_step place allocates old (DropReader slot n) Done new s w = table_only old new s.people w (rechannels_within old.table new.table slot (lives old.people) s.table w.values)
+keeps_step place allocates old (DropReader slot n) (Refused r) new s w = unchanged old new s.1 w
+keeps_step place allocates old (Emit slot on) Done new s w = table_only old new s.people w (rechannels_within old.table new.table slot (lives old.people) s.table w.values)
+keeps_step place allocates old (Emit slot on) (Refused r) new s w = unchanged old new s.1 w
 keeps_step place allocates old command reply new s w = absurd s
 
 pub keeps_run : {K V : Type 0} (place : V → K) (allocates : K → Bool) (cs : List (Command K V)) (rs : List (Reply V)) (old new : State K V) → Run place allocates old cs rs new → OnlyLiving old → OnlyLiving new

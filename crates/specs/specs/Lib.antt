@@ -1,3 +1,5 @@
+pub mod Column
+pub mod Readers
 pub mod Maps
 pub mod Table
 pub mod Sets

@@ -2,13 +2,13 @@
 use Rattle.std.specs.Prelude.{◌≡◌, ℕ, ◌<◌, true, List, Some, None, IsSome}
 use Rattle.hibits.specs.declared.limits.TheConstants.{INDEX_LIMIT}
 use Rattle.entities.specs.Population.{lives, no_one}
-use Rattle.specs.specs.Maps.{Map}
+use Rattle.specs.specs.Column.{Column}
 use Rattle.specs.specs.Table.{Table}
 use Rattle.specs.specs.State.{State}
 
 -- no slot has a value
 abbrev pub HasNoValue : {K V : Type 0} → Table K V → Type 0
-HasNoValue {K} {V} table = (slot : K) (m : Map V) (i : ℕ) → table slot ≡ Some m → m i ≡ None
+HasNoValue {K} {V} table = (slot : K) (c : Column V) (i : ℕ) → table slot ≡ Some c → c.values i ≡ None
 
 -- nobody was born yet, and no slot has a value
 pub record IsNew {K V : Type 0} (s : State K V) : Type 0 where
@@ -17,6 +17,6 @@ pub record IsNew {K V : Type 0} (s : State K V) : Type 0 where
 
 -- each index with a value lives, each that lives was born, and each that was born is below the limit
 pub record OnlyLiving {K V : Type 0} (s : State K V) : Type 0 where
-  pub values : (slot : K) (m : Map V) (i : ℕ) → s.table slot ≡ Some m → IsSome (m i) → lives s.people i ≡ true
+  pub values : (slot : K) (c : Column V) (i : ℕ) → s.table slot ≡ Some c → IsSome (c.values i) → lives s.people i ≡ true
   pub born : (i : ℕ) → lives s.people i ≡ true → 0 < s.people.births i
   pub below : (i : ℕ) → 0 < s.people.births i → i < INDEX_LIMIT

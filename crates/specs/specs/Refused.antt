@@ -1,7 +1,7 @@
 -- Refusals of the world's own calls.
 use Rattle.std.specs.Prelude.{◌≡◌, Bool, List}
 use Rattle.entities.specs.declared.entity.Entity.{Entity}
-use Rattle.entities.specs.Population.{Population, born_as}
+use Rattle.entities.specs.Population.{born_as}
 use Rattle.specs.specs.declared.world.DeleteError.{DeleteError}
 use Rattle.specs.specs.declared.world.DeleteError.TheVariants.{WrongGeneration as NotDeleted, OutOfMemory as NoMemory}
 use Rattle.specs.specs.declared.command.Reply.{Reply}
@@ -10,11 +10,11 @@ use Rattle.specs.specs.declared.command.Refusal.{Refusal}
 use Rattle.specs.specs.declared.command.Refusal.TheVariants.{WrongGeneration as Wrong, IndexLimit, OutOfMemory}
 use Rattle.specs.specs.People.{Births, IsFull, BirthWantsMemory, DeathIsRefused}
 use Rattle.specs.specs.Table.{Table, Counts, IsUnregistered}
-use Rattle.specs.specs.State.{State, OnPeople}
+use Rattle.specs.specs.State.{State, OnPeople, DeletionWantsMemory}
 
-abbrev pub DeleteIsRefused : Population → List Entity → DeleteError → Type 0
-DeleteIsRefused p es (NotDeleted w) = DeathIsRefused p es w
-DeleteIsRefused p es NoMemory = ⊥
+abbrev pub DeleteIsRefused : {K V : Type 0} → State K V → List Entity → DeleteError → Type 0
+DeleteIsRefused s es (NotDeleted w) = DeathIsRefused s.people es w
+DeleteIsRefused s es NoMemory = DeletionWantsMemory s es
 
 -- the same refusal, as a command tells it
 abbrev pub refusal_of : DeleteError → Refusal

@@ -2,17 +2,18 @@
 use Rattle.std.specs.Prelude.{◌≡◌, ℕ, Bool, true, false, not, nat_lt, if◌then◌else◌, ◌&&◌, ◌||◌, Option, Some, None, is_some}
 use Rattle.hibits.specs.declared.limits.TheConstants.{INDEX_LIMIT}
 use Rattle.entities.specs.Population.{Population, lives}
-use Rattle.specs.specs.Maps.{Map, has_value}
+use Rattle.specs.specs.Maps.{has_value}
+use Rattle.specs.specs.Column.{Column}
 use Rattle.specs.specs.Table.{Table}
 use Rattle.specs.specs.declared.command.SetExpr.{SetExpr}
 use Rattle.specs.specs.declared.command.SetExpr.TheVariants.{Slot, Living, And', Or', Xor', Not'}
 use Rattle.specs.specs.declared.command.Refusal.{Refusal}
-use Rattle.specs.specs.declared.command.Refusal.TheVariants.{WrongGeneration as Wrong, Unregistered, IndexLimit, OutOfMemory}
+use Rattle.specs.specs.declared.command.Refusal.TheVariants.{WrongGeneration as Wrong, Unregistered, IndexLimit, OutOfMemory, Untracked, UnknownReader}
 
 -- whether an index has a value in a slot, which may be unregistered
-abbrev pub is_in : {V : Type 0} → Option (Map V) → ℕ → Bool
+abbrev pub is_in : {V : Type 0} → Option (Column V) → ℕ → Bool
 is_in None i = false
-is_in (Some m) i = has_value m i
+is_in (Some c) i = has_value c.values i
 
 -- one or the other, and not both
 abbrev pub differ : Bool → Bool → Bool
@@ -41,3 +42,5 @@ SelectIsRefused table x (Wrong w) = ⊥
 SelectIsRefused table x Unregistered = is_registered table x ≡ false
 SelectIsRefused table x IndexLimit = ⊥
 SelectIsRefused table x OutOfMemory = is_registered table x ≡ true
+SelectIsRefused table x Untracked = ⊥
+SelectIsRefused table x UnknownReader = ⊥

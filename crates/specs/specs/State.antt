@@ -5,20 +5,22 @@ use Rattle.hibits.specs.Left.{left}
 use Rattle.entities.specs.declared.entity.Entity.{Entity}
 use Rattle.entities.specs.Census.{population}
 use Rattle.entities.specs.Population.{Population, born, born_pending, IsAlive, IsMerged}
+use Rattle.entities.specs.Deaths.{MayAllDie}
 use Rattle.entities.specs.Merges.{the_marked, merge}
 use Rattle.specs.specs.declared.command.SetExpr.{SetExpr}
 use Rattle.specs.specs.declared.command.Maintained.{Maintained}
 use Rattle.specs.specs.declared.command.Command.{Command}
-use Rattle.specs.specs.declared.command.Command.TheVariants.{Register, Create, CreatePending, Delete, MarkDead, IsAlive as AskAlive, IsLiving as AskLiving, EntityAt, Insert, Get, Remove, Clear, Count as AskCount, Select, Maintain}
+use Rattle.specs.specs.declared.command.Command.TheVariants.{Register, Create, CreatePending, Delete, MarkDead, IsAlive as AskAlive, IsLiving as AskLiving, EntityAt, Insert, Get, Remove, Clear, Count as AskCount, Select, Maintain, Reader, Events, DropReader, Emit}
 use Rattle.specs.specs.declared.command.Reply.{Reply}
-use Rattle.specs.specs.declared.command.Reply.TheVariants.{Done, Entity as Told, Bool as Yes, Value, Count, Indices, Maintained as Kept, Refused, InsertRefused}
+use Rattle.specs.specs.declared.command.Reply.TheVariants.{Done, Entity as Told, Bool as Yes, Value, Count, Indices, Maintained as Kept, Reader as NewReader, Events as Given, Refused, InsertRefused}
 use Rattle.specs.specs.declared.command.Refusal.{Refusal}
 use Rattle.specs.specs.declared.command.Refusal.TheVariants.{WrongGeneration as Wrong, Unregistered, IndexLimit, OutOfMemory}
 use Rattle.specs.specs.declared.world.World.{World}
-use Rattle.specs.specs.Maps.{without}
+use Rattle.specs.specs.Column.{without_values}
 use Rattle.specs.specs.People.{Births, IsFull, BirthWantsMemory, Deaths, DeathIsRefused, Marks, MarkIsRefused, IsEntityAt, NoneMarked}
+use Rattle.specs.specs.Readers.{RegistersReader, RegisterReaderIsRefused, ReadsEvents, DropsReader, ReaderIsRefused, Switches, SwitchIsRefused}
 use Rattle.specs.specs.Sets.{is_member, is_registered, SelectIsRefused}
-use Rattle.specs.specs.Table.{Table, Registers, Inserts, InsertIsRefused, Gets, GetIsRefused, Removes, Clears, Counts, IsUnregistered}
+use Rattle.specs.specs.Table.{Table, Registers, Inserts, InsertIsRefused, Gets, GetIsRefused, Removes, RemoveIsRefused, Clears, ClearIsRefused, Counts, IsUnregistered, WantsMemory}
 
 pub record State (K V : Type 0) : Type 0 where
   pub people : Population
@@ -40,17 +42,22 @@ pub record OnTable {K V : Type 0} (change : Table K V → Table K V → Type 0) 
 -- a death at once of a list, with all its components
 pub record Deletes {K V : Type 0} (es : List Entity) (old new : State K V) : Type 0 where
   pub people : Deaths old.people es new.people
-  pub table : (s : K) → new.table s ≡ option_map (without es) (old.table s)
+  pub table : (s : K) → new.table s ≡ option_map (without_values es) (old.table s)
 
 -- pending births are taken up, then the marked die, with all their components; no job is queued
 pub record Maintains {K V : Type 0} (old : State K V) (m : Maintained) (new : State K V) : Type 0 where
   pub deleted : m.deleted.items ≡ the_marked old.people
   pub people : new.people ≡ merge old.people
-  pub table : (s : K) → new.table s ≡ option_map (without (the_marked old.people)) (old.table s)
+  pub table : (s : K) → new.table s ≡ option_map (without_values (the_marked old.people)) (old.table s)
   pub ran : m.ran ≡ 0
   pub refused : m.refused ≡ 0
   pub left : m.left ≡ 0
   pub stopped : m.stopped ≡ false
+
+-- a death of a list wants memory only where the whole list may die, and somebody hears of some slot
+pub record DeletionWantsMemory {K V : Type 0} (s : State K V) (es : List Entity) : Type 0 where
+  pub may : MayAllDie s.people es
+  pub wanted : WantsMemory s.table
 
 -- the ascending list of the members of a set
 pub record Selects {K V : Type 0} (old : State K V) (x : SetExpr K) (indices : List ℕ) : Type 0 where
@@ -70,6 +77,7 @@ Step place allocates old CreatePending (Refused IndexLimit) new = IsFull old.peo
 Step place allocates old CreatePending (Refused OutOfMemory) new = BirthWantsMemory old.people × (new ≡ old)
 Step place allocates old (Delete es) Done new = Deletes es.items old new
 Step place allocates old (Delete es) (Refused (Wrong w)) new = DeathIsRefused old.people es.items w × (new ≡ old)
+Step place allocates old (Delete es) (Refused OutOfMemory) new = DeletionWantsMemory old es.items × (new ≡ old)
 Step place allocates old (MarkDead e) Done new = OnPeople (λ p p'. Marks p e p') old new
 Step place allocates old (MarkDead e) (Refused (Wrong w)) new = MarkIsRefused old.people e w × (new ≡ old)
 Step place allocates old (AskAlive e) (Yes b) new = (IsTrue b ↔ IsMerged old.people e) × (new ≡ old)
@@ -80,15 +88,23 @@ Step place allocates old (Insert e value) (InsertRefused r back) new = InsertIsR
 Step place allocates old (Get slot e) (Value found) new = Gets old.people old.table slot e found × (new ≡ old)
 Step place allocates old (Get slot e) (Refused r) new = GetIsRefused allocates old.people old.table slot e r × (new ≡ old)
 Step place allocates old (Remove slot e) (Value found) new = OnTable (λ t t'. Removes old.people t slot e found t') old new
-Step place allocates old (Remove slot e) (Refused r) new = IsUnregistered old.table slot r × (new ≡ old)
+Step place allocates old (Remove slot e) (Refused r) new = RemoveIsRefused old.people old.table slot e r × (new ≡ old)
 Step place allocates old (Clear slot) Done new = OnTable (λ t t'. Clears t slot t') old new
-Step place allocates old (Clear slot) (Refused r) new = IsUnregistered old.table slot r × (new ≡ old)
+Step place allocates old (Clear slot) (Refused r) new = ClearIsRefused old.table slot r × (new ≡ old)
 Step place allocates old (AskCount slot) (Count n) new = Counts old.table slot n × (new ≡ old)
 Step place allocates old (AskCount slot) (Refused r) new = IsUnregistered old.table slot r × (new ≡ old)
 Step place allocates old (Select x) (Indices is) new = Selects old x is.items × (new ≡ old)
 Step place allocates old (Select x) (Refused r) new = SelectIsRefused old.table x r × (new ≡ old)
 Step place allocates old (Maintain limit) (Kept m) new = Maintains old m new
 Step place allocates old (Maintain limit) (Refused OutOfMemory) new = (NoneMarked old.people → ⊥) × (new ≡ old)
+Step place allocates old (Reader slot) (NewReader n) new = OnTable (λ t t'. RegistersReader t slot n t') old new
+Step place allocates old (Reader slot) (Refused r) new = RegisterReaderIsRefused (old.table slot) r × (new ≡ old)
+Step place allocates old (Events slot n) (Given es) new = OnTable (λ t t'. ReadsEvents t slot n es.items t') old new
+Step place allocates old (Events slot n) (Refused r) new = ReaderIsRefused n (old.table slot) r × (new ≡ old)
+Step place allocates old (DropReader slot n) Done new = OnTable (λ t t'. DropsReader t slot n t') old new
+Step place allocates old (DropReader slot n) (Refused r) new = ReaderIsRefused n (old.table slot) r × (new ≡ old)
+Step place allocates old (Emit slot on) Done new = OnTable (λ t t'. Switches t slot on t') old new
+Step place allocates old (Emit slot on) (Refused r) new = SwitchIsRefused (old.table slot) r × (new ≡ old)
 Step place allocates old command reply new = ⊥
 
 -- one step after another

@@ -1,5 +1,6 @@
 //! Commands and their replies, over slots `K` and values `V`.
 use entities::{Entity, Index, WrongGeneration};
+use storages::{ComponentEvent, ReaderId};
 
 /// A set of indices below the limit.
 #[derive(Debug, Drop)]
@@ -51,12 +52,20 @@ pub enum Command<K, V> {
     Select(SetExpr<K>),
     /// Takes up pending births, and lets the marked die with their components. At most so many queued jobs run.
     Maintain(u64),
+    /// Registers a reader of a slot's events.
+    Reader(K),
+    /// Asks for the events of a slot that a reader has not read, which it has read then.
+    Events(K, ReaderId),
+    /// Ends a reader of a slot's events.
+    DropReader(K, ReaderId),
+    /// Turns the events of a slot on or off.
+    Emit(K, bool),
 }
 
 /// The answer to a command.
 #[derive(Debug, Drop)]
 pub enum Reply<V> {
-    /// A registration, a deletion, a mark or a clearing was done.
+    /// A registration, a deletion, a mark, a clearing, the end of a reader or a switch of events was done.
     Done,
     /// The entity that was born, or that an index has.
     Entity(Entity),
@@ -70,6 +79,10 @@ pub enum Reply<V> {
     Indices(Vec<Index>),
     /// What a `Maintain` did.
     Maintained(Maintained),
+    /// The reader that was registered.
+    Reader(ReaderId),
+    /// What the reader had not read, in order.
+    Events(Vec<ComponentEvent>),
     /// The command was refused, and changed nothing.
     Refused(Refusal),
     /// An insertion was refused, and changed nothing: the value is handed back.
@@ -102,4 +115,8 @@ pub enum Refusal {
     IndexLimit,
     /// Memory was refused.
     OutOfMemory,
+    /// The slot's storage has no channel of events.
+    Untracked,
+    /// The number is of no registered reader of the slot.
+    UnknownReader,
 }

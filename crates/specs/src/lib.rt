@@ -12,4 +12,5 @@ pub use entities::{
 };
 pub use laws::{only_living, stays_dead};
 pub use slots::Storages;
+pub use storages::{ComponentEvent, ReaderId};
 pub use world::{DeleteError, World};

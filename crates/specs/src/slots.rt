@@ -1,14 +1,17 @@
 //! What a world asks of a struct of storages.
-ghost use Rattle.std.specs.Prelude.{◌≡◌, ℕ, Bool, Option, None, IfOk, OnOk, IfErr, OnErr, IsTrue, ◌↔◌, IsSome, MatchOption};
+ghost use Rattle.std.specs.Prelude.{◌≡◌, ℕ, Bool, Option, None, IfOk, OnOk, IfErr, OnErr, IsTrue, ◌↔◌, IsOk, IsSome, MatchOption, length};
 ghost use Rattle.std.specs.Option.{option_map};
 ghost use Rattle.entities.specs.Census.{population};
-ghost use Rattle.specs.specs.Maps.{without};
-ghost use Rattle.specs.specs.Table.{Registers, Inserts, InsertIsRefused, Gets, GetIsRefused, Removes, Clears, IsUnregistered, IsMask};
+ghost use Rattle.storages.specs.Meaning.{HasRoom};
+ghost use Rattle.specs.specs.Column.{Column, WantsNone, without_values};
+ghost use Rattle.specs.specs.Readers.{RegistersReader, RegisterReaderIsRefused, ReadsEvents, DropsReader, ReaderIsRefused, Switches, SwitchIsRefused};
+ghost use Rattle.specs.specs.Table.{Registers, Inserts, InsertIsRefused, Gets, GetIsRefused, Removes, RemoveIsRefused, Clears, ClearIsRefused, IsMask};
 
 use crate::command::Refusal;
 use entities::{EntitiesRes, Entity};
 use hibits::BitSet;
 use std::alloc::{AllocError, Global};
+use storages::{ComponentEvent, ReaderId};
 
 /// A struct with a storage, or none, for each component type. A call touches the one slot that it names, and a refused call changes nothing.
 pub trait Storages {
@@ -18,8 +21,11 @@ pub trait Storages {
     /// One variant for each component type.
     type Value: Drop;
 
-    /// The map of each slot from indices to values, or nothing where the slot is not registered.
-    ghost table: { Self → Self.Slot → Option (ℕ → Option Self.Value) };
+    /// The values of each slot with the channel of its events, or nothing where the slot is not registered.
+    ghost table: { Self → Self.Slot → Option (Column Self.Value) };
+
+    /// For how many events a slot has room, and nothing where no event needs any.
+    ghost room: { Self → Self.Slot → Option ℕ };
 
     /// The slot of a value.
     ghost place: { Self.Value → Self.Slot };
@@ -67,7 +73,7 @@ pub trait Storages {
         ensures ok { IfOk result (λ found. Gets (population entities.now) (table self.now) slot e found) }
         ensures refused { IfErr result (GetIsRefused allocates (population entities.now) (table self.now) slot e) };
 
-    /// Removes the value of an entity and answers it, or none where the entity is not alive.
+    /// Removes the value of an entity and answers it, or none where the entity is not alive. It takes memory for an event alone.
     fn remove(
         &mut self,
         entities: &EntitiesRes,
@@ -75,16 +81,53 @@ pub trait Storages {
         e: Entity,
     ) -> Result<Option<Self::Value>, Refusal>
         ensures ok { IfOk result (λ found. Removes (population entities.now) (table self.old) slot e found (table self.new)) }
-        ensures refused { IfErr result (IsUnregistered (table self.old) slot) }
+        ensures refused { IfErr result (RemoveIsRefused (population entities.now) (table self.old) slot e) }
         ensures err { OnErr result (table self.new ≡ table self.old) };
 
-    /// Removes every value of a slot.
+    /// Removes every value of a slot. It takes memory for events alone.
     fn clear(&mut self, slot: Self::Slot) -> Result<(), Refusal>
         ensures ok { OnOk result (Clears (table self.old) slot (table self.new)) }
-        ensures refused { IfErr result (IsUnregistered (table self.old) slot) }
+        ensures refused { IfErr result (ClearIsRefused (table self.old) slot) }
         ensures err { OnErr result (table self.new ≡ table self.old) };
 
-    /// Removes the values at the indices of a list of entities, of each slot.
+    /// Registers a reader of a slot's events, which has nothing to read yet.
+    fn register_reader(&mut self, slot: Self::Slot) -> Result<ReaderId, Refusal>
+        ensures ok { IfOk result (λ n. RegistersReader (table self.old) slot n (table self.new)) }
+        ensures refused { IfErr result (RegisterReaderIsRefused (table self.old slot)) }
+        ensures err { OnErr result (table self.new ≡ table self.old) };
+
+    /// What a reader has not read of a slot's events, which it has read then. It takes no memory.
+    fn events(
+        &mut self,
+        slot: Self::Slot,
+        reader: &ReaderId,
+    ) -> Result<Vec<ComponentEvent>, Refusal>
+        ensures ok { IfOk result (λ es. ReadsEvents (table self.old) slot reader.now es.items (table self.new)) }
+        ensures refused { IfErr result (ReaderIsRefused reader.now (table self.old slot)) }
+        ensures err { OnErr result (table self.new ≡ table self.old) };
+
+    /// Ends a reader of a slot's events. Its number is not used again.
+    fn drop_reader(&mut self, slot: Self::Slot, reader: ReaderId) -> Result<(), Refusal>
+        ensures ok { OnOk result (DropsReader (table self.old) slot reader (table self.new)) }
+        ensures refused { IfErr result (ReaderIsRefused reader (table self.old slot)) }
+        ensures err { OnErr result (table self.new ≡ table self.old) };
+
+    /// Turns the events of a slot on or off.
+    fn emit(&mut self, slot: Self::Slot, on: bool) -> Result<(), Refusal>
+        ensures ok { OnOk result (Switches (table self.old) slot on (table self.new)) }
+        ensures refused { IfErr result (SwitchIsRefused (table self.old slot)) }
+        ensures err { OnErr result (table self.new ≡ table self.old) };
+
+    /// Makes room for the events of a removal of the values of so many entities. It takes no memory where nobody hears of any slot, or for
+    /// no entity. Nothing changes but the room.
+    fn reserve_drop(&mut self, count: usize) -> Result<(), AllocError>
+        ensures same { table self.new ≡ table self.old }
+        ensures ok { OnOk result ((s : Self.Slot) → HasRoom (room self.new s) count) }
+        ensures none { count ≡ 0 → IsOk result }
+        ensures unheard { ((s : Self.Slot) → WantsNone (table self.old s)) → IsOk result };
+
+    /// Removes the values at the indices of a list of entities, of each slot, in room that is there for the events.
     fn drop_all(&mut self, es: &[Entity])
-        ensures { (s : Self.Slot) → table self.new s ≡ option_map (without es.now) (table self.old s) };
+        requires { (s : Self.Slot) → HasRoom (room self.old s) (length es.now) }
+        ensures { (s : Self.Slot) → table self.new s ≡ option_map (without_values es.now) (table self.old s) };
 }

@@ -14,6 +14,7 @@ ghost use Rattle.specs.specs.Sets.{is_member, is_registered, SelectIsRefused};
 ghost use Rattle.specs.specs.State.{state_of, Deletes, Maintains, Selects, Step, Run};
 ghost use Rattle.specs.specs.Refused.{DeleteIsRefused, BirthStep, CountStep};
 ghost use Rattle.specs.specs.Lending.{LendsEntities};
+ghost use Rattle.specs.specs.Table.{WantsMemory};
 
 use crate::command::{Command, Maintained, Refusal, Reply, SetExpr};
 use crate::slots::Storages;
@@ -94,20 +95,23 @@ impl<S: Storages> World<S> {
     pub fn delete_entity(&mut self, e: Entity) -> Result<(), DeleteError>
         ensures ok { OnOk result (Deletes (e ∷ []) (state_of S.table self.old) (state_of S.table self.new)) }
         ensures gone { OnOk result (IsGone (state_of S.table self.new).people e) }
-        ensures refused { IfErr result (DeleteIsRefused (state_of S.table self.old).people (e ∷ [])) }
+        ensures refused { IfErr result (DeleteIsRefused (state_of S.table self.old) (e ∷ [])) }
         ensures err { OnErr result (state_of S.table self.new ≡ state_of S.table self.old) }
     {
         self.delete_entities(&[e])
     }
 
     /// The death at once of a list of entities, with their components. The whole list is tested first. It takes time near linear in the
-    /// list, and no memory. Ports `WorldExt::delete_entities`.
+    /// list, and memory for events alone. Ports `WorldExt::delete_entities`.
     pub fn delete_entities(&mut self, list: &[Entity]) -> Result<(), DeleteError>
         ensures ok { OnOk result (Deletes list.now (state_of S.table self.old) (state_of S.table self.new)) }
         ensures gone { OnOk result (All (IsGone (state_of S.table self.new).people) list.now) }
-        ensures refused { IfErr result (DeleteIsRefused (state_of S.table self.old).people list.now) }
+        ensures refused { IfErr result (DeleteIsRefused (state_of S.table self.old) list.now) }
         ensures err { OnErr result (state_of S.table self.new ≡ state_of S.table self.old) }
     {
+        if self.storages.reserve_drop(list.len()).is_err() {
+            return Err(self.no_room(list));
+        }
         match self.entities.alloc_mut().kill(list) {
             Ok(()) => {
                 self.storages.drop_all(list);
@@ -117,7 +121,19 @@ impl<S: Storages> World<S> {
         }
     }
 
-    /// Takes up pending births, and lets the marked die with their components. It takes memory for the list of the dead alone. The limit is of
+    // Why a list is not deleted that has no room: it is tested first.
+    fn no_room(&mut self, list: &[Entity]) -> DeleteError
+        requires { WantsMemory (state_of S.table self.old).table }
+        ensures refused { DeleteIsRefused (state_of S.table self.old) list.now result }
+        ensures same { state_of S.table self.new ≡ state_of S.table self.old }
+    {
+        match self.entities.alloc_mut().may_kill(list) {
+            Ok(()) => DeleteError::OutOfMemory,
+            Err(wrong) => DeleteError::WrongGeneration(wrong),
+        }
+    }
+
+    /// Takes up pending births, and lets the marked die with their components. It takes memory for the list of the dead, and for events. The limit is of
     /// jobs to be done, of which there are none yet. Ports `WorldExt::maintain`.
     pub fn maintain(&mut self, _limit: u64) -> Result<Maintained, AllocError>
         ensures ok { IfOk result (λ m. Maintains (state_of S.table self.old) m (state_of S.table self.new)) }
@@ -126,6 +142,7 @@ impl<S: Storages> World<S> {
         ensures err { OnErr result (state_of S.table self.new ≡ state_of S.table self.old) }
     {
         let alloc = self.alloc;
+        self.storages.reserve_drop(self.entities.marked().count())?;
         let deleted = self.entities.alloc_mut().merge(alloc)?;
         self.storages.drop_all(deleted.as_slice());
         Ok(Maintained {
@@ -200,6 +217,22 @@ impl<S: Storages> World<S> {
             Command::Maintain(limit) => match self.maintain(limit) {
                 Ok(maintained) => Reply::Maintained(maintained),
                 Err(_) => Reply::Refused(Refusal::OutOfMemory),
+            },
+            Command::Reader(slot) => match self.storages.register_reader(slot) {
+                Ok(reader) => Reply::Reader(reader),
+                Err(refusal) => Reply::Refused(refusal),
+            },
+            Command::Events(slot, reader) => match self.storages.events(slot, &reader) {
+                Ok(events) => Reply::Events(events),
+                Err(refusal) => Reply::Refused(refusal),
+            },
+            Command::DropReader(slot, reader) => match self.storages.drop_reader(slot, reader) {
+                Ok(()) => Reply::Done,
+                Err(refusal) => Reply::Refused(refusal),
+            },
+            Command::Emit(slot, on) => match self.storages.emit(slot, on) {
+                Ok(()) => Reply::Done,
+                Err(refusal) => Reply::Refused(refusal),
             },
         }
     }

@@ -4,5 +4,7 @@
 mod parse;
 mod printed;
 mod script;
+mod values;
+mod words;
 
 pub use script::run_script;

@@ -1,6 +1,8 @@
-//! The words of a script's lines.
-use slots::{Defense, Link, Mapped, Position, Slot, Tag, Treed, Value, Velocity};
-use specs::{Command, Entity, Index, SetExpr};
+//! The lines of a script.
+use crate::values::Worded;
+use crate::words::{entity, index, number};
+use slots::{DEF, HP, LINK, MAP, POS, Slot, TAG, TREE, VEL, Value};
+use specs::{Command, Entity, ReaderId, SetExpr};
 use std::alloc::{AllocError, Global};
 use std::str;
 
@@ -30,12 +32,16 @@ fn plain(words: &[&str]) -> Option<Command<Slot, Value>> {
         ["alive", e] => Some(Command::IsAlive(entity(e)?)),
         ["living", e] => Some(Command::IsLiving(entity(e)?)),
         ["entity", i] => Some(Command::EntityAt(index(i)?)),
-        ["insert", s, e, v] => Some(Command::Insert(entity(e)?, value(slot(s)?, v)?)),
+        ["insert", s, e, v] => Some(Command::Insert(entity(e)?, Value::read(slot(s)?, v)?)),
         ["get", s, e] => Some(Command::Get(slot(s)?, entity(e)?)),
         ["remove", s, e] => Some(Command::Remove(slot(s)?, entity(e)?)),
         ["clear", s] => Some(Command::Clear(slot(s)?)),
         ["count", s] => Some(Command::Count(slot(s)?)),
         ["maintain", n] => Some(Command::Maintain(number(n)?)),
+        ["reader", s] => Some(Command::Reader(slot(s)?)),
+        ["events", s, n] => Some(Command::Events(slot(s)?, ReaderId::of(number(n)?))),
+        ["emit", s, "on"] => Some(Command::Emit(slot(s)?, true)),
+        ["emit", s, "off"] => Some(Command::Emit(slot(s)?, false)),
         _ => None,
     }
 }
@@ -73,63 +79,14 @@ fn set(alloc: Global, words: &[&str]) -> Result<Option<SetExpr<Slot>>, AllocErro
 
 fn slot(word: &str) -> Option<Slot> {
     match word {
-        "pos" => Some(Slot::Pos),
-        "vel" => Some(Slot::Vel),
-        "def" => Some(Slot::Def),
-        "map" => Some(Slot::Map),
-        "tree" => Some(Slot::Tree),
-        "tag" => Some(Slot::Tag),
-        "link" => Some(Slot::Link),
+        "pos" => Some(POS),
+        "vel" => Some(VEL),
+        "def" => Some(DEF),
+        "map" => Some(MAP),
+        "tree" => Some(TREE),
+        "tag" => Some(TAG),
+        "hp" => Some(HP),
+        "link" => Some(LINK),
         _ => None,
-    }
-}
-
-fn value(slot: Slot, word: &str) -> Option<Value> {
-    match slot {
-        Slot::Pos => Some(Value::Pos(Position(whole(word)?))),
-        Slot::Vel => Some(Value::Vel(Velocity(whole(word)?))),
-        Slot::Def => Some(Value::Def(Defense(whole(word)?))),
-        Slot::Map => Some(Value::Map(Mapped(whole(word)?))),
-        Slot::Tree => Some(Value::Tree(Treed(whole(word)?))),
-        Slot::Tag if word == "tag" => Some(Value::Tag(Tag)),
-        Slot::Tag => None,
-        Slot::Link => Some(Value::Link(Link(entity(word)?))),
-    }
-}
-
-/// An index and a generation, as `0:1` or `0:-1`.
-fn entity(word: &str) -> Option<Entity> {
-    let (id, generation) = word.split_once(':')?;
-    Entity::from_parts(index(id)?, i32::try_from(whole(generation)?).ok()?)
-}
-
-fn index(word: &str) -> Option<Index> {
-    Index::try_from(number(word)?).ok()
-}
-
-/// A decimal below 2^64, without leading zero.
-fn number(word: &str) -> Option<u64> {
-    if is_decimal(word) {
-        word.parse().ok()
-    } else {
-        None
-    }
-}
-
-/// A whole number of 64 bits, with a minus but no plus.
-fn whole(word: &str) -> Option<i64> {
-    let digits = word.strip_prefix('-').unwrap_or(word);
-    if !is_decimal(digits) || word == "-0" {
-        return None;
-    }
-    word.parse().ok()
-}
-
-/// ASCII digits without leading zero, or `0`.
-fn is_decimal(word: &str) -> bool {
-    match word.as_bytes() {
-        [] => false,
-        [b'0', _, ..] => false,
-        digits => digits.iter().all(|digit| digit.is_ascii_digit()),
     }
 }

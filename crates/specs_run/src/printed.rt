@@ -1,6 +1,6 @@
 //! What is printed for a reply.
-use slots::{Defense, Link, Mapped, Position, Tag, Treed, Value, Velocity};
-use specs::{Entity, Maintained, Refusal, Reply};
+use slots::Value;
+use specs::{Entity, Maintained, ReaderId, Refusal, Reply};
 use std::fmt;
 
 /// A reply, on one line without its line feed.
@@ -14,10 +14,12 @@ impl fmt::Display for Printed {
             Reply::Entity(e) => write_entity(f, *e),
             Reply::Bool(b) => write!(f, "{b}"),
             Reply::Value(None) => write!(f, "none"),
-            Reply::Value(Some(value)) => write_value(f, value),
+            Reply::Value(Some(value)) => write!(f, "{value}"),
             Reply::Count(n) => write!(f, "{n}"),
             Reply::Indices(indices) => write!(f, "{indices:?}"),
             Reply::Maintained(maintained) => write_maintained(f, maintained),
+            Reply::Reader(reader) => write_reader(f, reader),
+            Reply::Events(events) => write!(f, "{events:?}"),
             Reply::Refused(refusal) => write_refusal(f, *refusal),
             Reply::InsertRefused(refusal, _) => write_refusal(f, *refusal),
         }
@@ -30,16 +32,9 @@ fn write_entity<W: fmt::Write>(f: &mut fmt::Formatter<W>, e: Entity) -> fmt::Res
     write!(f, "{index}:{generation}")
 }
 
-fn write_value<W: fmt::Write>(f: &mut fmt::Formatter<W>, value: &Value) -> fmt::Result {
-    match value {
-        Value::Pos(Position(number))
-        | Value::Vel(Velocity(number))
-        | Value::Def(Defense(number))
-        | Value::Map(Mapped(number))
-        | Value::Tree(Treed(number)) => write!(f, "{number}"),
-        Value::Tag(Tag) => write!(f, "tag"),
-        Value::Link(Link(e)) => write_entity(f, *e),
-    }
+fn write_reader<W: fmt::Write>(f: &mut fmt::Formatter<W>, reader: &ReaderId) -> fmt::Result {
+    let number = reader.number();
+    write!(f, "reader {number}")
 }
 
 fn write_maintained<W: fmt::Write>(
@@ -73,5 +68,7 @@ fn write_refusal<W: fmt::Write>(f: &mut fmt::Formatter<W>, refusal: Refusal) -> 
         Refusal::Unregistered => write!(f, "error: unregistered"),
         Refusal::IndexLimit => write!(f, "error: index limit"),
         Refusal::OutOfMemory => write!(f, "error: out of memory"),
+        Refusal::Untracked => write!(f, "error: untracked"),
+        Refusal::UnknownReader => write!(f, "error: unknown reader"),
     }
 }

@@ -1,6 +1,7 @@
 //! A script of commands, run over any reader and two writers.
 use crate::parse::command;
 use crate::printed::Printed;
+use composed::Empty;
 use slots::Slots;
 use specs::World;
 use std::alloc::Global;
@@ -50,7 +51,7 @@ fn answer_by_new_world<R: Read, O: Write + Drop>(
     reader: &mut BufReader<R>,
     writer: &mut BufWriter<O>,
 ) -> io::Result<Option<u64>> {
-    let mut world = World::new(alloc, Slots::new());
+    let mut world = World::new(alloc, Slots::empty());
     answer_lines(alloc, &mut world, reader, writer)
 }
 

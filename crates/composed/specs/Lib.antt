@@ -1,0 +1,5 @@
+pub mod Both
+pub mod Field
+pub mod Finds
+pub mod Lending
+pub mod Places

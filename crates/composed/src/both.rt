@@ -1,0 +1,171 @@
+//! Two structs of storages as one.
+ghost use Rattle.std.specs.Prelude.{◌≡◌};
+ghost use Rattle.std.specs.Option.{option_map};
+ghost use Rattle.composed.specs.declared.either.Either.TheVariants.{First, Rest};
+
+use crate::either::Either;
+use hibits::BitSet;
+use specs::{ComponentEvent, EntitiesRes, Entity, ReaderId, Refusal, Storages};
+use std::alloc::{AllocError, Global};
+
+/// The storages of both. A call goes to the part that its slot or its value names, and costs what it costs there.
+#[derive(Drop)]
+pub struct Both<A, B> {
+    /// The first storages.
+    pub first: A,
+    /// The rest of them.
+    pub rest: B,
+}
+
+impl<A: Storages, B: Storages> Storages for Both<A, B> {
+    ghost use Rattle.composed.specs.Both.{table_of_both, place_of_both, of_either};
+
+    type Slot = Either<A::Slot, B::Slot>;
+
+    type Value = Either<A::Value, B::Value>;
+
+    ghost table = { λ s. table_of_both (A.table s.first) (B.table s.rest) };
+
+    ghost room = { λ s. of_either (A.room s.first) (B.room s.rest) };
+
+    ghost place = { place_of_both A.place B.place };
+
+    ghost allocates = { of_either A.allocates B.allocates };
+
+    fn slot_of(value: &Self::Value) -> Self::Slot {
+        match value {
+            Either::First(value) => Either::First(A::slot_of(value)),
+            Either::Rest(value) => Either::Rest(B::slot_of(value)),
+        }
+    }
+
+    fn register(&mut self, alloc: Global, slot: Self::Slot) -> Result<(), AllocError> {
+        match slot {
+            Either::First(slot) => self.first.register(alloc, slot),
+            Either::Rest(slot) => self.rest.register(alloc, slot),
+        }
+    }
+
+    fn is_registered(&self, slot: Self::Slot) -> bool {
+        match slot {
+            Either::First(slot) => self.first.is_registered(slot),
+            Either::Rest(slot) => self.rest.is_registered(slot),
+        }
+    }
+
+    fn mask(&self, slot: Self::Slot) -> Option<&BitSet> {
+        match slot {
+            Either::First(slot) => self.first.mask(slot),
+            Either::Rest(slot) => self.rest.mask(slot),
+        }
+    }
+
+    fn insert(
+        &mut self,
+        entities: &EntitiesRes,
+        e: Entity,
+        value: Self::Value,
+    ) -> Result<Option<Self::Value>, (Refusal, Self::Value)> {
+        match value {
+            Either::First(value) => match self.first.insert(entities, e, value) {
+                Ok(before) => Ok(first(before)),
+                Err((refusal, value)) => Err((refusal, Either::First(value))),
+            },
+            Either::Rest(value) => match self.rest.insert(entities, e, value) {
+                Ok(before) => Ok(rest(before)),
+                Err((refusal, value)) => Err((refusal, Either::Rest(value))),
+            },
+        }
+    }
+
+    fn get(
+        &self,
+        entities: &EntitiesRes,
+        slot: Self::Slot,
+        e: Entity,
+    ) -> Result<Option<Self::Value>, Refusal> {
+        match slot {
+            Either::First(slot) => Ok(first(self.first.get(entities, slot, e)?)),
+            Either::Rest(slot) => Ok(rest(self.rest.get(entities, slot, e)?)),
+        }
+    }
+
+    fn remove(
+        &mut self,
+        entities: &EntitiesRes,
+        slot: Self::Slot,
+        e: Entity,
+    ) -> Result<Option<Self::Value>, Refusal> {
+        match slot {
+            Either::First(slot) => Ok(first(self.first.remove(entities, slot, e)?)),
+            Either::Rest(slot) => Ok(rest(self.rest.remove(entities, slot, e)?)),
+        }
+    }
+
+    fn clear(&mut self, slot: Self::Slot) -> Result<(), Refusal> {
+        match slot {
+            Either::First(slot) => self.first.clear(slot),
+            Either::Rest(slot) => self.rest.clear(slot),
+        }
+    }
+
+    fn register_reader(&mut self, slot: Self::Slot) -> Result<ReaderId, Refusal> {
+        match slot {
+            Either::First(slot) => self.first.register_reader(slot),
+            Either::Rest(slot) => self.rest.register_reader(slot),
+        }
+    }
+
+    fn events(
+        &mut self,
+        slot: Self::Slot,
+        reader: &ReaderId,
+    ) -> Result<Vec<ComponentEvent>, Refusal> {
+        match slot {
+            Either::First(slot) => self.first.events(slot, reader),
+            Either::Rest(slot) => self.rest.events(slot, reader),
+        }
+    }
+
+    fn drop_reader(&mut self, slot: Self::Slot, reader: ReaderId) -> Result<(), Refusal> {
+        match slot {
+            Either::First(slot) => self.first.drop_reader(slot, reader),
+            Either::Rest(slot) => self.rest.drop_reader(slot, reader),
+        }
+    }
+
+    fn emit(&mut self, slot: Self::Slot, on: bool) -> Result<(), Refusal> {
+        match slot {
+            Either::First(slot) => self.first.emit(slot, on),
+            Either::Rest(slot) => self.rest.emit(slot, on),
+        }
+    }
+
+    fn reserve_drop(&mut self, count: usize) -> Result<(), AllocError> {
+        self.first.reserve_drop(count)?;
+        self.rest.reserve_drop(count)
+    }
+
+    fn drop_all(&mut self, es: &[Entity]) {
+        self.first.drop_all(es);
+        self.rest.drop_all(es);
+    }
+}
+
+fn first<A, B>(value: Option<A>) -> Option<Either<A, B>>
+    ensures { result ≡ option_map First value }
+{
+    match value {
+        Some(value) => Some(Either::First(value)),
+        None => None,
+    }
+}
+
+fn rest<A, B>(value: Option<B>) -> Option<Either<A, B>>
+    ensures { result ≡ option_map Rest value }
+{
+    match value {
+        Some(value) => Some(Either::Rest(value)),
+        None => None,
+    }
+}

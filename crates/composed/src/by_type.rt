@@ -1,0 +1,48 @@
+//! Calls by a component type: neither its slot, nor its place in the struct, nor the type of all values is written.
+ghost use Rattle.std.specs.Prelude.{◌≡◌, Some, None, IfOk, OnErr, IfErr};
+ghost use Rattle.std.specs.Option.{option_map};
+ghost use Rattle.entities.specs.Census.{population};
+ghost use Rattle.specs.specs.Table.{Inserts, InsertIsRefused, Gets};
+ghost use Rattle.composed.specs.Field.{FieldInserts, FieldGets, FieldInsertIsRefused, FieldGetIsRefused, field_column};
+
+use crate::duplicate::Duplicate;
+use crate::field;
+use crate::has::Has;
+use entities::{EntitiesRes, Entity};
+use specs::Refusal;
+use storages::Component;
+
+/// Puts a component at an entity that is alive, and answers the one before. A refused component is handed back, and nothing changed.
+pub fn insert<T: Component, S: Has<T, I>, I>(
+    storages: &mut S,
+    entities: &EntitiesRes,
+    e: Entity,
+    component: T,
+) -> Result<Option<T>, (Refusal, T)>
+    ensures ok { IfOk result (λ before. Inserts S.place (population entities.now) (S.table storages.old) e (S.as_value component) (option_map S.as_value before) (S.table storages.new)) }
+    ensures field { IfOk result (λ before. FieldInserts (population entities.now) (field_column (S.part storages.old)) e component before (field_column (S.part storages.new))) }
+    ensures refused { IfErr result (λ r. FieldInsertIsRefused (population entities.now) (field_column (S.part storages.old)) e r.0) }
+    ensures back { IfErr result (λ r. r.1 ≡ component) }
+    ensures err { OnErr result (S.table storages.new ≡ S.table storages.old) }
+{
+    match storages.field_mut() {
+        Some(storage) => field::insert_in(storage, entities, e, component),
+        None => Err((Refusal::Unregistered, component)),
+    }
+}
+
+/// A copy of the component of an entity, or none where the entity is not alive or has none.
+pub fn get<T: Component + Duplicate, S: Has<T, I>, I>(
+    storages: &S,
+    entities: &EntitiesRes,
+    e: Entity,
+) -> Result<Option<T>, Refusal>
+    ensures ok { IfOk result (λ found. Gets (population entities.now) (S.table storages.now) S.the_slot e (option_map S.as_value found)) }
+    ensures field { IfOk result (λ found. FieldGets (population entities.now) (field_column (S.part storages.now)) e found) }
+    ensures refused { IfErr result (FieldGetIsRefused T.allocates (population entities.now) (field_column (S.part storages.now)) e) }
+{
+    match storages.field() {
+        Some(storage) => field::get_in(storage, entities, e),
+        None => Err(Refusal::Unregistered),
+    }
+}

@@ -1,0 +1,52 @@
+//! Storages without any component type registered.
+ghost use Rattle.std.specs.Prelude.{◌≡◌, None};
+ghost use Rattle.specs.specs.Reached.{HasNoValue};
+
+use crate::both::Both;
+use crate::duplicate::Duplicate;
+use crate::only::Only;
+use specs::Storages;
+use storages::{Component, MaybeTracked};
+
+/// A struct of storages that can be made empty.
+pub trait Empty: Storages + Sized {
+    /// No component type is registered.
+    fn empty() -> Self
+        ensures none { (slot : Self.Slot) → Self.table result slot ≡ None }
+        ensures empty { HasNoValue (Self.table result) };
+}
+
+impl<T: Component + Duplicate> Empty for Only<T>
+where
+    T::Storage: MaybeTracked<T>,
+{
+    #[tactic(auto, using(crate::proofs::Shown::has_no_value))]
+    fn empty() -> Self {
+        Only::new()
+    }
+}
+
+impl<A: Empty, B: Empty> Empty for Both<A, B> {
+    #[tactic(auto, using(crate::proofs::Shown::has_no_value))]
+    fn empty() -> Self {
+        Both {
+            first: A::empty(),
+            rest: B::empty(),
+        }
+    }
+}
+
+/// Storages of two component types.
+pub type Of2<A, B> = Both<Only<A>, Only<B>>;
+/// Storages of three component types.
+pub type Of3<A, B, C> = Both<Only<A>, Of2<B, C>>;
+/// Storages of four component types.
+pub type Of4<A, B, C, D> = Both<Of2<A, B>, Of2<C, D>>;
+/// Storages of five component types.
+pub type Of5<A, B, C, D, E> = Both<Of2<A, B>, Of3<C, D, E>>;
+/// Storages of six component types.
+pub type Of6<A, B, C, D, E, F> = Both<Of3<A, B, C>, Of3<D, E, F>>;
+/// Storages of seven component types.
+pub type Of7<A, B, C, D, E, F, G> = Both<Of3<A, B, C>, Of4<D, E, F, G>>;
+/// Storages of eight component types. For more, `Both` takes any two of these.
+pub type Of8<A, B, C, D, E, F, G, H> = Both<Of4<A, B, C, D>, Of4<E, F, G, H>>;

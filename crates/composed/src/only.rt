@@ -1,0 +1,121 @@
+//! A struct of storages for one component type.
+use crate::duplicate::Duplicate;
+use crate::field;
+use hibits::BitSet;
+use specs::{ComponentEvent, EntitiesRes, Entity, ReaderId, Refusal, Storages};
+use std::alloc::{AllocError, Global};
+use storages::{Component, MaskedStorage, MaybeTracked};
+
+/// One component type: its storage, or none where it is not registered.
+#[derive(Drop)]
+pub struct Only<T: Component> {
+    /// The storage, or none where the component type is not registered.
+    pub field: Option<MaskedStorage<T>>,
+}
+
+/// The one slot of a struct of storages for one component type.
+#[derive(Clone, Copy, Debug, PartialEq, Eq)]
+pub enum Sole {
+    /// That slot.
+    Sole,
+}
+
+impl<T: Component> Only<T> {
+    ghost use Rattle.std.specs.Prelude.{◌≡◌, None};
+
+    /// The component type is not registered.
+    pub fn new() -> Self
+        ensures { result.field ≡ None }
+    {
+        Only { field: None }
+    }
+}
+
+impl<T: Component + Duplicate> Storages for Only<T>
+where
+    T::Storage: MaybeTracked<T>,
+{
+    ghost use Rattle.composed.specs.Field.{field_column, field_room};
+    ghost use Rattle.composed.specs.declared.only.Sole.TheVariants.{Sole};
+
+    type Slot = Sole;
+
+    type Value = T;
+
+    ghost table = { λ s _. field_column s.field };
+
+    ghost room = { λ s _. field_room s.field };
+
+    ghost place = { λ _. Sole };
+
+    ghost allocates = { λ _. T.allocates };
+
+    fn slot_of(_value: &T) -> Sole {
+        Sole::Sole
+    }
+
+    fn register(&mut self, alloc: Global, _slot: Sole) -> Result<(), AllocError> {
+        if self.field.is_none() {
+            self.field = Some(field::empty(alloc)?);
+        }
+        Ok(())
+    }
+
+    fn is_registered(&self, _slot: Sole) -> bool {
+        self.field.is_some()
+    }
+
+    fn mask(&self, _slot: Sole) -> Option<&BitSet> {
+        field::mask(&self.field)
+    }
+
+    fn insert(
+        &mut self,
+        entities: &EntitiesRes,
+        e: Entity,
+        value: T,
+    ) -> Result<Option<T>, (Refusal, T)> {
+        field::insert(&mut self.field, entities, e, value)
+    }
+
+    fn get(&self, entities: &EntitiesRes, _slot: Sole, e: Entity) -> Result<Option<T>, Refusal> {
+        field::get(&self.field, entities, e)
+    }
+
+    fn remove(
+        &mut self,
+        entities: &EntitiesRes,
+        _slot: Sole,
+        e: Entity,
+    ) -> Result<Option<T>, Refusal> {
+        field::remove(&mut self.field, entities, e)
+    }
+
+    fn clear(&mut self, _slot: Sole) -> Result<(), Refusal> {
+        field::clear(&mut self.field)
+    }
+
+    fn register_reader(&mut self, _slot: Sole) -> Result<ReaderId, Refusal> {
+        field::register_reader(&mut self.field)
+    }
+
+    fn events(&mut self, _slot: Sole, reader: &ReaderId) -> Result<Vec<ComponentEvent>, Refusal> {
+        field::events(&mut self.field, reader)
+    }
+
+    fn drop_reader(&mut self, _slot: Sole, reader: ReaderId) -> Result<(), Refusal> {
+        field::drop_reader(&mut self.field, reader)
+    }
+
+    fn emit(&mut self, _slot: Sole, on: bool) -> Result<(), Refusal> {
+        field::emit(&mut self.field, on)
+    }
+
+    fn reserve_drop(&mut self, count: usize) -> Result<(), AllocError> {
+        field::reserve_drop(&mut self.field, count)
+    }
+
+    fn drop_all(&mut self, es: &[Entity]) {
+        field::drop_all(&mut self.field, es);
+    }
+}
