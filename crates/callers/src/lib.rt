@@ -1,20 +1,34 @@
 //! Callers of the libraries, as a user would write them: each is proved from the public contracts alone, and but for two passes of a phase
-//! with no proof file. What one of them could not prove would be a hole in a contract.
+//! and a list from threads with no proof file. What one of them could not prove would be a hole in a contract.
 #![tactic(auto)]
 
+mod channels;
 mod components;
+mod cursors;
 mod entries;
+mod joined;
+mod own_world;
 mod phases;
 mod sets;
 mod worlds;
 
+pub use channels::{heard, read_twice, told};
 pub use components::{
     Health, dead_and_gone, healths, hit, inserted_and_found, removed_beside, taken_and_gone,
     viewed_twice,
 };
+pub use cursors::{
+    Shield, all_have, all_taken, first_has, first_in_view_has, first_living_has, first_low_healed,
+    first_taken, next_pair_has,
+};
 pub use entries::{ninety_at, taken, three_and_found};
+pub use joined::{all_healed, all_points, counted, points_at, words_for_one};
+pub use own_world::{
+    Frozen, Game, Leader, Load, Parts, Place, Speed, load_slot, loaded, moved_and_found, new_game,
+    put_and_found,
+};
 pub use phases::{marked_at_closing, sees_its_own, two_births};
 pub use sets::{
     added_and_found, first_is_member, none_to_walk, one, others_stay, removed_and_gone,
 };
-pub use worlds::{component, deleted_is_gone, is_back, lived};
+pub use worlds::{deleted_is_gone, is_back, lived, position, removed_unheard};

@@ -1,19 +1,20 @@
 //! Worlds.
 ghost use Rattle.std.specs.Prelude.{◌≡◌, Some, None, true, IfOk};
-ghost use Rattle.slots.specs.Tables.{table_of};
+ghost use Rattle.specs.specs.Column.{WantsNone};
 ghost use Rattle.specs.specs.Gone.{IsGone};
 ghost use Rattle.specs.specs.Reached.{OnlyLiving};
 ghost use Rattle.specs.specs.State.{state_of};
 
-use slots::{Slot, Slots, Value};
-use specs::{Command, DeleteError, Entity, Refusal, Reply, Storages, World};
+use composed::{Empty, component};
+use slots::{POS, Position, Slot, Slots, Value};
+use specs::{Command, DeleteError, EntitiesRes, Entity, Refusal, Reply, Storages, World};
 use std::alloc::{AllocError, Global};
 
 /// Whatever a new world is asked to do, each component belongs to a living entity.
 pub fn lived(alloc: Global, commands: Vec<Command<Slot, Value>>) -> Result<World<Slots>, AllocError>
-    ensures { IfOk result (λ world. OnlyLiving (state_of table_of world)) }
+    ensures { IfOk result (λ world. OnlyLiving (state_of ⟦<Slots as Storages>⟧.table world)) }
 {
-    let mut world = World::new(alloc, Slots::new());
+    let mut world = World::new(alloc, Slots::empty());
     let _replies = world.run(commands)?;
     Ok(world)
 }
@@ -43,11 +44,27 @@ pub fn is_back<S: Storages>(world: &World<S>, e: Entity) -> bool
     world.is_alive(e)
 }
 
-/// A component of a slot of the program. It is read without memory.
-pub fn component(world: &mut World<Slots>, slot: Slot, e: Entity) -> Option<Value> {
-    match world.apply(Command::Get(slot, e)) {
-        Reply::Value(found) => found,
-        Reply::Refused(Refusal::Unregistered) => None,
+/// The position of an entity, if it is alive and has one. It is read without memory.
+pub fn position(world: &mut World<Slots>, e: Entity) -> Option<Position> {
+    match world.apply(Command::Get(POS, e)) {
+        Reply::Value(Some(found)) => component::<Position, Slots, _>(found).ok(),
+        Reply::Value(None) | Reply::Refused(Refusal::Unregistered) => None,
         _ => unreachable!(),
+    }
+}
+
+/// A removal of which nobody hears wants no memory.
+pub fn removed_unheard<S: Storages>(
+    storages: &mut S,
+    entities: &EntitiesRes,
+    slot: S::Slot,
+    e: Entity,
+) -> Option<S::Value>
+    requires { WantsNone (S.table storages.old slot) }
+{
+    match storages.remove(entities, slot, e) {
+        Ok(found) => found,
+        Err(Refusal::Unregistered) => None,
+        Err(_) => unreachable!(),
     }
 }

@@ -1,26 +1,29 @@
 //! What an ordinary caller learns of a world, without a proof file.
 ghost use Rattle.std.specs.Prelude.{◌≡◌, true};
 ghost use Rattle.entities.specs.Population.{IsMerged};
-ghost use Rattle.slots.specs.Tables.{table_of};
 ghost use Rattle.specs.specs.State.{state_of};
 
-use slots::Slots;
-use specs::{Entity, World};
+use crate::small::Small;
+use specs::{Entity, Storages, World};
 use std::alloc::Global;
 
 /// Whether an entity is gone, or not yet merged.
-pub fn is_gone(world: &World<Slots>, e: Entity) -> bool
-    ensures { result ≡ true → IsMerged (state_of table_of world.now).people e → ⊥ }
+pub fn is_gone(world: &World<Small>, e: Entity) -> bool
+    ensures { result ≡ true → IsMerged (state_of ⟦<Small as Storages>⟧.table world.now).people e → ⊥ }
 {
     !world.is_alive(e)
 }
 
-/// A phase of one entity and one pass over the entities of a world. It answers the entity that the pass was given, whose birth is pending.
-pub fn born_in_a_phase(alloc: Global, world: &mut World<Slots>) -> Option<Entity> {
+/// A phase of one entity and one pass over the entities of a world, which marks an entity. It answers the entity that the pass was given,
+/// whose birth is pending, if it was given one and the mark was made.
+pub fn born_in_a_phase(alloc: Global, world: &mut World<Small>, doomed: Entity) -> Option<Entity> {
     let mut given = None;
     if let Ok((shared, mut passes)) = world.parts().open(alloc, 1, 1) {
         if let Some(mut pass) = passes.pop() {
-            given = shared.create(&mut pass).ok();
+            let born = shared.create(&mut pass).ok();
+            if shared.delete(&mut pass, doomed).is_ok() {
+                given = born;
+            }
         }
         let _ = shared.close(passes);
     }

@@ -40,7 +40,7 @@ fn lines_of_another_form_are_not_read(rt: HostRuntime) {
         "insert pos 0:1",
         "insert tag 0:1 5",
         "insert link 0:1 5",
-        "register hp",
+        "register id",
         "select",
         "select and pos",
         "select or pos vel",

@@ -3,11 +3,14 @@
 
 mod callers;
 #[cfg(test)]
+mod composed_slots;
+#[cfg(test)]
 mod hostile_scripts;
 #[cfg(test)]
 mod runs;
 #[cfg(test)]
 mod scripts;
+mod small;
 #[cfg(test)]
 mod upstream_births;
 #[cfg(test)]
@@ -18,3 +21,4 @@ mod upstream_storages;
 mod worlds;
 
 pub use callers::{born_in_a_phase, is_gone};
+pub use small::{POS, Slot, Small, TAG, Value};

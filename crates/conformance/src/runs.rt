@@ -3,6 +3,25 @@ use specs_run::run_script;
 use std::alloc::{AllocError, Global};
 use std::process::Abort;
 
+/// What a script came to: its status, and what it wrote to both outputs.
+#[derive(Drop)]
+struct Outcome {
+    status: u8,
+    written: Vec<u8>,
+    told: Vec<u8>,
+}
+
+fn run(alloc: Global, script: &[u8]) -> Outcome {
+    let mut written = Vec::new(alloc);
+    let mut told = Vec::new(alloc);
+    let status = run_script(alloc, script, &mut written, &mut told);
+    Outcome {
+        status,
+        written,
+        told,
+    }
+}
+
 /// Runs a script of lines, and asserts its status and both outputs. Each line and each reply ends with a line feed.
 pub fn assert_runs<R: Abort>(
     rt: &R,
@@ -12,12 +31,14 @@ pub fn assert_runs<R: Abort>(
     output: &str,
     faults: &str,
 ) {
-    let mut written = Vec::new(alloc);
-    let mut told = Vec::new(alloc);
-    let answer = run_script(alloc, script.as_bytes(), &mut written, &mut told);
-    assert_eq!(rt; written.as_slice(), output.as_bytes(), "of {script}");
-    assert_eq!(rt; told.as_slice(), faults.as_bytes(), "of {script}");
-    assert_eq!(rt; answer, status, "of {script}");
+    let outcome = run(alloc, script.as_bytes());
+    assert_eq!(rt;
+        outcome.written.as_slice(),
+        output.as_bytes(),
+        "of {script}"
+    );
+    assert_eq!(rt; outcome.told.as_slice(), faults.as_bytes(), "of {script}");
+    assert_eq!(rt; outcome.status, status, "of {script}");
 }
 
 /// A script, with what it prints.
@@ -44,10 +65,12 @@ impl Tale {
         self.printed.push('\n')
     }
 
-    /// Several commands with the same reply.
-    pub fn lines(&mut self, commands: &[&str], reply: &str) -> Result<(), AllocError> {
-        for command in commands {
-            self.line(command, reply)?;
+    /// Commands, each with its reply: `create -> 0:1` in a line. A line without an arrow is left out.
+    pub fn tell(&mut self, lines: &str) -> Result<(), AllocError> {
+        for line in lines.split('\n') {
+            if let Some((command, reply)) = line.split_once(" -> ") {
+                self.line(command.trim(), reply)?;
+            }
         }
         Ok(())
     }
@@ -63,4 +86,12 @@ impl Tale {
             "",
         );
     }
+}
+
+/// Asserts that commands have these replies: `create -> 0:1` in a line.
+pub fn assert_tale<R: Abort>(rt: &R, alloc: Global, lines: &str) -> Result<(), AllocError> {
+    let mut tale = Tale::new(alloc);
+    tale.tell(lines)?;
+    tale.assert_holds(rt, alloc);
+    Ok(())
 }

@@ -1,5 +1,6 @@
 //! Scripts that run to their end.
-use crate::runs::assert_runs;
+use crate::runs::{assert_runs, assert_tale};
+use std::test::Fail;
 
 #[test]
 fn an_index_is_used_again_with_the_next_generation(rt: HostRuntime) {
@@ -21,6 +22,30 @@ fn a_selection_of_two_slots_is_what_they_share(rt: HostRuntime) {
         "register pos\nregister link\ncreate\ncreate\ncreate\ninsert pos 0:1 5\ninsert pos 2:1 6\ninsert link 2:1 0:1\nselect and pos link\n",
         0,
         "ok\nok\n0:1\n1:1\n2:1\nnone\nnone\nnone\n[2]\n",
+        "",
+    );
+}
+
+#[test]
+fn a_deletion_is_told_to_the_reader_of_a_slot(rt: HostRuntime) {
+    assert_runs(
+        &rt,
+        rt.alloc(),
+        "register hp\ncreate\nreader hp\ninsert hp 0:1 3\ndelete 0:1\nevents hp 0\nevents hp 1\nevents pos 0\n",
+        0,
+        "ok\n0:1\nreader 0\nnone\nok\n[Inserted(0), Removed(0)]\nerror: unknown reader\nerror: unregistered\n",
+        "",
+    );
+}
+
+#[test]
+fn events_are_told_in_order_while_they_are_on(rt: HostRuntime) {
+    assert_runs(
+        &rt,
+        rt.alloc(),
+        "register hp\nregister pos\nreader pos\nemit pos on\nreader hp\ncreate\ncreate\ninsert hp 0:1 3\ninsert hp 0:1 4\nremove hp 0:1\nremove hp 0:1\nevents hp 0\nevents hp 0\nemit hp off\ninsert hp 0:1 5\ninsert hp 1:1 6\nemit hp on\nmark 1:1\nmaintain 0\nclear hp\nevents hp 0\n",
+        0,
+        "ok\nok\nerror: untracked\nerror: untracked\nreader 0\n0:1\n1:1\nnone\n3\n4\nnone\n[Inserted(0), Modified(0), Removed(0)]\n[]\nok\nnone\nnone\nok\nok\ndeleted [1:1] ran 0 refused 0 left 0\nok\n[Removed(1), Removed(0)]\n",
         "",
     );
 }
@@ -86,7 +111,7 @@ fn the_dead_of_a_maintain_are_ascending_and_lose_their_components(rt: HostRuntim
 
 #[test]
 fn each_kind_of_storage_answers_alike(rt: HostRuntime) {
-    for slot in ["pos", "vel", "def", "map", "tree"] {
+    for slot in ["pos", "vel", "def", "map", "tree", "hp"] {
         let alloc = rt.alloc();
         let script = format!(in alloc;
             "register {slot}\ncreate\ninsert {slot} 0:1 4\ninsert {slot} 0:1 6\ncount {slot}\nremove {slot} 0:1\nremove {slot} 0:1\nget {slot} 0:1\n"
@@ -103,6 +128,39 @@ fn each_kind_of_storage_answers_alike(rt: HostRuntime) {
             );
         }
     }
+}
+
+#[test]
+fn each_component_is_read(rt: HostRuntime) -> Result<(), Fail> {
+    assert_tale(
+        &rt,
+        rt.alloc(),
+        "
+        create -> 0:1
+        register pos -> ok
+        register vel -> ok
+        register def -> ok
+        register map -> ok
+        register tree -> ok
+        register tag -> ok
+        register link -> ok
+        insert pos 0:1 1 -> none
+        insert vel 0:1 2 -> none
+        insert def 0:1 3 -> none
+        insert map 0:1 4 -> none
+        insert tree 0:1 5 -> none
+        insert tag 0:1 tag -> none
+        insert link 0:1 0:1 -> none
+        get pos 0:1 -> 1
+        get vel 0:1 -> 2
+        get def 0:1 -> 3
+        get map 0:1 -> 4
+        get tree 0:1 -> 5
+        get tag 0:1 -> tag
+        get link 0:1 -> 0:1
+        ",
+    )?;
+    Ok(())
 }
 
 #[test]

@@ -1,5 +1,7 @@
 //! Tests of specs on mixed births and deaths, by their names there.
-use slots::{Position, Slot, Slots, Value};
+use crate::small::{POS, Slot, Small, Value};
+use composed::{Empty, component, value};
+use slots::Position;
 use specs::{Command, Entity, Reply, SetExpr, World};
 use std::alloc::Global;
 use std::collections::HashSet;
@@ -8,7 +10,7 @@ use std::test::Fail;
 /// A world, with the entities that were ever born in it, and those that nobody deleted yet.
 #[derive(Drop)]
 struct Nursery {
-    world: World<Slots>,
+    world: World<Small>,
     given: HashSet<Entity>,
     living: Vec<Entity>,
 }
@@ -16,7 +18,7 @@ struct Nursery {
 impl Nursery {
     fn new(alloc: Global) -> Self {
         Nursery {
-            world: World::new(alloc, Slots::new()),
+            world: World::new(alloc, Small::empty()),
             given: HashSet::new(alloc),
             living: Vec::new(alloc),
         }
@@ -109,24 +111,28 @@ impl Random {
         self.0 % 32_767
     }
 
+    /// The number less 127, as a whole number of 8 bits.
     fn number(&mut self) -> i64 {
-        i64::from(self.next() % 256) - 128
+        i64::from(self.next().wrapping_add(1) % 256) - 128
     }
 }
 
 /// The position of an entity.
-fn position(world: &mut World<Slots>, e: Entity) -> Option<i64> {
-    match world.apply(Command::Get(Slot::Pos, e)) {
-        Reply::Value(Some(Value::Pos(Position(number)))) => Some(number),
+fn position(world: &mut World<Small>, e: Entity) -> Option<i64> {
+    match world.apply(Command::Get(POS, e)) {
+        Reply::Value(Some(found)) => match component::<Position, Small, _>(found) {
+            Ok(Position(number)) => Some(number),
+            Err(_) => None,
+        },
         _ => None,
     }
 }
 
-/// A pending birth with a position. It answers whether nothing was refused.
-fn bear_at(world: &mut World<Slots>, number: i64) -> bool {
-    match world.apply(Command::CreatePending) {
+/// A birth with a position. It answers whether nothing was refused.
+fn bear_at(world: &mut World<Small>, birth: Command<Slot, Value>, number: i64) -> bool {
+    match world.apply(birth) {
         Reply::Entity(e) => {
-            let insert = Command::Insert(e, Value::Pos(Position(number)));
+            let insert = Command::Insert(e, value::<_, Small, _>(Position(number)));
             matches!(world.apply(insert), Reply::Value(None))
         }
         _ => false,
@@ -134,8 +140,8 @@ fn bear_at(world: &mut World<Slots>, number: i64) -> bool {
 }
 
 /// The entities whose position is no greater than any before it, by index.
-fn lowest(alloc: Global, world: &mut World<Slots>) -> Result<Vec<Entity>, Fail> {
-    let Ok(indices) = world.select(&SetExpr::Slot(Slot::Pos)) else {
+fn lowest(alloc: Global, world: &mut World<Small>) -> Result<Vec<Entity>, Fail> {
+    let Ok(indices) = world.select(&SetExpr::Slot(POS)) else {
         return Err("no selection".into());
     };
     let mut least = i64::MAX;
@@ -152,7 +158,7 @@ fn lowest(alloc: Global, world: &mut World<Slots>) -> Result<Vec<Entity>, Fail> 
 }
 
 /// Marks the last entities of a list.
-fn mark_last(world: &mut World<Slots>, mut list: Vec<Entity>, count: u32) -> bool {
+fn mark_last(world: &mut World<Small>, mut list: Vec<Entity>, count: u32) -> bool {
     for _ in 0..count {
         if let Some(e) = list.pop() {
             if world.parts().delete(e).is_err() {
@@ -163,9 +169,20 @@ fn mark_last(world: &mut World<Slots>, mut list: Vec<Entity>, count: u32) -> boo
     true
 }
 
-fn bear_some(world: &mut World<Slots>, random: &mut Random, count: u32) -> bool {
+/// Births of entities that wait for a merge.
+fn bear_some(world: &mut World<Small>, random: &mut Random, count: u32) -> bool {
     for _ in 0..count {
-        if !bear_at(world, random.number()) {
+        if !bear_at(world, Command::CreatePending, random.number()) {
+            return false;
+        }
+    }
+    true
+}
+
+/// The first hundred, born at once.
+fn bear_first(world: &mut World<Small>, random: &mut Random) -> bool {
+    for _ in 0..100 {
+        if !bear_at(world, Command::Create, random.number()) {
             return false;
         }
     }
@@ -175,9 +192,9 @@ fn bear_some(world: &mut World<Slots>, random: &mut Random, count: u32) -> bool 
 #[test]
 fn stillborn_entities(rt: HostRuntime) -> Result<(), Fail> {
     let mut random = Random(0xdead_beef);
-    let mut world = World::new(rt.alloc(), Slots::new());
-    assert!(rt; matches!(world.apply(Command::Register(Slot::Pos)), Reply::Done));
-    assert!(rt; bear_some(&mut world, &mut random, 100));
+    let mut world = World::new(rt.alloc(), Small::empty());
+    assert!(rt; matches!(world.apply(Command::Register(POS)), Reply::Done));
+    assert!(rt; bear_first(&mut world, &mut random));
     for _ in 0..100 {
         let count = random.next() % 25;
         let list = lowest(rt.alloc(), &mut world)?;

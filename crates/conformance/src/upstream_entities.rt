@@ -1,58 +1,71 @@
 //! Tests of specs on births and deaths, by their names there.
-use crate::runs::Tale;
+use crate::runs::{Tale, assert_tale};
 use std::alloc::{AllocError, Global};
 use std::test::Fail;
 
 #[test]
 fn kill_atomic_create_merge(rt: HostRuntime) -> Result<(), Fail> {
-    let mut tale = Tale::new(rt.alloc());
-    tale.line("create", "0:1")?;
-    tale.line("mark 0:1", "ok")?;
-    tale.line("create", "1:1")?;
-    tale.line("maintain 0", "deleted [0:1] ran 0 refused 0 left 0")?;
-    tale.assert_holds(&rt, rt.alloc());
+    assert_tale(
+        &rt,
+        rt.alloc(),
+        "
+        create -> 0:1
+        mark 0:1 -> ok
+        create -> 1:1
+        maintain 0 -> deleted [0:1] ran 0 refused 0 left 0
+        ",
+    )?;
     Ok(())
 }
 
 #[test]
 fn kill_atomic_kill_now_create_merge(rt: HostRuntime) -> Result<(), Fail> {
-    let mut tale = Tale::new(rt.alloc());
-    tale.line("create", "0:1")?;
-    tale.line("mark 0:1", "ok")?;
-    tale.line("create", "1:1")?;
-    tale.line("delete 0:1", "ok")?;
-    tale.line("create", "0:2")?;
-    tale.line("maintain 0", "deleted [] ran 0 refused 0 left 0")?;
-    tale.assert_holds(&rt, rt.alloc());
+    assert_tale(
+        &rt,
+        rt.alloc(),
+        "
+        create -> 0:1
+        mark 0:1 -> ok
+        create -> 1:1
+        delete 0:1 -> ok
+        create -> 0:2
+        maintain 0 -> deleted [] ran 0 refused 0 left 0
+        ",
+    )?;
     Ok(())
 }
 
 #[test]
 fn is_alive(rt: HostRuntime) -> Result<(), Fail> {
-    let mut tale = Tale::new(rt.alloc());
-    tale.line("create", "0:1")?;
-    tale.line("alive 0:1", "true")?;
-    tale.line("delete 0:1", "ok")?;
-    tale.line("alive 0:1", "false")?;
-    tale.line("create", "0:2")?;
-    tale.line("mark 0:2", "ok")?;
-    tale.line("alive 0:2", "true")?;
-    tale.line("maintain 0", "deleted [0:2] ran 0 refused 0 left 0")?;
-    tale.line("alive 0:2", "false")?;
-    tale.assert_holds(&rt, rt.alloc());
+    assert_tale(
+        &rt,
+        rt.alloc(),
+        "
+        create -> 0:1
+        alive 0:1 -> true
+        delete 0:1 -> ok
+        alive 0:1 -> false
+        create -> 0:2
+        mark 0:2 -> ok
+        alive 0:2 -> true
+        maintain 0 -> deleted [0:2] ran 0 refused 0 left 0
+        alive 0:2 -> false
+        ",
+    )?;
     Ok(())
 }
 
 #[test]
 fn delete_twice(rt: HostRuntime) -> Result<(), Fail> {
-    let mut tale = Tale::new(rt.alloc());
-    tale.line("create", "0:1")?;
-    tale.line("delete 0:1", "ok")?;
-    tale.line(
-        "mark 0:1",
-        "error: Tried to delete entity Entity(0, Generation(1)), but the generation is no longer valid; it should be Generation(-1)",
+    assert_tale(
+        &rt,
+        rt.alloc(),
+        "
+        create -> 0:1
+        delete 0:1 -> ok
+        mark 0:1 -> error: Tried to delete entity Entity(0, Generation(1)), but the generation is no longer valid; it should be Generation(-1)
+        ",
     )?;
-    tale.assert_holds(&rt, rt.alloc());
     Ok(())
 }
 
@@ -97,32 +110,28 @@ fn dynamic_create_and_delete(rt: HostRuntime) -> Result<(), Fail> {
 
 #[test]
 fn maintain_entity_deletion(rt: HostRuntime) -> Result<(), Fail> {
-    let mut tale = Tale::new(rt.alloc());
-    tale.lines(&["register pos", "register tag"], "ok")?;
-    tale.line("create", "0:1")?;
-    tale.line("create", "1:1")?;
-    tale.line("create", "2:1")?;
-    tale.lines(
-        &[
-            "insert pos 0:1 12",
-            "insert pos 1:1 12",
-            "insert pos 2:1 12",
-        ],
-        "none",
+    assert_tale(
+        &rt,
+        rt.alloc(),
+        "
+        register pos -> ok
+        register tag -> ok
+        create -> 0:1
+        create -> 1:1
+        create -> 2:1
+        insert pos 0:1 12 -> none
+        insert pos 1:1 12 -> none
+        insert pos 2:1 12 -> none
+        insert tag 0:1 tag -> none
+        insert tag 1:1 tag -> none
+        insert tag 2:1 tag -> none
+        maintain 0 -> deleted [] ran 0 refused 0 left 0
+        select and pos tag -> [0, 1, 2]
+        mark 1:1 -> ok
+        maintain 0 -> deleted [1:1] ran 0 refused 0 left 0
+        select and pos tag -> [0, 2]
+        select pos -> [0, 2]
+        ",
     )?;
-    tale.lines(
-        &[
-            "insert tag 0:1 tag",
-            "insert tag 1:1 tag",
-            "insert tag 2:1 tag",
-        ],
-        "none",
-    )?;
-    tale.line("maintain 0", "deleted [] ran 0 refused 0 left 0")?;
-    tale.line("select and pos tag", "[0, 1, 2]")?;
-    tale.line("mark 1:1", "ok")?;
-    tale.line("maintain 0", "deleted [1:1] ran 0 refused 0 left 0")?;
-    tale.lines(&["select and pos tag", "select pos"], "[0, 2]")?;
-    tale.assert_holds(&rt, rt.alloc());
     Ok(())
 }

@@ -1,5 +1,5 @@
 //! Tests of specs on the components of a world, by their names there.
-use crate::runs::Tale;
+use crate::runs::{Tale, assert_tale};
 use std::alloc::{AllocError, Global};
 use std::test::Fail;
 
@@ -99,12 +99,16 @@ fn wrap(rt: HostRuntime) -> Result<(), Fail> {
 
 #[test]
 fn register_idempotency(rt: HostRuntime) -> Result<(), Fail> {
-    let mut tale = Tale::new(rt.alloc());
-    tale.line("register pos", "ok")?;
-    tale.line("create", "0:1")?;
-    tale.line("insert pos 0:1 10", "none")?;
-    tale.line("register pos", "ok")?;
-    tale.line("get pos 0:1", "10")?;
-    tale.assert_holds(&rt, rt.alloc());
+    assert_tale(
+        &rt,
+        rt.alloc(),
+        "
+        register pos -> ok
+        create -> 0:1
+        insert pos 0:1 10 -> none
+        register pos -> ok
+        get pos 0:1 -> 10
+        ",
+    )?;
     Ok(())
 }
