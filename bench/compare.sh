@@ -3,6 +3,7 @@
 # workload the least time of both, their ratio and whether the checksums agree, as a table.
 # A workload of this repository that does one of the others' in another way is named by that one's name, a plus sign and the way.
 # usage: bench/compare.sh [N=100000] [ITERATIONS=15] [ROUNDS=5] [NAME-PREFIX..]
+# Both are kept to one processor, or to two, where the prefix of a line j_ ends in _t1 or _t2.
 # SPECS_BASELINE names the folder with the Rust sources and their assemble.sh; BASELINE_BUILD the folder to build them in.
 set -euo pipefail
 here=$(cd "$(dirname "$0")/.." && pwd)
@@ -10,17 +11,24 @@ baseline=$(cd "$here" && cd "${SPECS_BASELINE:-../shared/baseline}" && pwd)
 build=${BASELINE_BUILD:-${TMPDIR:-/tmp}/specs-baseline-$(id -u)}
 count=${1:-100000} iterations=${2:-15} rounds=${3:-5}
 prefixes=("${@:4}")
-[ ${#prefixes[@]} -gt 0 ] || prefixes=(i_ l_atomic_create l_atomic_maintain g_ e_ f_)
+[ ${#prefixes[@]} -gt 0 ] || prefixes=(i_ l_atomic_create l_atomic_maintain g_ e_ f_ b_ c_ h_ n_ o_ j_par_heavy_t1 j_par_heavy_t2 j_par_heavy_t4)
 rust=$build/target/release/bench
 ours=$here/crates/bench/out/bench
 [ -x "$rust" ] || bash "$baseline/assemble.sh" "$build" >/dev/null
 (cd "$here/crates/bench" && rt run -- --check >/dev/null 2>&1) || { echo "bench/compare.sh: the benchmark is not built" >&2; exit 1; }
+# The command that keeps a program to the processors that a prefix names.
+kept_to() {
+  case $1 in
+    j_*_t1) echo taskset -c 0 ;;
+    j_*_t2) echo taskset -c 0,1 ;;
+  esac
+}
 results=$(mktemp -d)
 trap 'rm -r "$results"' EXIT
 for ((round = 0; round < rounds; round++)); do
   for prefix in "${prefixes[@]}"; do
-    "$rust" "$count" "$iterations" "$prefix" >>"$results/rust"
-    "$ours" "$count" "$iterations" "$prefix" >>"$results/ours"
+    $(kept_to "$prefix") "$rust" "$count" "$iterations" "$prefix" >>"$results/rust"
+    $(kept_to "$prefix") "$ours" "$count" "$iterations" "$prefix" >>"$results/ours"
   done
 done
 echo "$(date -u +%Y-%m-%d), $(nproc) processors, N = $count, best of $rounds rounds of $iterations runs each, alternating"

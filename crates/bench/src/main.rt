@@ -4,9 +4,13 @@
 #![tactic(auto)]
 
 mod births;
+mod changes;
 mod components;
 mod deaths;
+mod flags;
+mod joining;
 mod moving;
+mod parallel;
 mod points;
 mod random;
 mod sets;
@@ -54,6 +58,10 @@ fn main(rt: HostRuntime) -> Result<()> {
     sets::run(&rt, rt.alloc(), &plan, prefix)?;
     births::run(&rt, rt.alloc(), &plan, prefix)?;
     threads::run(&rt, rt.alloc(), &plan, prefix)?;
+    parallel::run(&rt, &plan, prefix)?;
     deaths::run(&rt, rt.alloc(), &plan, prefix)?;
-    components::run(&rt, rt.alloc(), &plan, prefix)
+    components::run(&rt, rt.alloc(), &plan, prefix)?;
+    flags::run(&rt, rt.alloc(), &plan, prefix)?;
+    changes::run(&rt, rt.alloc(), &plan, prefix)?;
+    joining::run(&rt, rt.alloc(), &plan, prefix)
 }

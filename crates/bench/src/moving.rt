@@ -16,7 +16,7 @@ pub struct Moving<P: Pointed> {
 }
 
 /// A storage without components.
-fn empty<T: Component>(alloc: Global) -> Result<MaskedStorage<T>> {
+pub fn empty<T: Component>(alloc: Global) -> Result<MaskedStorage<T>> {
     match T::Storage::try_default(alloc) {
         Ok(inner) => Ok(MaskedStorage::new(alloc, inner)),
         Err(_) => bail!("out of memory"),

@@ -3,7 +3,7 @@
 ghost use Rattle.std.specs.Float.{NotNan};
 
 use crate::random::mix;
-use storages::{Component, DenseVecStorage, HashMapStorage, VecStorage};
+use storages::{Component, DenseVecStorage, FlaggedStorage, HashMapStorage, VecStorage};
 
 /// Three numbers.
 #[derive(Clone, Copy)]
@@ -51,6 +51,15 @@ impl Point {
         }
     }
 
+    /// Adds the first number of another.
+    #[inline]
+    pub fn advance_by(&mut self, other: Point) {
+        let x = self.x + other.x;
+        if !x.is_nan() {
+            self.x = x;
+        }
+    }
+
     /// A checksum of the three.
     #[inline]
     pub fn bits(self) -> u64 {
@@ -80,6 +89,14 @@ pub struct VecPosition(Point);
 /// A velocity in a `VecStorage`.
 #[derive(Clone, Copy)]
 pub struct VecVelocity(Point);
+
+/// A position in a `VecStorage` that tells of its changes.
+#[derive(Clone, Copy)]
+pub struct FlaggedPosition(pub Point);
+
+impl Component for FlaggedPosition {
+    type Storage = FlaggedStorage<Self, VecStorage<Self>>;
+}
 
 /// A position in a `DenseVecStorage`.
 #[derive(Clone, Copy)]
@@ -171,4 +188,29 @@ impl Pointed for HashPosition {
     fn advance(&mut self) {
         self.0.advance();
     }
+}
+
+impl Pointed for FlaggedPosition {
+    #[inline]
+    fn of(point: Point) -> Self {
+        FlaggedPosition(point)
+    }
+
+    #[inline]
+    fn point(self) -> Point {
+        self.0
+    }
+
+    #[inline]
+    fn advance(&mut self) {
+        self.0.advance();
+    }
+}
+
+/// A number, in a `VecStorage`.
+#[derive(Clone, Copy)]
+pub struct Data(pub u64);
+
+impl Component for Data {
+    type Storage = VecStorage<Self>;
 }

@@ -1,0 +1,8 @@
+use Rattle.std.proofs.Common.{◌≡◌, ◌-◌, ◌^◌}
+use Rattle.bench.proofs.joining.looking.entity_total.Given as goal
+
+abbrev pub invariant-loop-entity : goal.invariant-loop-entity
+invariant-loop-entity l = l.sum ≡ l.sum
+
+abbrev pub decreases-loop-entity : goal.decreases-loop-entity
+decreases-loop-entity l = 64 ^ 4 - l.iter.keys.position

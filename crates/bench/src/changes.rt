@@ -1,0 +1,128 @@
+//! Changes that add up at each entity until they are applied.
+
+use crate::moving::empty;
+use crate::points::Data;
+use crate::random::{Random, mix};
+use crate::workload::{Plan, Workload, report};
+use anyhow::{Result, bail};
+use entities::{EntitiesRes, Entity};
+use joins::{ChangeSet, JoinMut};
+use std::alloc::Global;
+use std::io::Print;
+use std::time::Clock;
+use storages::{MaskedStorage, ReadStorage, WriteStorage};
+
+/// Two changes of each entity in a shuffled order and back, applied by a join.
+#[derive(Drop)]
+struct Changes {
+    count: u32,
+    alloc: Global,
+}
+
+/// Entities with a number each, and a shuffled list of them.
+#[derive(Drop)]
+struct Numbered {
+    entities: EntitiesRes,
+    data: MaskedStorage<Data>,
+    list: Vec<Entity>,
+}
+
+impl Numbered {
+    fn new(alloc: Global) -> Result<Self> {
+        Ok(Numbered {
+            entities: EntitiesRes::new(alloc),
+            data: empty(alloc)?,
+            list: Vec::new(alloc),
+        })
+    }
+
+    fn bear(&mut self, number: u32) -> Result<()> {
+        let entity = self.entities.alloc_mut().allocate()?;
+        let mut view = WriteStorage::new(&self.entities, &mut self.data);
+        if view.insert(entity, Data(u64::from(number))).is_err() {
+            bail!("no number was inserted");
+        }
+        self.list.push(entity)?;
+        Ok(())
+    }
+}
+
+fn add_all(changes: &mut ChangeSet<u64>, list: &[Entity]) -> Result<()> {
+    for (number, entity) in list.iter().enumerate() {
+        if changes.add(*entity, number as u64).is_err() {
+            bail!("no change was added");
+        }
+    }
+    Ok(())
+}
+
+fn add_back(changes: &mut ChangeSet<u64>, list: &[Entity]) -> Result<()> {
+    for entity in list.iter().rev() {
+        if changes.add(*entity, u64::from(entity.id())).is_err() {
+            bail!("no change was added");
+        }
+    }
+    Ok(())
+}
+
+fn apply_all(data: &mut MaskedStorage<Data>, changes: &ChangeSet<u64>) {
+    let mut cursor = data.join_mut(changes);
+    while let Some(_id) = cursor.next() {
+        if let Some(change) = cursor.beside() {
+            let change = *change;
+            if let Ok(data) = cursor.item() {
+                data.0 = data.0.wrapping_add(change);
+            }
+        }
+    }
+}
+
+impl Workload for Changes {
+    type State = Numbered;
+
+    fn operations(&self) -> u64 {
+        u64::from(self.count).saturating_mul(2)
+    }
+
+    fn prepare(&self, alloc: Global) -> Result<Numbered> {
+        let mut numbered = Numbered::new(alloc)?;
+        for number in 0..self.count {
+            numbered.bear(number)?;
+        }
+        Random::new().shuffle(&mut numbered.list);
+        Ok(numbered)
+    }
+
+    fn work(&self, state: &mut Numbered) -> Result<u64> {
+        let mut changes = ChangeSet::new(self.alloc);
+        add_all(&mut changes, state.list.as_slice())?;
+        add_back(&mut changes, state.list.as_slice())?;
+        apply_all(&mut state.data, &changes);
+        Ok(0)
+    }
+
+    fn checksum(&self, state: &Numbered, _answer: u64) -> u64 {
+        let view = ReadStorage::new(&state.entities, &state.data);
+        let mut sum = 0;
+        for id in 0..self.count {
+            let entity = state.entities.entity(id);
+            if let Some(data) = view.get(entity) {
+                sum = mix(sum, data.0);
+            }
+        }
+        sum
+    }
+}
+
+/// Reports on it.
+pub fn run(rt: &(impl Clock + Print), alloc: Global, plan: &Plan, prefix: &str) -> Result<()> {
+    let count = plan.count;
+    report(
+        rt,
+        alloc,
+        plan,
+        prefix,
+        "n_change_set",
+        &Changes { count, alloc },
+    )
+}

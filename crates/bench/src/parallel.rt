@@ -1,0 +1,107 @@
+//! Components that are updated in threads, as many as there are processors that the program may use.
+
+use crate::workload::{Best, Plan};
+use anyhow::{Result, bail};
+use hibits::{BitSetAll, Index};
+use joins::Join;
+use joins_parallel::par_update;
+use std::alloc::{Alloc, Global};
+use std::io::Print;
+use std::thread::Threads;
+use std::time::{Clock, Instant};
+use storages::{Component, MaskedStorage, TryDefault, VecStorage};
+
+/// A number to start from.
+#[derive(Clone, Copy)]
+struct Seed(u64);
+
+impl Component for Seed {
+    type Storage = VecStorage<Self>;
+}
+
+/// 64 rounds of xorshift.
+fn heavy(seed: u64) -> u64 {
+    let mut x = seed;
+    for _ in 0..64 {
+        x ^= x << 13;
+        x ^= x >> 7;
+        x ^= x << 17;
+    }
+    x
+}
+
+/// An odd number at each index.
+fn seeds(alloc: Global, count: u32) -> Result<MaskedStorage<Seed>> {
+    let Ok(inner) = VecStorage::try_default(alloc) else {
+        bail!("out of memory")
+    };
+    let mut storage = MaskedStorage::new(alloc, inner);
+    for id in 0..count {
+        let seed = Seed(u64::from(id).wrapping_mul(2).wrapping_add(1));
+        if id < 16_777_216 && storage.put(id, seed).is_err() {
+            bail!("no seed was put");
+        }
+    }
+    Ok(storage)
+}
+
+/// The sum of all, which wraps.
+fn sum_of(storage: &MaskedStorage<Seed>) -> u64 {
+    let mut sum: u64 = 0;
+    let mut all = storage.join();
+    while let Some(seed) = all.next() {
+        sum = sum.wrapping_add(seed.0);
+    }
+    sum
+}
+
+/// Runs the rounds on each seed, so often, and sums what each time makes.
+fn run_rounds(
+    rt: &(impl Threads + Alloc<A = Global> + Sync),
+    storage: &mut MaskedStorage<Seed>,
+    passes: u64,
+) -> Result<u64> {
+    let mut sum: u64 = 0;
+    for _pass in 0..passes {
+        par_update(
+            rt,
+            storage,
+            BitSetAll,
+            |seed: &Seed, _index: Index| -> Option<Seed> { Some(Seed(heavy(seed.0))) },
+        )?;
+        sum = sum.wrapping_add(sum_of(storage));
+    }
+    Ok(sum)
+}
+
+/// Reports on heavy updates. The line's name says for how many processors it is: the others are to be kept from the program.
+pub fn run(
+    rt: &(impl Threads + Alloc<A = Global> + Sync + Clock + Print),
+    plan: &Plan,
+    prefix: &str,
+) -> Result<()> {
+    for name in ["j_par_heavy_t1", "j_par_heavy_t2", "j_par_heavy_t4"] {
+        if name.starts_with(prefix) {
+            report(rt, plan, name)?;
+        }
+    }
+    Ok(())
+}
+
+/// Reports on one line.
+fn report(
+    rt: &(impl Threads + Alloc<A = Global> + Sync + Clock + Print),
+    plan: &Plan,
+    name: &str,
+) -> Result<()> {
+    let passes = (plan.passes() / 10).max(1);
+    let mut best = Best::new(name);
+    for run in 0..plan.runs() {
+        let mut storage = seeds(rt.alloc(), plan.count)?;
+        let start = Instant::now(rt)?;
+        let answer = run_rounds(rt, &mut storage, passes)?;
+        let nanoseconds = u64::try_from(start.elapsed(rt)?.as_nanos())?;
+        best.take(run, nanoseconds, answer)?;
+    }
+    best.print(rt, plan, u64::from(plan.count).saturating_mul(passes))
+}
