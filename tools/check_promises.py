@@ -1,7 +1,7 @@
 #!/usr/bin/env python3
 """Looks up each proved row of docs/PROMISES.md in the sources.
 
-A row is  | promise | `crate::Type::function` | `clause` or `-` | status |,  where the path may lack the type, and the type may be a trait. A row
+A row is  | promise | `crate::Type::function` | `clause` or `-` | status |,  where the path may lack the type, or have a module in its place, and the type may be a trait. A row
 whose status says 'proved' holds if that type, or that trait, has a public function of this name with an `ensures` of this name; `-` stands for
 the one `ensures` of a function that has no other. Run at the top of the repository; it prints each row that does not hold, and ends with status 1 if there is one."""
 import glob
@@ -105,7 +105,8 @@ def functions(text):
 def fault_of(where, clause):
     """What is wrong with a row, if anything is."""
     crate, *owner, name = where.split("::")
-    paths = sorted(glob.glob(f"crates/{crate}/src/**/*.rt", recursive=True))
+    module = owner.pop() if owner and owner[-1].islower() else "**/*"
+    paths = sorted(glob.glob(f"crates/{crate}/src/{module}.rt", recursive=True))
     if not paths or len(owner) > 1:
         return f"there is no crate or type of {where}"
     here = []

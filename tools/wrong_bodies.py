@@ -5,7 +5,9 @@
 
 An edit has the lines of a must-fail edit ('file: src/FILE', 'old: TEXT', 'new: TEXT', each TEXT once in the file), and two more:
 'fn: PATH', the function that has to be refused, as the check names it without its crate, and 'clause: WORD', of which a goal that the
-check leaves open in that function must be: a clause's name, or the name of another goal.
+check leaves open in that function must be: a clause's name, or the name of another goal. Where the check refuses a function before it looks at its
+clauses (a loop without an end, a step that a table of shared words forbids), 'says: TEXT' stands in the place of the clause: what the check must say.
+An edit that reaches beyond its function (a constant) has a line 'alone: WHY', and no other edit in its group.
 
 Edits of one crate that change different functions are applied together, so that one check tries up to ten of them. Each is judged by itself: the check
 must have a line for its function that says that it is not proved, for itself and not for a function that it calls, and name the goal.
@@ -29,7 +31,7 @@ class Edit:
     def __init__(self, path):
         self.path, self.crate = path, path.split("/")[1]
         self.name = f"{self.crate}/{os.path.basename(path)[: -len('.edit')]}"
-        self.changes, self.function, self.clause = [], None, None
+        self.changes, self.function, self.clause, self.says, self.alone = [], None, None, None, False
         file = old = None
         with open(path, encoding="utf-8") as it:
             for line in it.read().split("\n"):
@@ -41,6 +43,10 @@ class Edit:
                     self.function = text.strip()
                 elif word == "clause":
                     self.clause = text.strip()
+                elif word == "alone":
+                    self.alone = True
+                elif word == "says":
+                    self.says = text.strip()
                 elif word == "old":
                     old = text
                 elif word == "new":
@@ -48,8 +54,8 @@ class Edit:
 
     def fault(self, how):
         """Why the edit cannot be tried, if it cannot."""
-        if not self.changes or how != "--explain" and not (self.function and self.clause):
-            return "it lacks a line 'file:', 'fn:', 'clause:', 'old:' or 'new:'"
+        if not self.changes or how != "--explain" and not (self.function and (self.clause or self.says)):
+            return "it lacks a line 'file:', 'fn:', 'clause:' or 'says:', 'old:' or 'new:'"
         for file, old, _ in self.changes:
             source = f"crates/{self.crate}/{file}"
             if not os.path.isfile(source):
@@ -66,7 +72,7 @@ def groups_of(edits):
     groups = []
     for edit in edits:
         keys = {edit.function, *((file, old) for file, old, _ in edit.changes)}
-        home = next((it for it in groups if len(it[0]) < GROUP and not keys & it[1]), None)
+        home = next((it for it in groups if not edit.alone and not it[0][0].alone and len(it[0]) < GROUP and not keys & it[1]), None)
         if home is None:
             groups.append(([edit], keys))
         else:
@@ -108,7 +114,7 @@ def refused(said, crate):
     found = {}
     for line in re.finditer(rf"^fn {crate}::(\S+): (?:not proved|no proof)(?!: it calls)(?!; it waits)(.*)$", said, re.M):
         goals = re.findall(r"`([^`]+)`", line[2].partition("did not prove")[2])
-        folder = re.escape(line[1].replace("::", "/"))
+        folder = r"/\+?".join(re.escape(it) for it in line[1].split("::"))
         for at in re.finditer(rf"^\./proofs/\+?{folder}/\w+\.antt:\d+:\d+: error: `([^`]+)`: (.*)$", said, re.M):
             if not LOST.search(at[2]):
                 goals.append(at[1])
@@ -123,6 +129,8 @@ def judge(said, edit):
     goals = refused(said, edit.crate).get(edit.function)
     if goals is None:
         return False, "NOT REFUSED"
+    if edit.says:
+        return edit.says in said, f"refused: {edit.says}" if edit.says in said else f"refused, but it does not say: {edit.says}"
     hit = next((it for it in goals if edit.clause in it.split("-") or edit.clause == it), None)
     if hit is None:
         return False, f"refused, but not for `{edit.clause}`: {', '.join(goals) or 'no goal is named'}"
