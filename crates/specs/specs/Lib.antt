@@ -9,3 +9,6 @@ pub mod Reached
 pub mod Gone
 pub mod Refused
 pub mod Lending
+pub mod Shows
+pub mod Field
+pub mod Finds

@@ -1,8 +1,12 @@
 //! A world of entities and component storages, for any struct of storages: a port of the crate `specs`.
 #![tactic(auto)]
 
+pub mod by_type;
 mod command;
 mod core_parts;
+mod duplicate;
+pub mod field;
+mod has;
 mod laws;
 mod selection;
 mod slots;
@@ -10,9 +14,11 @@ mod world;
 
 pub use command::{Command, Maintained, Refusal, Reply, SetExpr};
 pub use core_parts::{Core, DeleteError, Parts};
+pub use duplicate::Duplicate;
 pub use entities::{
     Allocator, CreateError, EntitiesRes, Entity, Error, Generation, Index, WrongGeneration,
 };
+pub use has::{Field, Has, component, slot, value};
 pub use laws::{only_living, stays_dead};
 pub use slots::Storages;
 pub use storages::{ComponentEvent, ReaderId};

@@ -4,7 +4,7 @@ use Rattle.std.proofs.lemmas.Bool.Decides.{nat_tests}
 use Rattle.entities.specs.declared.entity.Entity.{Entity}
 use Rattle.entities.specs.Population.{Population, index_of}
 use Rattle.specs.specs.Column.{Column}
-use Rattle.composed.specs.Field.{FieldInserts, FieldGets}
+use Rattle.specs.specs.Field.{FieldInserts, FieldGets}
 
 itself : (a : ℕ) → nat_eq a a ≡ true
 itself a = grind (arith, nat_tests)

@@ -11,19 +11,15 @@ use Rattle.hibits.specs.Left.{left}
 use Rattle.storages.specs.Channel.{Channel, emitted, emitted_removals}
 use Rattle.storages.specs.Removals.{lost}
 use Rattle.storages.specs.declared.event.ComponentEvent.TheVariants.{Inserted, Modified, Removed}
-use Rattle.composed.proofs.Values.{column_is}
+use Rattle.specs.proofs.Values.{column_is}
 use Rattle.specs.specs.Table.{Table, Becomes, Begins, Registers, Inserts, InsertIsRefused, InsertWantsMemory, Gets, GetIsRefused, CopyWantsMemory, Removes, Clears, ClearIsRefused, IsMask}
 use Rattle.specs.specs.declared.command.Refusal.{Refusal}
 use Rattle.specs.specs.declared.command.Refusal.TheVariants.{WrongGeneration as Wrong, Unregistered, IndexLimit, OutOfMemory, Untracked, UnknownReader}
 use Rattle.specs.specs.Readers.{Rechannels, HasChannel, ChannelIsRefused}
 use Rattle.entities.specs.Deaths.{has_index}
-use Rattle.composed.specs.declared.only.Sole.{Sole}
-use Rattle.composed.specs.declared.only.Sole.TheVariants.{Sole as TheSole}
 use Rattle.std.proofs.lemmas.Bool.{false≢true}
-use Rattle.specs.specs.Reached.{HasNoValue}
-use Rattle.composed.specs.Field.{FieldInserts}
-use Rattle.composed.specs.Both.{each_as, column_as, Shows, table_of_both}
-use Rattle.composed.specs.declared.either.Either.TheVariants.{First, Rest}
+use Rattle.specs.specs.Field.{FieldInserts}
+use Rattle.specs.specs.Shows.{each_as, column_as, Shows}
 
 if_as : {V W : Type 0} (f : V → W) (b : Bool) (x y : Option V) → option_map f (cond b x y) ≡ cond b (option_map f x) (option_map f y)
 if_as f true x y = refl
@@ -153,13 +149,6 @@ module _ {K L V W : Type 0} {slot : K → L} {value : V → W} {t t' : Table K V
     dead = λ d. ap (option_map value) (g.dead d);
   }
 
--- a change of the first, and of the rest
-pub in_first : {K L V W : Type 0} (t t' : Table K V) (u : Table L W) → Shows First First t t' (table_of_both t u) (table_of_both t' u)
-in_first t t' u = record { before = λ k. refl; after = λ k. refl; only = elim [ First k ↦ inl (k, refl) | Rest l ↦ inr refl ] }
-
-pub in_rest : {K L V W : Type 0} (t : Table K V) (u u' : Table L W) → Shows Rest Rest u u' (table_of_both t u) (table_of_both t u')
-in_rest t u u' = record { before = λ k. refl; after = λ k. refl; only = elim [ First k ↦ inr refl | Rest l ↦ inl (l, refl) ] }
-
 pub on_ok : {A E : Type 0} (r : Result A E) {X Y : Type 0} → (X → Y) → OnOk r X → OnOk r Y
 on_ok (Ok a) f x = f x
 on_ok (Err e) f x = tt
@@ -178,15 +167,11 @@ on_err (Err e) f x = f x
 
 -- a storage in its slot
 pub in_slot : {T K V : Type 0} (slot : K) (value : T → V) (old new : Table K V) (o o' : Option (Column T)) → old slot ≡ option_map (column_as value) o → new slot ≡ option_map (column_as value) o'
-    → ((k : K) → (k ≡ slot) ⊎ (new k ≡ old k)) → Shows (λ (s : Sole). slot) value (λ _. o) (λ _. o') old new
-in_slot slot value old new o o' e e' only = record { before = λ _. e; after = λ _. e'; only = λ k. elim (only k) [ inl is ↦ inl (TheSole, is) | inr same ↦ inr same ] }
+    → ((k : K) → (k ≡ slot) ⊎ (new k ≡ old k)) → Shows (λ (s : Unit {0}). slot) value (λ _. o) (λ _. o') old new
+in_slot slot value old new o o' e e' only = record { before = λ _. e; after = λ _. e'; only = λ k. elim (only k) [ inl is ↦ inl (tt, is) | inr same ↦ inr same ] }
 
-field_becomes : {T : Type 0} (o o' : Option (Column T)) (m : Column T) → o' ≡ Some m → Becomes {K = Sole} (λ _. o) TheSole m (λ _. o')
-field_becomes o o' m e = record { here = e; others = elim [ TheSole ↦ λ d. absurd (d refl) ] }
+field_becomes : {T : Type 0} (o o' : Option (Column T)) (m : Column T) → o' ≡ Some m → Becomes {K = Unit {0}} (λ _. o) tt m (λ _. o')
+field_becomes o o' m e = record { here = e; others = λ k d. absurd (d refl) }
 
-pub field_inserts : {T : Type 0} (p : Population) (o o' : Option (Column T)) (e : Entity) (x : T) (before : Option T) → FieldInserts p o e x before o' → Inserts {K = Sole} (λ _. TheSole) p (λ _. o) e x before (λ _. o')
+pub field_inserts : {T : Type 0} (p : Population) (o o' : Option (Column T)) (e : Entity) (x : T) (before : Option T) → FieldInserts p o e x before o' → Inserts {K = Unit {0}} (λ _. tt) p (λ _. o) e x before (λ _. o')
 field_inserts p o o' e x before i = record { column = i.column; registered = i.registered; alive = i.alive; told = i.told; put = field_becomes o o' _ i.now }
-
--- where no slot is registered, none has a value
-pub has_no_value : {K V : Type 0} (t : Table K V) → ((k : K) → t k ≡ None) → HasNoValue t
-has_no_value t none k m i e = absurd (false≢true (ap is_some (sym (none k) ∙ e)))

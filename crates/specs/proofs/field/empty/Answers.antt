@@ -1,5 +1,5 @@
-use Rattle.composed.proofs.Values.{first_fresh}
-use Rattle.composed.proofs.field.empty.Goals as goal
+use Rattle.specs.proofs.Values.{first_fresh}
+use Rattle.specs.proofs.field.empty.Goals as goal
 
 pub returns-in-Ok : goal.returns-in-Ok
 returns-in-Ok g c =

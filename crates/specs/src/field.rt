@@ -14,11 +14,12 @@ ghost use Rattle.specs.specs.Table.{IsMask};
 ghost use Rattle.storages.specs.Tracking.{with_reader, after_read, without_reader, switched};
 ghost use Rattle.storages.specs.Unread.{unread_of};
 ghost use Rattle.specs.specs.Readers.{RegisterReaderIsRefused, ReaderIsRefused, SwitchIsRefused};
-ghost use Rattle.composed.specs.Field.{FieldRechannels, FieldInserts, FieldGets, FieldRemoves, FieldClears, FieldInsertIsRefused, FieldGetIsRefused, FieldRemoveIsRefused, FieldClearIsRefused, PutIsRefused, column_of, field_column, field_room};
+ghost use Rattle.specs.specs.Field.{FieldRechannels, FieldInserts, FieldGets, FieldRemoves, FieldClears, FieldInsertIsRefused, FieldGetIsRefused, FieldRemoveIsRefused, FieldClearIsRefused, PutIsRefused, column_of, field_column, field_room};
 
+use crate::command::Refusal;
 use crate::duplicate::Duplicate;
+use entities::{EntitiesRes, Entity};
 use hibits::BitSet;
-use specs::{EntitiesRes, Entity, Refusal};
 use std::alloc::{AllocError, Global};
 use storages::{
     Component, ComponentEvent, InsertError, MaskedStorage, MaybeTracked, ReadStorage, ReaderId,

@@ -1,5 +1,5 @@
-use Rattle.composed.proofs.Values.{inserted}
-use Rattle.composed.proofs.field.insert_in.Goals as goal
+use Rattle.specs.proofs.Values.{inserted}
+use Rattle.specs.proofs.field.insert_in.Goals as goal
 
 pub returns-in-Ok-clause-ok : goal.returns-in-Ok-clause-ok
 returns-in-Ok-clause-ok g c =

@@ -3,13 +3,13 @@ ghost use Rattle.std.specs.Prelude.{◌≡◌, Some, None, IfOk, OnErr, IfErr};
 ghost use Rattle.std.specs.Option.{option_map};
 ghost use Rattle.entities.specs.Census.{population};
 ghost use Rattle.specs.specs.Table.{Inserts, InsertIsRefused, Gets};
-ghost use Rattle.composed.specs.Field.{FieldInserts, FieldGets, FieldInsertIsRefused, FieldGetIsRefused, field_column};
+ghost use Rattle.specs.specs.Field.{FieldInserts, FieldGets, FieldInsertIsRefused, FieldGetIsRefused, field_column};
 
+use crate::command::Refusal;
 use crate::duplicate::Duplicate;
 use crate::field;
 use crate::has::Has;
 use entities::{EntitiesRes, Entity};
-use specs::Refusal;
 use storages::Component;
 
 /// Puts a component at an entity that is alive, and answers the one before. A refused component is handed back, and nothing changed.

@@ -27,7 +27,7 @@ use Rattle.specs.specs.Column.{Column, IsFresh, wants_memory, without_value, wit
 use Rattle.std.specs.List.{Contains}
 use Rattle.std.proofs.lemmas.List.Elements.{All-contains_itself}
 use Rattle.hibits.specs.Left.{left, contains-left}
-use Rattle.composed.specs.Field.{values_of, column_of, FieldInserts, FieldGets, FieldRemoves, FieldClears, FieldRechannels}
+use Rattle.specs.specs.Field.{values_of, column_of, FieldInserts, FieldGets, FieldRemoves, FieldClears, FieldRechannels}
 
 turned : (a b : ℕ) → (a == b) ≡ (b == a)
 turned a b = grind (arith, nat_tests)

@@ -1,9 +1,9 @@
 use Rattle.std.proofs.Common.{◌∙◌, ap}
 use Rattle.std.specs.Prelude.{Some, option_map}
-use Rattle.composed.specs.Both.{column_as}
-use Rattle.composed.specs.Field.{field_column, column_of}
-use Rattle.composed.proofs.Shown.{if_ok, in_slot, field_inserts, shown_inserts}
-use Rattle.composed.proofs.by_type.insert.Goals as goal
+use Rattle.specs.specs.Shows.{column_as}
+use Rattle.specs.specs.Field.{field_column, column_of}
+use Rattle.specs.proofs.Shown.{if_ok, in_slot, field_inserts, shown_inserts}
+use Rattle.specs.proofs.by_type.insert.Goals as goal
 
 pub returns-in-Some-clause-ok : goal.returns-in-Some-clause-ok
 returns-in-Some-clause-ok g c =

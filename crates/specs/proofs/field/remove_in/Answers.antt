@@ -1,5 +1,5 @@
-use Rattle.composed.proofs.Values.{removed}
-use Rattle.composed.proofs.field.remove_in.Goals as goal
+use Rattle.specs.proofs.Values.{removed}
+use Rattle.specs.proofs.field.remove_in.Goals as goal
 
 pub returns-in-Ok-clause-ok : goal.returns-in-Ok-clause-ok
 returns-in-Ok-clause-ok g c =

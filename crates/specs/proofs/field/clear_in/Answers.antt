@@ -1,9 +1,9 @@
 use Rattle.std.proofs.Common.{refl, length}
 use Rattle.std.proofs.lemmas.Bool.{false≢true}
 use Rattle.storages.specs.Slot.{indices_of}
-use Rattle.composed.specs.Field.{column_of}
-use Rattle.composed.proofs.Values.{cleared, wants, no_room, none_told}
-use Rattle.composed.proofs.field.clear_in.Goals as goal
+use Rattle.specs.specs.Field.{column_of}
+use Rattle.specs.proofs.Values.{cleared, wants, no_room, none_told}
+use Rattle.specs.proofs.field.clear_in.Goals as goal
 
 pub returns-in-Ok-clause-ok : goal.returns-in-Ok-clause-ok
 returns-in-Ok-clause-ok g c = cleared c.args.storage.now c.clear.new.self c.in-Ok.ensures.ok.map c.in-Ok.ensures.ok.channel c.in-Ok.ensures.ok.needs_inner
