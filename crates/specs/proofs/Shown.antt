@@ -18,7 +18,7 @@ use Rattle.specs.specs.declared.command.Refusal.TheVariants.{WrongGeneration as 
 use Rattle.specs.specs.Readers.{Rechannels, HasChannel, ChannelIsRefused}
 use Rattle.entities.specs.Deaths.{has_index}
 use Rattle.std.proofs.lemmas.Bool.{false≢true}
-use Rattle.specs.specs.Field.{FieldInserts}
+use Rattle.specs.specs.Field.{FieldInserts, FieldRemoves, FieldClears}
 use Rattle.specs.specs.Shows.{each_as, column_as, Shows}
 
 if_as : {V W : Type 0} (f : V → W) (b : Bool) (x y : Option V) → option_map f (cond b x y) ≡ cond b (option_map f x) (option_map f y)
@@ -175,3 +175,9 @@ field_becomes o o' m e = record { here = e; others = λ k d. absurd (d refl) }
 
 pub field_inserts : {T : Type 0} (p : Population) (o o' : Option (Column T)) (e : Entity) (x : T) (before : Option T) → FieldInserts p o e x before o' → Inserts {K = Unit {0}} (λ _. tt) p (λ _. o) e x before (λ _. o')
 field_inserts p o o' e x before i = record { column = i.column; registered = i.registered; alive = i.alive; told = i.told; put = field_becomes o o' _ i.now }
+
+pub field_removes : {T : Type 0} (p : Population) (o o' : Option (Column T)) (e : Entity) (found : Option T) → FieldRemoves p o e found o' → Removes {K = Unit {0}} p (λ _. o) tt e found (λ _. o')
+field_removes p o o' e found r = record { column = r.column; registered = r.registered; alive = λ a. ((r.alive a).0, field_becomes o o' _ (r.alive a).1); dead = λ d. ((r.dead d).0, ap (λ x _. x) (r.dead d).1) }
+
+pub field_clears : {T : Type 0} (o o' : Option (Column T)) → FieldClears o o' → Clears {K = Unit {0}} (λ _. o) tt (λ _. o')
+field_clears o o' c = record { column = c.column; registered = c.registered; cleared = field_becomes o o' _ c.cleared }

@@ -96,6 +96,18 @@ pub record FieldRechannels {V : Type 0} (old : Option (Column V)) (says : Channe
   pub said : says column.channel
   pub now : new ≡ Some (with_channel column (change column.channel))
 
+-- an entity that is alive, and has a value
+pub record Holds {V : Type 0} (p : Population) (field : Option (Column V)) (e : Entity) : Type 0 where
+  pub column : Column V
+  pub registered : field ≡ Some column
+  pub alive : IsAlive p e
+  pub present : IsSome (column.values (index_of e))
+
+-- why a component was not written, with the component that is handed back
+abbrev pub WriteIsRefused : {T : Type 0} → Population → Option (Column T) → Entity → T → InsertError T → Type 0
+WriteIsRefused p field e value (Stale w x) = InsertIsStale p e w × (x ≡ value)
+WriteIsRefused p field e value (NoMemory x) = InsertWantsMemory p field e × (x ≡ value)
+
 -- why a view did not insert, with the component that it hands back
 abbrev pub PutIsRefused : {T : Type 0} → Population → Entity → T → InsertError T → Type 0
 PutIsRefused p e value (Stale w x) = InsertIsStale p e w × (x ≡ value)

@@ -12,3 +12,7 @@ pub mod Lending
 pub mod Shows
 pub mod Field
 pub mod Finds
+pub mod Writing
+pub mod Registering
+pub mod Building
+pub mod Creating

@@ -16,6 +16,7 @@ use Rattle.specs.specs.declared.command.Reply.TheVariants.{Done, Entity as Told,
 use Rattle.specs.specs.declared.command.Refusal.{Refusal}
 use Rattle.specs.specs.declared.command.Refusal.TheVariants.{WrongGeneration as Wrong, Unregistered, IndexLimit, OutOfMemory}
 use Rattle.specs.specs.declared.core_parts.Core.{Core}
+use Rattle.specs.specs.declared.core_parts.Parts.{Parts}
 use Rattle.specs.specs.declared.world.World.{World}
 use Rattle.specs.specs.Column.{without_values}
 use Rattle.specs.specs.People.{Births, IsFull, BirthWantsMemory, Deaths, DeathIsRefused, Marks, MarkIsRefused, IsEntityAt, NoneMarked}
@@ -27,9 +28,13 @@ pub record State (K V : Type 0) : Type 0 where
   pub people : Population
   pub table : Table K V
 
+-- what entities and storages show
+abbrev pub parts_state : {S K V : Type 0} → (S → Table K V) → Parts S → State K V
+parts_state table p = record { people = population p.entities; table = table p.storages }
+
 -- what a core shows
 abbrev pub core_state : {S K V : Type 0} → (S → Table K V) → Core S → State K V
-core_state table c = record { people = population c.parts.entities; table = table c.parts.storages }
+core_state table c = parts_state table c.parts
 
 -- what a world shows
 abbrev pub state_of : {S K V : Type 0} → (S → Table K V) → World S → State K V

@@ -1,9 +1,9 @@
 //! Calls by a component type: neither its slot, nor its place in the struct, nor the type of all values is written.
-ghost use Rattle.std.specs.Prelude.{◌≡◌, Some, None, IfOk, OnErr, IfErr};
+ghost use Rattle.std.specs.Prelude.{◌≡◌, Some, None, IsSome, IfOk, OnOk, OnErr, IfErr};
 ghost use Rattle.std.specs.Option.{option_map};
 ghost use Rattle.entities.specs.Census.{population};
-ghost use Rattle.specs.specs.Table.{Inserts, InsertIsRefused, Gets};
-ghost use Rattle.specs.specs.Field.{FieldInserts, FieldGets, FieldInsertIsRefused, FieldGetIsRefused, field_column};
+ghost use Rattle.specs.specs.Table.{Inserts, InsertIsRefused, Gets, Removes, Clears};
+ghost use Rattle.specs.specs.Field.{FieldInserts, FieldGets, FieldRemoves, FieldClears, FieldInsertIsRefused, FieldGetIsRefused, FieldRemoveIsRefused, FieldClearIsRefused, field_column};
 
 use crate::command::Refusal;
 use crate::duplicate::Duplicate;
@@ -23,6 +23,7 @@ pub fn insert<T: Component, S: Has<T, I>, I>(
     ensures field { IfOk result (λ before. FieldInserts (population entities.now) (field_column (S.part storages.old)) e component before (field_column (S.part storages.new))) }
     ensures refused { IfErr result (λ r. FieldInsertIsRefused (population entities.now) (field_column (S.part storages.old)) e r.0) }
     ensures back { IfErr result (λ r. r.1 ≡ component) }
+    ensures there { IsSome (S.part storages.old) → IsSome (S.part storages.new) }
     ensures err { OnErr result (S.table storages.new ≡ S.table storages.old) }
 {
     match storages.field_mut() {
@@ -43,6 +44,39 @@ pub fn get<T: Component + Duplicate, S: Has<T, I>, I>(
 {
     match storages.field() {
         Some(storage) => field::get_in(storage, entities, e),
+        None => Err(Refusal::Unregistered),
+    }
+}
+
+/// Removes the component of an entity and answers it, or none where the entity is not alive. It takes memory for an event alone, and a
+/// refused call changes nothing.
+pub fn remove<T: Component, S: Has<T, I>, I>(
+    storages: &mut S,
+    entities: &EntitiesRes,
+    e: Entity,
+) -> Result<Option<T>, Refusal>
+    ensures ok { IfOk result (λ found. Removes (population entities.now) (S.table storages.old) S.the_slot e (option_map S.as_value found) (S.table storages.new)) }
+    ensures field { IfOk result (λ found. FieldRemoves (population entities.now) (field_column (S.part storages.old)) e found (field_column (S.part storages.new))) }
+    ensures refused { IfErr result (FieldRemoveIsRefused (population entities.now) (field_column (S.part storages.old)) e) }
+    ensures there { IsSome (S.part storages.old) → IsSome (S.part storages.new) }
+    ensures err { OnErr result (S.table storages.new ≡ S.table storages.old) }
+{
+    match storages.field_mut() {
+        Some(storage) => field::remove_in(storage, entities, e),
+        None => Err(Refusal::Unregistered),
+    }
+}
+
+/// Removes every component. It takes memory for events alone, and a refused call changes nothing.
+pub fn clear<T: Component, S: Has<T, I>, I>(storages: &mut S) -> Result<(), Refusal>
+    ensures ok { OnOk result (Clears (S.table storages.old) S.the_slot (S.table storages.new)) }
+    ensures field { OnOk result (FieldClears (field_column (S.part storages.old)) (field_column (S.part storages.new))) }
+    ensures refused { IfErr result (FieldClearIsRefused (field_column (S.part storages.old))) }
+    ensures there { IsSome (S.part storages.old) → IsSome (S.part storages.new) }
+    ensures err { OnErr result (S.table storages.new ≡ S.table storages.old) }
+{
+    match storages.field_mut() {
+        Some(storage) => field::clear_in::<T>(storage),
         None => Err(Refusal::Unregistered),
     }
 }

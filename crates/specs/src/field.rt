@@ -1,5 +1,5 @@
 //! A storage of one component type, or none where the component is not registered.
-ghost use Rattle.std.specs.Prelude.{◌≡◌, ◌||◌, ℕ, None, Some, true, cond, is_some, length, IfOk, IsOk, OnOk, OnErr, IfErr, MatchOption, IsSome};
+ghost use Rattle.std.specs.Prelude.{◌≡◌, ◌||◌, ℕ, None, Some, true, cond, is_some, length, option_copied, IfOk, IsOk, OnOk, OnErr, IfErr, MatchOption, IsSome};
 ghost use Rattle.std.specs.FinMap as map;
 ghost use Rattle.std.specs.Option.{option_map};
 ghost use Rattle.entities.specs.Census.{population};
@@ -106,6 +106,21 @@ fn put<T: Component>(
     ensures refused { IfErr result (λ r. PutIsRefused (population entities.now) e value r) }
 {
     WriteStorage::new(entities, storage).insert(e, value)
+}
+
+/// The component of an entity in its storage, or none where it is not alive.
+pub fn find<'a, T: Component>(
+    storage: &'a MaskedStorage<T>,
+    entities: &EntitiesRes,
+    e: Entity,
+) -> Option<&'a T>
+    ensures { FieldGets (population entities.now) (Some (column_of storage.now)) e (option_copied result) }
+{
+    if entities.is_alive(e) {
+        storage.get(e.id())
+    } else {
+        None
+    }
 }
 
 /// A copy of the component of an entity, or none where it is not alive.
