@@ -37,7 +37,7 @@ pub fn two_written<T: Component + Drop, S: Has<T, I>, I>(
     ensures people { (state_of S.table world.new).people ≡ (state_of S.table world.old).people }
     ensures err { OnErr result (world.new ≡ world.old) }
 {
-    let mut view = world.core_mut().write_storage::<T, I>()?;
+    let mut view = world.write_storage::<T, I>()?;
     let _ = view.insert(e, x);
     let _ = view.remove(e);
     let _ = view.insert(f, y);

@@ -17,7 +17,7 @@ fn registered(alloc: Global) -> Result<World<Slots>, Fail> {
 
 /// An entity with a position and a health.
 fn build(world: &mut World<Slots>, x: i64, points: i64) -> Option<Entity> {
-    let builder = world.core_mut().create_entity().ok()?;
+    let builder = world.create_entity().ok()?;
     let builder = builder.with(Position(x)).ok()?;
     let builder = builder.with(Health(points)).ok()?;
     Some(builder.build())
@@ -41,7 +41,7 @@ fn health(world: &World<Slots>, e: Entity) -> Option<Health> {
 
 /// Puts a position at an entity, by a view.
 fn place(world: &mut World<Slots>, e: Entity, x: i64) -> bool {
-    match world.core_mut().write_storage::<Position, _>() {
+    match world.write_storage::<Position, _>() {
         Ok(mut positions) => positions.insert(e, Position(x)).is_ok() && positions.contains(e),
         Err(_) => false,
     }
@@ -68,7 +68,7 @@ fn entities_are_built_read_and_written(rt: HostRuntime) -> Result<(), Fail> {
     let mut world = registered(rt.alloc())?;
     let a = build(&mut world, 1, 10).ok_or("a building")?;
     let b = build(&mut world, 3, 30).ok_or("a building")?;
-    let empty = world.core_mut().create_entity().ok().ok_or("a birth")?.build();
+    let empty = world.create_entity().ok().ok_or("a birth")?.build();
     assert_eq!(rt; position(&world, b), Some(Position(3)));
     assert_eq!(rt; health(&world, a), Some(Health(10)));
     assert_eq!(rt; position(&world, empty), None);
@@ -80,7 +80,7 @@ fn entities_are_built_read_and_written(rt: HostRuntime) -> Result<(), Fail> {
 #[test]
 fn a_builder_that_is_dropped_marks_its_entity(rt: HostRuntime) -> Result<(), Fail> {
     let mut world = registered(rt.alloc())?;
-    let builder = world.core_mut().create_entity().ok().ok_or("a birth")?;
+    let builder = world.create_entity().ok().ok_or("a birth")?;
     let e = builder.entity();
     drop(builder);
     assert!(rt; world.is_alive(e));
@@ -93,7 +93,7 @@ fn a_builder_that_is_dropped_marks_its_entity(rt: HostRuntime) -> Result<(), Fai
 fn a_refused_component_comes_back_and_its_entity_is_marked(rt: HostRuntime) -> Result<(), Fail> {
     let mut world = World::new(rt.alloc(), Slots::empty());
     world.register::<Health, _>()?;
-    let builder = world.core_mut().create_entity().ok().ok_or("a birth")?;
+    let builder = world.create_entity().ok().ok_or("a birth")?;
     let e = builder.entity();
     let back = match builder.with(Position(5)) {
         Ok(_) => None,
@@ -109,7 +109,7 @@ fn a_refused_component_comes_back_and_its_entity_is_marked(rt: HostRuntime) -> R
 fn a_type_without_a_storage_is_unregistered(rt: HostRuntime) -> Result<(), Fail> {
     let mut world = World::new(rt.alloc(), Slots::empty());
     assert_eq!(rt; world.read_storage::<Position, _>().err(), Some(Unregistered));
-    assert_eq!(rt; world.core_mut().write_storage::<Position, _>().err(), Some(Unregistered));
+    assert_eq!(rt; world.write_storage::<Position, _>().err(), Some(Unregistered));
     Ok(())
 }
 

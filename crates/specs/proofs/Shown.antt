@@ -1,18 +1,21 @@
 -- What a table shows of a change of one of its parts.
 use Rattle.std.proofs.Common.{◌≡◌, ◌≢◌, ℕ, ◌==◌, Bool, true, false, cond, refl, sym, ap, ◌∙◌, inl, inr, subst, Option, Some, None}
 use mathlib.Core.Path.{fun_ext}
-use Rattle.std.specs.Prelude.{List, is_some, IsSome, ◌⊎◌, MatchOption, Result, Ok, Err, OnOk, OnErr, IfOk, IfErr}
+use Rattle.std.specs.Prelude.{List, is_some, ◌⊎◌, MatchOption, Result, Ok, Err, OnOk, OnErr, IfOk, IfErr}
 use Rattle.std.specs.Option.{option_map}
 use Rattle.entities.specs.declared.entity.Entity.{Entity}
-use Rattle.entities.specs.Population.{Population, IsAlive, index_of}
-use Rattle.specs.specs.Maps.{Map, has_value}
+use Rattle.entities.specs.Population.{Population, index_of}
+use Rattle.std.specs.Ordering.{nat_cmp}
+use Rattle.std.specs.FinMap as map
+use Rattle.specs.specs.Registering.{RegistersAs}
+use Rattle.specs.specs.Maps.{Map, has_value, no_value}
 use Rattle.specs.specs.Column.{Column, IsFresh, WantsNone, with_value, without_value, without_values, emptied}
 use Rattle.hibits.specs.Left.{left}
 use Rattle.storages.specs.Channel.{Channel, emitted, emitted_removals}
 use Rattle.storages.specs.Removals.{lost}
 use Rattle.storages.specs.declared.event.ComponentEvent.TheVariants.{Inserted, Modified, Removed}
 use Rattle.specs.proofs.Values.{column_is}
-use Rattle.specs.specs.Table.{Table, Becomes, Begins, Registers, Inserts, InsertIsRefused, InsertWantsMemory, Gets, GetIsRefused, CopyWantsMemory, Removes, Clears, ClearIsRefused, IsMask}
+use Rattle.specs.specs.Table.{Table, Becomes, Begins, Registers, Inserts, Gets, Removes, Clears, ClearIsRefused}
 use Rattle.specs.specs.declared.command.Refusal.{Refusal}
 use Rattle.specs.specs.declared.command.Refusal.TheVariants.{WrongGeneration as Wrong, Unregistered, IndexLimit, OutOfMemory, Untracked, UnknownReader}
 use Rattle.specs.specs.Readers.{Rechannels, HasChannel, ChannelIsRefused}
@@ -181,3 +184,18 @@ field_removes p o o' e found r = record { column = r.column; registered = r.regi
 
 pub field_clears : {T : Type 0} (o o' : Option (Column T)) → FieldClears o o' → Clears {K = Unit {0}} (λ _. o) tt (λ _. o')
 field_clears o o' c = record { column = c.column; registered = c.registered; cleared = field_becomes o o' _ c.cleared }
+
+-- of a law that one slot alone changes: the others stay
+pub others_stay : {K V : Type 0} (slot : K) (old new : Table K V) → ((k : K) → (k ≡ slot) ⊎ (new k ≡ old k)) → (k : K) → k ≢ slot → new k ≡ old k
+others_stay slot old new only k d = elim (only k) [
+  | inl e ↦ absurd (d e)
+  | inr e ↦ e
+]
+
+-- an empty map has no value of any type
+pub no_values_as : {T V : Type 0} (value : T → V) (m : map.FinMap nat_cmp T) → m ≡ map.empty → (λ (i : ℕ). option_map value (map.get m i)) ≡ no_value
+no_values_as value m e = fun_ext (λ i. ap (λ (n : map.FinMap nat_cmp _). option_map value (map.get n i)) e ∙ ap (option_map value) (map.get-empty nat_cmp i))
+
+-- a slot where none was
+pub registers_as : {K V : Type 0} (slot : K) (old new : Table K V) (column : Column V) → old slot ≡ None → new slot ≡ Some column → ((k : K) → k ≢ slot → new k ≡ old k) → RegistersAs old slot column new
+registers_as slot old new column none here others = rw none (record { here = here; others = others })

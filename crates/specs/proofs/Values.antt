@@ -1,12 +1,11 @@
 -- What a storage is as a slot, after its calls.
-use Rattle.std.proofs.Common.{◌≡◌, ◌≢◌, ℕ, ◌+◌, Bool, true, false, not, cond, ◌==◌, nat_eq, List, [], ◌∷◌, length, refl, sym, ap, ◌∙◌, inl, inr, subst, Option, Some, None, arith, ◌&&◌, ◌||◌}
+use Rattle.std.proofs.Common.{◌≡◌, ℕ, Bool, true, false, cond, ◌==◌, List, [], ◌∷◌, length, refl, sym, ap, ◌∙◌, inl, inr, Option, Some, None, arith, ◌&&◌, ◌||◌}
 use mathlib.Core.Path.{fun_ext}
-use Rattle.std.specs.Prelude.{IsSome, is_some, ◌⊎◌}
-use Rattle.std.specs.Ordering.{nat_cmp, int_eq}
+use Rattle.std.specs.Prelude.{option_map, IsSome, is_some, ◌⊎◌}
+use Rattle.std.specs.Ordering.{nat_cmp}
 use Rattle.std.specs.Cmp.{nat_cmp_total, unsigned_tied}
 use Rattle.std.specs.FinMap as map
-use Rattle.std.specs.FinSet as set
-use Rattle.std.proofs.lemmas.Bool.{false≢true, both_ways, eq-eqb, ne_eqb, cases_eq}
+use Rattle.std.proofs.lemmas.Bool.{false≢true, eq-eqb, ne_eqb, cases_eq}
 use Rattle.std.proofs.lemmas.Bool.Decides.{nat_tests, Decides-int_eq}
 use Rattle.entities.specs.declared.entity.Entity.{Entity}
 use Rattle.entities.specs.Census.{Census, population}
@@ -27,7 +26,8 @@ use Rattle.specs.specs.Column.{Column, IsFresh, wants_memory, without_value, wit
 use Rattle.std.specs.List.{Contains}
 use Rattle.std.proofs.lemmas.List.Elements.{All-contains_itself}
 use Rattle.hibits.specs.Left.{left, contains-left}
-use Rattle.specs.specs.Field.{values_of, column_of, FieldInserts, FieldGets, FieldRemoves, FieldClears, FieldRechannels}
+use Rattle.specs.specs.Field.{values_of, column_of, field_column, FieldInserts, FieldGets, FieldRemoves, FieldClears, FieldRechannels}
+use Rattle.std.proofs.lemmas.Option.{same_Some}
 
 turned : (a b : ℕ) → (a == b) ≡ (b == a)
 turned a b = grind (arith, nat_tests)
@@ -204,3 +204,8 @@ module _ {T : Type 0} where
     emission = ap (λ (c : Channel). c.emission) channel ∙ new.emission ∙ sym (ap (λ (c : Channel). c.tracked) channel);
     inner = ap is_some (inner ∙ new.inner_room);
   }
+
+-- what is read at an index of a field is what an entity that is alive finds there
+pub found_at : {T : Type 0} (p : Population) (e : Entity) → IsAlive p e → (o : Option (masked.Slot T)) (x : T) → option_map (λ (w : masked.Slot T). map.get w.map (index_of e)) o ≡ Some (Some x) → FieldGets p (field_column o) e (Some x)
+found_at p e alive None x is = absurd (false≢true (ap is_some is))
+found_at p e alive (Some s) x is = record { column = column_of s; registered = refl; alive = λ _. sym (same_Some _ _ is); dead = λ d. absurd (d alive) }

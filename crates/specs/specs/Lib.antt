@@ -16,3 +16,4 @@ pub mod Writing
 pub mod Registering
 pub mod Building
 pub mod Creating
+pub mod Dropping

@@ -1,5 +1,5 @@
 -- What one table shows in another, and its values as values of another type.
-use Rattle.std.specs.Prelude.{◌≡◌, ◌⊎◌, ℕ, Option}
+use Rattle.std.specs.Prelude.{◌≡◌, ◌⊎◌}
 use Rattle.std.specs.Option.{option_map}
 use Rattle.specs.specs.Maps.{Map}
 use Rattle.specs.specs.Column.{Column}

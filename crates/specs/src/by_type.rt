@@ -1,7 +1,8 @@
 //! Calls by a component type: neither its slot, nor its place in the struct, nor the type of all values is written.
-ghost use Rattle.std.specs.Prelude.{◌≡◌, Some, None, IsSome, IfOk, OnOk, OnErr, IfErr};
+ghost use Rattle.std.specs.Prelude.{◌≡◌, ℕ, true, Some, None, IsSome, IfOk, OnOk, OnErr, IfErr};
 ghost use Rattle.std.specs.Option.{option_map};
 ghost use Rattle.entities.specs.Census.{population};
+ghost use Rattle.specs.specs.Registering.{RegistersAs, column_with};
 ghost use Rattle.specs.specs.Table.{Inserts, InsertIsRefused, Gets, Removes, Clears};
 ghost use Rattle.specs.specs.Field.{FieldInserts, FieldGets, FieldRemoves, FieldClears, FieldInsertIsRefused, FieldGetIsRefused, FieldRemoveIsRefused, FieldClearIsRefused, field_column};
 
@@ -10,7 +11,8 @@ use crate::duplicate::Duplicate;
 use crate::field;
 use crate::has::Has;
 use entities::{EntitiesRes, Entity};
-use storages::Component;
+use std::alloc::Global;
+use storages::{Component, MaskedStorage};
 
 /// Puts a component at an entity that is alive, and answers the one before. A refused component is handed back, and nothing changed.
 pub fn insert<T: Component, S: Has<T, I>, I>(
@@ -78,5 +80,20 @@ pub fn clear<T: Component, S: Has<T, I>, I>(storages: &mut S) -> Result<(), Refu
     match storages.field_mut() {
         Some(storage) => field::clear_in::<T>(storage),
         None => Err(Refusal::Unregistered),
+    }
+}
+
+/// Takes an empty storage where none was, else lets it go and changes nothing. The slot has the readers and the emission that the storage
+/// has.
+pub fn register_with<T: Component, S: Has<T, I>, I>(
+    storages: &mut S,
+    alloc: Global,
+    storage: T::Storage,
+)
+    requires { (q : ℕ) → (T.Storage.meaning storage).is_free q ≡ true }
+    ensures { RegistersAs (S.table storages.old) S.the_slot (column_with (T.Storage.meaning storage)) (S.table storages.new) }
+{
+    if storages.field().is_none() {
+        storages.set_field(MaskedStorage::new(alloc, storage));
     }
 }

@@ -7,6 +7,7 @@ pub mod by_type;
 mod command;
 mod core_parts;
 mod create_iter;
+mod dropping;
 mod duplicate;
 pub mod field;
 mod has;
@@ -15,7 +16,7 @@ mod selection;
 mod slots;
 mod typed;
 mod world;
-mod world_typed;
+mod world_deref;
 mod writing;
 
 pub use builder::{Builder, EntityBuilder};

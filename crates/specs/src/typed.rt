@@ -7,13 +7,14 @@ ghost use Rattle.specs.specs.State.{core_state, OnTable};
 ghost use Rattle.specs.specs.Table.{Registers};
 ghost use Rattle.specs.specs.Writing.{lent, RestsUnregistered};
 
+use crate::by_type;
 use crate::core_parts::Core;
 use crate::has::{Field, Has};
 use crate::slots::Storages;
 use crate::writing::Writing;
 use std::alloc::AllocError;
 use std::marker::PhantomData;
-use storages::{Component, MaskedStorage, ReadStorage};
+use storages::{Component, ReadStorage};
 use thiserror::Error;
 
 /// No storage is registered for the component type. Nothing changed.
@@ -41,11 +42,7 @@ impl<S: Storages> Core<S> {
         requires { (q : ℕ) → (T.Storage.meaning storage).is_free q ≡ true }
         ensures { OnTable (λ t t'. RegistersAs t S.the_slot (column_with (T.Storage.meaning storage)) t') (core_state S.table self.old) (core_state S.table self.new) }
     {
-        if self.parts.storages.field().is_none() {
-            self.parts
-                .storages
-                .set_field(MaskedStorage::new(self.alloc, storage));
-        }
+        by_type::register_with(&mut self.parts.storages, self.alloc, storage);
     }
 
     /// The storage of a component type, to read. Ports `WorldExt::read_storage`.

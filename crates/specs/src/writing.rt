@@ -2,20 +2,22 @@
 ghost use Rattle.std.specs.Prelude.{◌≡◌, ◌↔◌, Some, IsSome, IsTrue, IfOk, IfErr, OnOk, OnErr, option_copied};
 ghost use Rattle.std.specs.Borrow.{sem};
 ghost use Rattle.std.specs.Option.{option_map};
+ghost use Rattle.std.specs.FinMap as map;
 ghost use Rattle.storages.specs.ReadView as reading;
+ghost use Rattle.storages.specs.Slot as masked;
 ghost use Rattle.specs.specs.Field.{FieldInserts, FieldGets, FieldRemoves, FieldClears, WriteIsRefused, Holds, field_column};
 ghost use Rattle.specs.specs.State.{OnTable};
 ghost use Rattle.specs.specs.Table.{Inserts, Gets, Removes, RemovalWantsMemory, Clears, ClearingWantsMemory};
-ghost use Rattle.specs.specs.Writing.{lent, storages_of, shown, LendsMasked, LendsHere};
+ghost use Rattle.specs.specs.Writing.{lent, storages_of, shown, LendsMasked, LendsHere, LendsValue, LendsComponent};
 
 use crate::command::Refusal;
 use crate::core_parts::{Core, Parts};
 use crate::has::{Field, Has};
 use crate::{by_type, field};
-use entities::Entity;
+use entities::{Entity, Index};
 use std::alloc::AllocError;
 use std::marker::PhantomData;
-use storages::{Component, InsertError, MaskedStorage, ReadStorage};
+use storages::{Component, InsertError, MaskedStorage, NotLent, ReadStorage};
 
 /// The storage of a component type in a core, to write to. It holds the core, so that each call through it is one of the core's. The
 /// component type is registered when the view is made, and no call of the view ends that. Ports `specs::WriteStorage` of a world.
@@ -116,6 +118,20 @@ impl<'a, S: Has<T, I>, T: Component, I> Writing<'a, S, T, I> {
         }
     }
 
+    /// The component of an entity that is alive, to write to. Ports `Storage::get_mut`.
+    pub fn get_mut(&mut self, e: Entity) -> Result<&mut T, NotLent>
+        requires { IsSome (S.part (storages_of self.old)) }
+        ensures* writes_back { sem 𝓛 (LendsComponent S.row T.row I.row S.part S.with_part self.entry e result) }
+        ensures value { IfOk result (λ x. FieldGets (shown S.table self.old).people (field_column (S.part (storages_of self.old))) e (Some x.now)) }
+    {
+        if !self.core.parts.entities.is_alive(e) {
+            return Err(NotLent::Absent);
+        }
+        let core = &mut *self.core;
+        let parts = &mut core.parts;
+        component_mut(&mut parts.storages, e.id())
+    }
+
     /// The storage without the entities: its components to write to, its channel, its cursors.
     pub fn masked_mut(&mut self) -> &mut MaskedStorage<T>
         requires { IsSome (S.part (storages_of self.old)) }
@@ -127,6 +143,18 @@ impl<'a, S: Has<T, I>, T: Component, I> Writing<'a, S, T, I> {
         let storages = &mut parts.storages;
         here(storages)
     }
+}
+
+// The component of an index in the storage of its type.
+fn component_mut<T: Component, S: Has<T, I>, I>(
+    storages: &mut S,
+    id: Index,
+) -> Result<&mut T, NotLent>
+    requires { IsSome (S.part storages.old) }
+    ensures* writes_back { sem 𝓛 (LendsValue S.row T.row S.part S.with_part storages.entry id result) }
+    ensures value { IfOk result (λ x. option_map (λ (w : masked.Slot T). map.get w.map id) (S.part storages.old) ≡ Some (Some x.now)) }
+{
+    here(storages).get_mut(id)
 }
 
 // The storage of a component type that is registered.
