@@ -4,6 +4,7 @@
 mod change_set;
 mod combine;
 mod components;
+mod consumed;
 mod cursors;
 mod indexed;
 mod iter;
@@ -19,6 +20,7 @@ mod tuples;
 
 pub use change_set::{ChangeError, ChangeSet};
 pub use combine::{Combine, Refused};
+pub use cursors::change_join::ChangeJoin;
 pub use cursors::drain::Drain;
 pub use cursors::entry_join::EntryJoin;
 pub use cursors::join_living::JoinLiving;
