@@ -1,6 +1,7 @@
 //! Joins over sets, storages and entities, and change sets: values that combine at each entity until they are applied.
 #![tactic(auto)]
 
+mod bit_and;
 mod change_set;
 mod combine;
 mod components;
@@ -18,6 +19,7 @@ mod restricted;
 mod sets;
 mod tuples;
 
+pub use bit_and::BitAnd;
 pub use change_set::{ChangeError, ChangeSet};
 pub use combine::{Combine, Refused};
 pub use cursors::change_join::ChangeJoin;
