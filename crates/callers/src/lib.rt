@@ -10,6 +10,7 @@ mod joined;
 mod own_world;
 mod phases;
 mod sets;
+mod typed;
 mod worlds;
 
 pub use channels::{heard, read_twice, told};
@@ -31,4 +32,5 @@ pub use phases::{marked_at_closing, sees_its_own, two_births};
 pub use sets::{
     added_and_found, first_is_member, none_to_walk, one, others_stay, removed_and_gone,
 };
+pub use typed::{built_with, stripped, two_written, written_and_found};
 pub use worlds::{deleted_is_gone, is_back, lived, position, removed_unheard};

@@ -6,8 +6,8 @@ ghost use Rattle.specs.specs.declared.command.Command.TheVariants.{Insert};
 ghost use Rattle.specs.specs.Reached.{OnlyLiving};
 ghost use Rattle.specs.specs.State.{state_of};
 
-use composed::{Empty, Has, Of5, by_type, slot, value};
-use specs::{Command, EntitiesRes, Entity, Refusal, Storages, World};
+use composed::{Empty, Of5};
+use specs::{Command, EntitiesRes, Entity, Has, Refusal, Storages, World, by_type, slot, value};
 use std::alloc::Global;
 use storages::{
     Component, DenseVecStorage, HashMapStorage, NullComponent, NullStorage, VecStorage,
@@ -88,7 +88,7 @@ pub fn loaded(
 }
 
 /// A component that was put at an entity is found there, in whichever struct of storages.
-#[tactic(auto, using(composed::specs::Finds::found_put))]
+#[tactic(auto, using(specs::specs::Finds::found_put))]
 pub fn put_and_found<T: Component + Copy, S: Has<T, I>, I>(
     storages: &mut S,
     entities: &EntitiesRes,

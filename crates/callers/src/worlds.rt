@@ -5,9 +5,11 @@ ghost use Rattle.specs.specs.Gone.{IsGone};
 ghost use Rattle.specs.specs.Reached.{OnlyLiving};
 ghost use Rattle.specs.specs.State.{state_of};
 
-use composed::{Empty, component};
+use composed::Empty;
 use slots::{POS, Position, Slot, Slots, Value};
-use specs::{Command, DeleteError, EntitiesRes, Entity, Refusal, Reply, Storages, World};
+use specs::{
+    Command, DeleteError, EntitiesRes, Entity, Refusal, Reply, Storages, World, component,
+};
 use std::alloc::{AllocError, Global};
 
 /// Whatever a new world is asked to do, each component belongs to a living entity.

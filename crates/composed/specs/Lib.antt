@@ -1,5 +1,2 @@
 pub mod Both
-pub mod Field
-pub mod Finds
-pub mod Lending
 pub mod Places

@@ -7,7 +7,8 @@ use Rattle.specs.specs.Column.{Column}
 use Rattle.specs.specs.Table.{Table}
 use Rattle.composed.specs.declared.either.Either.{Either}
 use Rattle.composed.specs.declared.either.Either.TheVariants.{First, Rest}
-use Rattle.composed.specs.Both.{column_as, table_of_both}
+use Rattle.specs.specs.Shows.{column_as}
+use Rattle.composed.specs.Both.{table_of_both}
 
 itself : {V : Type 0} (o : Option V) → o ≡ option_map (λ x. x) o
 itself None = refl

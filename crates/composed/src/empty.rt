@@ -3,9 +3,8 @@ ghost use Rattle.std.specs.Prelude.{◌≡◌, None};
 ghost use Rattle.specs.specs.Reached.{HasNoValue};
 
 use crate::both::Both;
-use crate::duplicate::Duplicate;
 use crate::only::Only;
-use specs::Storages;
+use specs::{Duplicate, Storages};
 use storages::{Component, MaybeTracked};
 
 /// A struct of storages that can be made empty.
@@ -20,14 +19,14 @@ impl<T: Component + Duplicate> Empty for Only<T>
 where
     T::Storage: MaybeTracked<T>,
 {
-    #[tactic(auto, using(crate::proofs::Shown::has_no_value))]
+    #[tactic(auto, using(crate::proofs::Parts::has_no_value))]
     fn empty() -> Self {
         Only::new()
     }
 }
 
 impl<A: Empty, B: Empty> Empty for Both<A, B> {
-    #[tactic(auto, using(crate::proofs::Shown::has_no_value))]
+    #[tactic(auto, using(crate::proofs::Parts::has_no_value))]
     fn empty() -> Self {
         Both {
             first: A::empty(),

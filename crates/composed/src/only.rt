@@ -1,8 +1,6 @@
 //! A struct of storages for one component type.
-use crate::duplicate::Duplicate;
-use crate::field;
 use hibits::BitSet;
-use specs::{ComponentEvent, EntitiesRes, Entity, ReaderId, Refusal, Storages};
+use specs::{ComponentEvent, Duplicate, EntitiesRes, Entity, ReaderId, Refusal, Storages, field};
 use std::alloc::{AllocError, Global};
 use storages::{Component, MaskedStorage, MaybeTracked};
 
@@ -35,7 +33,7 @@ impl<T: Component + Duplicate> Storages for Only<T>
 where
     T::Storage: MaybeTracked<T>,
 {
-    ghost use Rattle.composed.specs.Field.{field_column, field_room};
+    ghost use Rattle.specs.specs.Field.{field_column, field_room};
     ghost use Rattle.composed.specs.declared.only.Sole.TheVariants.{Sole};
 
     type Slot = Sole;

@@ -1,8 +1,8 @@
 //! Slots that compose: what is told of each change, and calls by type.
-use composed::{Either, Empty, Of2, Sole, by_type};
+use composed::{Either, Empty, Of2, Sole};
 use entities::EntitiesRes;
 use slots::{Health, Position};
-use specs::{Entity, Storages};
+use specs::{Entity, Storages, by_type};
 use std::alloc::Global;
 use std::test::Fail;
 use storages::ComponentEvent::{Inserted, Modified, Removed};

@@ -12,6 +12,8 @@ mod runs;
 mod scripts;
 mod small;
 #[cfg(test)]
+mod typed_worlds;
+#[cfg(test)]
 mod upstream_births;
 #[cfg(test)]
 mod upstream_entities;

@@ -1,8 +1,8 @@
 //! Tests of specs on mixed births and deaths, by their names there.
 use crate::small::{POS, Slot, Small, Value};
-use composed::{Empty, component, value};
+use composed::Empty;
 use slots::Position;
-use specs::{Command, Entity, Reply, SetExpr, World};
+use specs::{Command, Entity, Reply, SetExpr, World, component, value};
 use std::alloc::Global;
 use std::collections::HashSet;
 use std::test::Fail;

@@ -1,9 +1,9 @@
 //! Worlds, by their calls.
 use crate::callers::{born_in_a_phase, is_gone};
 use crate::small::{POS, Slot, Small, TAG, Value};
-use composed::{Empty, value};
+use composed::Empty;
 use slots::{Position, Tag};
-use specs::{Command, DeleteError, Entity, Refusal, Reply, SetExpr, World};
+use specs::{Command, DeleteError, Entity, Refusal, Reply, SetExpr, World, value};
 use std::alloc::{AllocError, Global};
 use std::process::Abort;
 use std::test::Fail;

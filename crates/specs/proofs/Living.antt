@@ -1,16 +1,15 @@
 -- A step keeps it that each index with a value lives.
-use Rattle.std.proofs.Common.{◌≡◌, ◌≢◌, ℕ, ◌+◌, ◌<◌, Bool, true, false, not, zero, suc, ◌≤◌, ◌^◌, ◌&&◌, ◌||◌, cond, eqb, List, [], ◌∷◌, refl, sym, ap, ◌∙◌, subst, inl, inr, Option, Some, None, arith}
-use Rattle.std.specs.Prelude.{IsSome, is_some, MatchOption, ◌⊎◌, nat_lt, if◌then◌else◌}
+use Rattle.std.proofs.Common.{◌≡◌, ℕ, ◌+◌, ◌<◌, Bool, true, false, not, zero, suc, ◌≤◌, ◌^◌, ◌&&◌, ◌||◌, cond, eqb, List, [], ◌∷◌, refl, sym, ap, ◌∙◌, subst, inl, inr, Option, Some, None, arith}
+use Rattle.std.specs.Prelude.{IsSome, is_some, MatchOption, ◌⊎◌}
 use Rattle.std.specs.Option.{option_map}
-use Rattle.std.proofs.lemmas.Bool.{false≢true, both_ways, cases_Bool, cases_eq, eq-eqb, ne_eqb, or_cases}
+use Rattle.std.proofs.lemmas.Bool.{false≢true, both_ways, cases_Bool, cases_eq, eq-eqb, ne_eqb}
 use Rattle.std.proofs.lemmas.Bool.{ltb-true}
 use Rattle.std.proofs.lemmas.Option.{same_Some, none-some}
-use Rattle.std.specs.List.{list_any}
 use Rattle.std.specs.Prelude.{map}
 use Rattle.hibits.specs.declared.limits.TheConstants.{INDEX_LIMIT}
 use Rattle.hibits.specs.Left.{left, passing}
 use Rattle.entities.specs.declared.entity.Entity.{Entity}
-use Rattle.entities.specs.Population.{index_of, Population, IsAlive, MayBeBorn, lives, born, born_pending, one_birth, with_one, is_free}
+use Rattle.entities.specs.Population.{index_of, Population, IsAlive, MayBeBorn, lives, born, born_pending, one_birth, is_free}
 use Rattle.entities.specs.Deaths.{has_index, all_dead}
 use Rattle.entities.specs.Merges.{the_marked, merge, living_entity}
 use Rattle.specs.specs.Maps.{Map, put, without_one}
@@ -19,12 +18,12 @@ use Rattle.specs.specs.declared.command.Command.{Command}
 use Rattle.specs.specs.declared.command.Command.TheVariants.{Register, Create, CreatePending, Delete, MarkDead, IsAlive as AskAlive, IsLiving as AskLiving, EntityAt, Insert, Get, Remove, Clear, Count as AskCount, Select, Maintain, Reader, Events, DropReader, Emit}
 use Rattle.specs.specs.declared.command.Reply.{Reply}
 use Rattle.specs.specs.declared.command.Reply.TheVariants.{Done, Entity as Told, Bool as Yes, Value, Count, Indices, Maintained as Kept, Reader as NewReader, Events as Given, Refused, InsertRefused}
-use Rattle.specs.specs.declared.command.Refusal.TheVariants.{WrongGeneration as Wrong, Unregistered, IndexLimit, OutOfMemory}
-use Rattle.specs.specs.Table.{Table, Becomes, Begins, Registers, Inserts, Removes, Clears}
+use Rattle.specs.specs.declared.command.Refusal.TheVariants.{WrongGeneration as Wrong, IndexLimit, OutOfMemory}
+use Rattle.specs.specs.Table.{Table, Becomes, Begins, Removes}
 use Rattle.storages.specs.Channel.{Channel}
 use Rattle.specs.specs.Readers.{Rechannels}
-use Rattle.specs.specs.People.{Births, Deaths, Marks}
-use Rattle.specs.specs.State.{State, OnPeople, OnTable, Deletes, Maintains, Step, Run}
+use Rattle.specs.specs.People.{Births, Marks}
+use Rattle.specs.specs.State.{State, OnPeople, Deletes, Step, Run}
 use Rattle.specs.specs.Reached.{IsNew, OnlyLiving}
 
 -- a table's values are at indices of a set

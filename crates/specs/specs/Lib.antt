@@ -9,3 +9,11 @@ pub mod Reached
 pub mod Gone
 pub mod Refused
 pub mod Lending
+pub mod Shows
+pub mod Field
+pub mod Finds
+pub mod Writing
+pub mod Registering
+pub mod Building
+pub mod Creating
+pub mod Dropping

@@ -1,5 +1,5 @@
 -- What holds of each state that a run reaches from a new world.
-use Rattle.std.specs.Prelude.{◌≡◌, ℕ, ◌<◌, true, List, Some, None, IsSome}
+use Rattle.std.specs.Prelude.{◌≡◌, ℕ, ◌<◌, true, Some, None, IsSome}
 use Rattle.hibits.specs.declared.limits.TheConstants.{INDEX_LIMIT}
 use Rattle.entities.specs.Population.{lives, no_one}
 use Rattle.specs.specs.Column.{Column}

@@ -1,7 +1,9 @@
 -- Refusals of the world's own calls.
 use Rattle.std.specs.Prelude.{◌≡◌, Bool, List}
 use Rattle.entities.specs.declared.entity.Entity.{Entity}
-use Rattle.entities.specs.Population.{born_as}
+use Rattle.entities.specs.declared.allocator.births.CreateError.{CreateError}
+use Rattle.entities.specs.declared.allocator.births.CreateError.TheVariants.{IndexLimit as NoIndex, OutOfMemory as NoRoom}
+use Rattle.entities.specs.Population.{Population, born_as}
 use Rattle.specs.specs.declared.core_parts.DeleteError.{DeleteError}
 use Rattle.specs.specs.declared.core_parts.DeleteError.TheVariants.{WrongGeneration as NotDeleted, OutOfMemory as NoMemory}
 use Rattle.specs.specs.declared.command.Reply.{Reply}
@@ -11,6 +13,11 @@ use Rattle.specs.specs.declared.command.Refusal.TheVariants.{WrongGeneration as 
 use Rattle.specs.specs.People.{Births, IsFull, BirthWantsMemory, DeathIsRefused}
 use Rattle.specs.specs.Table.{Table, Counts, IsUnregistered}
 use Rattle.specs.specs.State.{State, OnPeople, DeletionWantsMemory}
+
+-- why a birth is refused
+abbrev pub BirthIsRefused : Population → CreateError → Type 0
+BirthIsRefused p NoIndex = IsFull p
+BirthIsRefused p NoRoom = BirthWantsMemory p
 
 abbrev pub DeleteIsRefused : {K V : Type 0} → State K V → List Entity → DeleteError → Type 0
 DeleteIsRefused s es (NotDeleted w) = DeathIsRefused s.people es w

@@ -1,5 +1,5 @@
 -- The world as a machine: its states, its steps and its runs.
-use Rattle.std.specs.Prelude.{◌≡◌, ℕ, Bool, false, List, [], ◌∷◌, IsTrue, ◌↔◌, Option, Some, None}
+use Rattle.std.specs.Prelude.{◌≡◌, ℕ, Bool, false, List, [], ◌∷◌, IsTrue, ◌↔◌, None}
 use Rattle.std.specs.Option.{option_map}
 use Rattle.hibits.specs.Left.{left}
 use Rattle.entities.specs.declared.entity.Entity.{Entity}
@@ -13,9 +13,9 @@ use Rattle.specs.specs.declared.command.Command.{Command}
 use Rattle.specs.specs.declared.command.Command.TheVariants.{Register, Create, CreatePending, Delete, MarkDead, IsAlive as AskAlive, IsLiving as AskLiving, EntityAt, Insert, Get, Remove, Clear, Count as AskCount, Select, Maintain, Reader, Events, DropReader, Emit}
 use Rattle.specs.specs.declared.command.Reply.{Reply}
 use Rattle.specs.specs.declared.command.Reply.TheVariants.{Done, Entity as Told, Bool as Yes, Value, Count, Indices, Maintained as Kept, Reader as NewReader, Events as Given, Refused, InsertRefused}
-use Rattle.specs.specs.declared.command.Refusal.{Refusal}
-use Rattle.specs.specs.declared.command.Refusal.TheVariants.{WrongGeneration as Wrong, Unregistered, IndexLimit, OutOfMemory}
+use Rattle.specs.specs.declared.command.Refusal.TheVariants.{WrongGeneration as Wrong, IndexLimit, OutOfMemory}
 use Rattle.specs.specs.declared.core_parts.Core.{Core}
+use Rattle.specs.specs.declared.core_parts.Parts.{Parts}
 use Rattle.specs.specs.declared.world.World.{World}
 use Rattle.specs.specs.Column.{without_values}
 use Rattle.specs.specs.People.{Births, IsFull, BirthWantsMemory, Deaths, DeathIsRefused, Marks, MarkIsRefused, IsEntityAt, NoneMarked}
@@ -27,9 +27,13 @@ pub record State (K V : Type 0) : Type 0 where
   pub people : Population
   pub table : Table K V
 
+-- what entities and storages show
+abbrev pub parts_state : {S K V : Type 0} → (S → Table K V) → Parts S → State K V
+parts_state table p = record { people = population p.entities; table = table p.storages }
+
 -- what a core shows
 abbrev pub core_state : {S K V : Type 0} → (S → Table K V) → Core S → State K V
-core_state table c = record { people = population c.parts.entities; table = table c.parts.storages }
+core_state table c = parts_state table c.parts
 
 -- what a world shows
 abbrev pub state_of : {S K V : Type 0} → (S → Table K V) → World S → State K V

@@ -1,5 +1,5 @@
 -- Component tables: for each slot its values and its channel, or nothing where the slot is not registered.
-use Rattle.std.specs.Prelude.{◌≡◌, ◌≢◌, ℕ, Bool, false, List, Option, Some, None, IsSome, IsTrue, MatchOption, length}
+use Rattle.std.specs.Prelude.{◌≡◌, ◌≢◌, ℕ, Bool, Option, Some, None, IsSome, IsTrue, MatchOption, length}
 use Rattle.std.specs.FinSet as set
 use Rattle.hibits.specs.Sets.{Layered}
 use Rattle.hibits.specs.Left.{left}

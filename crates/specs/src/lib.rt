@@ -1,19 +1,36 @@
 //! A world of entities and component storages, for any struct of storages: a port of the crate `specs`.
 #![tactic(auto)]
 
+mod builder;
+mod building;
+pub mod by_type;
 mod command;
 mod core_parts;
+mod create_iter;
+mod dropping;
+mod duplicate;
+pub mod field;
+mod has;
 mod laws;
 mod selection;
 mod slots;
+mod typed;
 mod world;
+mod world_deref;
+mod writing;
 
+pub use builder::{Builder, EntityBuilder};
 pub use command::{Command, Maintained, Refusal, Reply, SetExpr};
 pub use core_parts::{Core, DeleteError, Parts};
+pub use create_iter::CreateIter;
+pub use duplicate::Duplicate;
 pub use entities::{
     Allocator, CreateError, EntitiesRes, Entity, Error, Generation, Index, WrongGeneration,
 };
+pub use has::{Field, Has, component, slot, value};
 pub use laws::{only_living, stays_dead};
 pub use slots::Storages;
 pub use storages::{ComponentEvent, ReaderId};
+pub use typed::Unregistered;
 pub use world::World;
+pub use writing::Writing;

@@ -1,4 +1,5 @@
-use Rattle.composed.proofs.Shown.{in_first, in_rest, on_ok, shown_registers}
+use Rattle.composed.proofs.Parts.{in_first, in_rest}
+use Rattle.specs.proofs.Shown.{on_ok, shown_registers}
 use Rattle.composed.proofs.both.BothStorages.register.Goals as goal
 
 pub returns-in-First-clause-ok : goal.returns-in-First-clause-ok

@@ -1,4 +1,5 @@
-use Rattle.composed.proofs.Shown.{in_first, in_rest, if_ok, if_err, shown_rechannels, shown_channel_refused}
+use Rattle.composed.proofs.Parts.{in_first, in_rest}
+use Rattle.specs.proofs.Shown.{if_ok, if_err, shown_rechannels, shown_channel_refused}
 use Rattle.composed.proofs.both.BothStorages.register_reader.Goals as goal
 
 pub returns-in-First-clause-ok : goal.returns-in-First-clause-ok

@@ -1,4 +1,5 @@
-use Rattle.composed.proofs.Shown.{in_first, in_rest, shown_removes}
+use Rattle.composed.proofs.Parts.{in_first, in_rest}
+use Rattle.specs.proofs.Shown.{shown_removes}
 use Rattle.composed.proofs.both.BothStorages.remove.Goals as goal
 
 pub returns-in_ok-remove-in-First-clause-ok : goal.returns-in_ok-remove-in-First-clause-ok

@@ -1,4 +1,4 @@
-use Rattle.std.proofs.Common.{◌≡◌, refl, ◌∙◌}
+use Rattle.std.proofs.Common.{refl, ◌∙◌}
 use Rattle.hibits.specs.Sets.{has_part_zero}
 use Rattle.specs.proofs.core_parts.Core.+mask_of.Goals as goal
 

@@ -1,4 +1,4 @@
-use Rattle.std.proofs.Common.{◌≡◌, ℕ, Bool, ◌++◌, [], rules, ap, sym, ◌∙◌, append-nil}
+use Rattle.std.proofs.Common.{ℕ, Bool, rules, ap, sym, ◌∙◌, append-nil}
 use mathlib.Core.Path.{fun_ext}
 use Rattle.hibits.specs.Left.{left}
 use Rattle.hibits.specs.MaskExprs.{expr_has}

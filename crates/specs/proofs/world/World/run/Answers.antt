@@ -1,8 +1,8 @@
-use Rattle.std.proofs.Common.{◌≡◌, ℕ, ◌+◌, ◌<◌, [], ◌∷◌, ◌++◌, length, rules, arith, ap, sym, ◌∙◌, length-append, append-nil, subst, List}
+use Rattle.std.proofs.Common.{◌≡◌, ◌<◌, [], ◌∷◌, ◌++◌, length, rules, arith, ap, sym, ◌∙◌, length-append, append-nil}
 use Rattle.std.proofs.lemmas.List.{length_push, nil_from_length}
 use Rattle.std.specs.Vec.{vec_len, vec_capacity}
 use Rattle.std.specs.Vec.Iter.{into_iter_items}
-use Rattle.specs.specs.State.{state_of, Run}
+use Rattle.specs.specs.State.{state_of}
 use Rattle.specs.proofs.Gone.{gone_run}
 use Rattle.specs.proofs.Living.{keeps_run}
 use Rattle.specs.proofs.Runs.{run_more, taken_front}

@@ -1,0 +1,69 @@
+//! Storages of cores and worlds by component types, and builders.
+ghost use Rattle.std.specs.Prelude.{◌≡◌, true, MatchOption, IfOk, OnErr};
+ghost use Rattle.entities.specs.Population.{born, IsMerged};
+ghost use Rattle.specs.specs.People.{Births};
+ghost use Rattle.specs.specs.State.{core_state, state_of};
+
+use specs::{Builder, Core, Entity, Has, Storages, Unregistered, World};
+use std::alloc::AllocError;
+use storages::Component;
+
+/// A component that was written through a view is found through it.
+#[tactic(auto, using(specs::specs::Finds::found_put))]
+pub fn written_and_found<T: Component + Copy, S: Has<T, I>, I>(
+    core: &mut Core<S>,
+    e: Entity,
+    component: T,
+) -> Result<Option<T>, Unregistered>
+    ensures found { IfOk result (λ found. MatchOption found (Unit {0}) (λ x. x ≡ component)) }
+    ensures people { (core_state S.table core.new).people ≡ (core_state S.table core.old).people }
+    ensures err { OnErr result (core.new ≡ core.old) }
+{
+    let mut view = core.write_storage::<T, I>()?;
+    match view.insert(e, component) {
+        Ok(_before) => Ok(view.get(e).copied()),
+        Err(_refused) => Ok(None),
+    }
+}
+
+/// Through a view nobody is born or dies, in a world too.
+pub fn two_written<T: Component + Drop, S: Has<T, I>, I>(
+    world: &mut World<S>,
+    e: Entity,
+    f: Entity,
+    x: T,
+    y: T,
+) -> Result<(), Unregistered>
+    ensures people { (state_of S.table world.new).people ≡ (state_of S.table world.old).people }
+    ensures err { OnErr result (world.new ≡ world.old) }
+{
+    let mut view = world.write_storage::<T, I>()?;
+    let _ = view.insert(e, x);
+    let _ = view.remove(e);
+    let _ = view.insert(f, y);
+    Ok(())
+}
+
+/// An entity that is built with a component is a birth.
+pub fn built_with<T: Component + Drop, S: Has<T, I>, I>(
+    core: &mut Core<S>,
+    component: T,
+) -> Option<Entity>
+    ensures { MatchOption result (Unit {0}) (λ e. Births born (core_state S.table core.old).people e (core_state S.table core.new).people) }
+{
+    let Ok(builder) = core.create_entity() else {
+        return None;
+    };
+    let Ok(builder) = builder.with::<T, I>(component) else {
+        return None;
+    };
+    Some(builder.build())
+}
+
+/// An entity that loses its components stays alive.
+pub fn stripped<S: Storages>(core: &mut Core<S>, e: Entity) -> Result<bool, AllocError>
+    ensures { IfOk result (λ alive. alive ≡ true → IsMerged (core_state S.table core.old).people e) }
+{
+    core.delete_components(&[e])?;
+    Ok(core.is_alive(e))
+}

@@ -1,0 +1,14 @@
+use Rattle.std.proofs.Common.{rules, refl}
+use Rattle.specs.proofs.writing.component_mut.Goals as goal
+
+pub returns : goal.returns
+returns g c =
+    let slot = c.here.result.now in
+    let after = c.get_mut.follows in (
+      (
+        refl,
+        (λ w. record { slot = slot; left = after.lender w; there = c.here.ensures.slot; writes = after.holds w; now = refl }),
+        record { slot = slot; left = after.lender-at-none; there = c.here.ensures.slot; refuses = after.holds-at-none; now = refl },
+      ),
+      record { writes_back = tt; value = search rules },
+    )

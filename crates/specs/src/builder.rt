@@ -1,0 +1,96 @@
+//! A builder of one entity of a core.
+ghost use Rattle.std.specs.Prelude.{◌≡◌, Some, IfOk, IfErr};
+ghost use Rattle.std.specs.Borrow.{sem};
+ghost use Rattle.specs.specs.Building.{lent_to, built, shown, RestsMarked, PutsIn, MaybePuts};
+ghost use Rattle.specs.specs.Field.{FieldInsertIsRefused, field_column};
+ghost use Rattle.specs.specs.State.{OnTable};
+
+use crate::command::Refusal;
+use crate::core_parts::Core;
+use crate::has::{Field, Has};
+use crate::slots::Storages;
+use entities::Entity;
+use storages::Component;
+
+/// Puts components at an entity that is being built. Ports `specs::Builder`.
+pub trait Builder<S: Storages>: Sized {
+    /// The builder again, once the component is at its entity. A refused call drops the builder, and hands the component back.
+    fn with<T: Component + Drop, I>(self, component: T) -> Result<Self, (Refusal, T)>
+    where
+        S: Has<T, I>;
+
+    /// The same for a component that is there, and without one the builder again.
+    fn maybe_with<T: Component + Drop, I>(self, component: Option<T>) -> Result<Self, (Refusal, T)>
+    where
+        S: Has<T, I>;
+
+    /// The entity, which then is as it is: nothing marks it.
+    fn build(self) -> Entity;
+}
+
+/// A builder of an entity that was born. Dropped unbuilt, it marks the entity if it is alive, in room got when the entity was made.
+/// Ports `specs::world::EntityBuilder`.
+pub struct EntityBuilder<'a, S> {
+    pub(crate) core: &'a mut Core<S>,
+    pub(crate) entity: Entity,
+}
+
+impl<S> Drop for EntityBuilder<'_, S> {
+    ghost use Rattle.specs.specs.Building.{lent_to, built, IsDropped};
+
+    fn drop(self)
+        ensures { IsDropped (lent_to self.entry).now (built self.entry) self.exit.0.now }
+    {
+        let EntityBuilder { core, entity } = self;
+        let _ = core.parts.entities.delete(entity);
+    }
+}
+
+impl<'a, S> EntityBuilder<'a, S> {
+    /// The entity that is being built.
+    pub fn entity(&self) -> Entity
+        ensures { result ≡ built self.now }
+    {
+        self.entity
+    }
+}
+
+impl<'a, S: Storages> Builder<S> for EntityBuilder<'a, S> {
+    fn with<T: Component + Drop, I>(self, component: T) -> Result<Self, (Refusal, T)>
+    where
+        S: Has<T, I>,
+        ensures* rests { sem 𝓛 (RestsMarked S.row S.table self.entry result) }
+        ensures same_reference { IfOk result (λ b. (lent_to b).ghost_name ≡ (lent_to self.entry).ghost_name) }
+        ensures entity { IfOk result (λ b. built b ≡ built self.entry) }
+        ensures ok { IfOk result (λ b. OnTable (λ t t'. PutsIn S.place (shown S.table self.entry).people t (built self.entry) (S.as_value component) t') (shown S.table self.entry) (shown S.table b)) }
+        ensures refused { IfErr result (λ r. FieldInsertIsRefused (shown S.table self.entry).people (field_column (S.part (lent_to self.entry).now.parts.storages)) (built self.entry) r.0) }
+        ensures back { IfErr result (λ r. r.1 ≡ component) }
+    {
+        let EntityBuilder { core, entity } = self;
+        core.build_with(entity, component)
+    }
+
+    fn maybe_with<T: Component + Drop, I>(self, component: Option<T>) -> Result<Self, (Refusal, T)>
+    where
+        S: Has<T, I>,
+        ensures* rests { sem 𝓛 (RestsMarked S.row S.table self.entry result) }
+        ensures same_reference { IfOk result (λ b. (lent_to b).ghost_name ≡ (lent_to self.entry).ghost_name) }
+        ensures entity { IfOk result (λ b. built b ≡ built self.entry) }
+        ensures ok { IfOk result (λ b. MaybePuts S.place S.as_value (built self.entry) component (shown S.table self.entry) (shown S.table b)) }
+        ensures back { IfErr result (λ r. component ≡ Some r.1) }
+    {
+        let EntityBuilder { core, entity } = self;
+        match component {
+            Some(component) => core.build_with(entity, component),
+            None => Ok(EntityBuilder { core, entity }),
+        }
+    }
+
+    fn build(self) -> Entity
+        ensures entity { result ≡ built self.entry }
+        ensures core { self.exit.0.now ≡ (lent_to self.entry).now }
+    {
+        let EntityBuilder { core: _, entity } = self;
+        entity
+    }
+}

@@ -1,0 +1,33 @@
+//! Entities that are born as they are asked for.
+use crate::core_parts::Core;
+use entities::{CreateError, Entity};
+
+/// Entities that are born at once, as they are asked for. It ends where no index is left, and after want of memory, which is its last
+/// item. Ports `specs::world::CreateIter`.
+#[derive(Drop)]
+pub struct CreateIter<'a, S> {
+    pub(crate) core: &'a mut Core<S>,
+    pub(crate) ended: bool,
+}
+
+impl<'a, S> Iterator for CreateIter<'a, S> {
+    type Item = Result<Entity, CreateError>;
+
+    ghost use Rattle.specs.specs.Creating.{CreatesNext};
+
+    ghost next_gives = { CreatesNext };
+
+    fn next(&mut self) -> Option<Result<Entity, CreateError>> {
+        if self.ended {
+            return None;
+        }
+        match self.core.parts.entities.alloc_mut().allocate() {
+            Ok(entity) => Some(Ok(entity)),
+            Err(CreateError::IndexLimit) => None,
+            Err(CreateError::OutOfMemory) => {
+                self.ended = true;
+                Some(Err(CreateError::OutOfMemory))
+            }
+        }
+    }
+}

@@ -1,0 +1,38 @@
+//! Components that are let go without their entities.
+ghost use Rattle.std.specs.Prelude.{◌≡◌, IfOk, OnOk, OnErr};
+ghost use Rattle.std.specs.List.{filter};
+ghost use Rattle.storages.specs.Life.{is_alive};
+ghost use Rattle.specs.specs.Dropping.{DropsComponents};
+ghost use Rattle.specs.specs.State.{core_state};
+
+use crate::core_parts::Core;
+use crate::slots::Storages;
+use entities::Entity;
+use std::alloc::AllocError;
+
+impl<S: Storages> Core<S> {
+    /// Lets the components of the entities of a list go, and passes over those that are not alive. The entities stay. It takes memory for
+    /// the list of the others, and for events, and a refused call changes nothing. Ports `WorldExt::delete_components`.
+    pub fn delete_components(&mut self, list: &[Entity]) -> Result<(), AllocError>
+        ensures ok { OnOk result (DropsComponents list.now (core_state S.table self.old) (core_state S.table self.new)) }
+        ensures err { OnErr result (core_state S.table self.new ≡ core_state S.table self.old) }
+    {
+        let living = self.living_of(list)?;
+        self.parts.storages.reserve_drop(living.len())?;
+        self.parts.storages.drop_all(living.as_slice());
+        Ok(())
+    }
+
+    // Those of a list that are alive.
+    fn living_of(&self, list: &[Entity]) -> Result<Vec<Entity>, AllocError>
+        ensures { IfOk result (λ living. living.items ≡ filter (is_alive (core_state S.table self.now).people) list.now) }
+    {
+        let mut living = Vec::new(self.alloc);
+        for e in list {
+            if self.parts.entities.is_alive(*e) {
+                living.push(*e)?;
+            }
+        }
+        Ok(living)
+    }
+}

@@ -1,0 +1,104 @@
+//! Storages of a core, by their component types.
+ghost use Rattle.std.specs.Prelude.{◌≡◌, ℕ, true, Some, None, IsSome, IfOk, OnOk, OnErr};
+ghost use Rattle.std.specs.Borrow.{sem};
+ghost use Rattle.storages.specs.ReadView as reading;
+ghost use Rattle.specs.specs.Registering.{RegistersAs, column_with};
+ghost use Rattle.specs.specs.State.{core_state, OnTable};
+ghost use Rattle.specs.specs.Table.{Registers};
+ghost use Rattle.specs.specs.Writing.{lent, RestsUnregistered};
+
+use crate::by_type;
+use crate::core_parts::Core;
+use crate::has::{Field, Has};
+use crate::slots::Storages;
+use crate::writing::Writing;
+use std::alloc::AllocError;
+use std::marker::PhantomData;
+use storages::{Component, ReadStorage};
+use thiserror::Error;
+
+/// No storage is registered for the component type. Nothing changed.
+#[derive(Clone, Copy, Debug, PartialEq, Eq, Error)]
+#[error("the component type is not registered")]
+pub struct Unregistered;
+
+impl<S: Storages> Core<S> {
+    /// Makes an empty storage for a component type where none was, else changes nothing. Ports `WorldExt::register`.
+    pub fn register<T: Component, I>(&mut self) -> Result<(), AllocError>
+    where
+        S: Has<T, I>,
+        ensures ok { OnOk result (OnTable (λ t t'. Registers t S.the_slot t') (core_state S.table self.old) (core_state S.table self.new)) }
+        ensures memory { OnErr result ((core_state S.table self.old).table S.the_slot ≡ None) }
+        ensures err { OnErr result (core_state S.table self.new ≡ core_state S.table self.old) }
+    {
+        self.parts.storages.register(self.alloc, S::slot())
+    }
+
+    /// Takes an empty storage for a component type where none was, else lets it go and changes nothing. The slot has the readers and the
+    /// emission that the storage has. Ports `WorldExt::register_with_storage`.
+    pub fn register_with_storage<T: Component, I>(&mut self, storage: T::Storage)
+    where
+        S: Has<T, I>,
+        requires { (q : ℕ) → (T.Storage.meaning storage).is_free q ≡ true }
+        ensures { OnTable (λ t t'. RegistersAs t S.the_slot (column_with (T.Storage.meaning storage)) t') (core_state S.table self.old) (core_state S.table self.new) }
+    {
+        by_type::register_with(&mut self.parts.storages, self.alloc, storage);
+    }
+
+    /// The storage of a component type, to read. Ports `WorldExt::read_storage`.
+    pub fn read_storage<T: Component, I>(&self) -> Result<ReadStorage<'_, T>, Unregistered>
+    where
+        S: Has<T, I>,
+        ensures ok { IfOk result (λ v. S.part self.now.parts.storages ≡ Some (reading.slot v)) }
+        ensures entities { IfOk result (λ v. reading.entities_of v ≡ self.now.parts.entities) }
+        ensures err { OnErr result (S.part self.now.parts.storages ≡ None) }
+    {
+        match self.parts.storages.field() {
+            Some(storage) => Ok(ReadStorage::new(&self.parts.entities, storage)),
+            None => Err(Unregistered),
+        }
+    }
+
+    /// `read_storage`, by another name. Ports `WorldExt::read_component`.
+    pub fn read_component<T: Component, I>(&self) -> Result<ReadStorage<'_, T>, Unregistered>
+    where
+        S: Has<T, I>,
+        ensures ok { IfOk result (λ v. S.part self.now.parts.storages ≡ Some (reading.slot v)) }
+        ensures entities { IfOk result (λ v. reading.entities_of v ≡ self.now.parts.entities) }
+        ensures err { OnErr result (S.part self.now.parts.storages ≡ None) }
+    {
+        self.read_storage()
+    }
+
+    /// The storage of a component type, to write to. Ports `WorldExt::write_storage`.
+    pub fn write_storage<T: Component, I>(&mut self) -> Result<Writing<'_, S, T, I>, Unregistered>
+    where
+        S: Has<T, I>,
+        ensures* rests { sem 𝓛 (RestsUnregistered S.row self.entry result) }
+        ensures same_reference { IfOk result (λ w. (lent w).ghost_name ≡ self.entry.ghost_name) }
+        ensures now { IfOk result (λ w. (lent w).now ≡ self.old) }
+        ensures ok { OnOk result (IsSome (S.part self.old.parts.storages)) }
+        ensures err { OnErr result (S.part self.old.parts.storages ≡ None) }
+    {
+        if self.parts.storages.field().is_none() {
+            return Err(Unregistered);
+        }
+        Ok(Writing {
+            core: self,
+            of: PhantomData,
+        })
+    }
+
+    /// `write_storage`, by another name. Ports `WorldExt::write_component`.
+    pub fn write_component<T: Component, I>(&mut self) -> Result<Writing<'_, S, T, I>, Unregistered>
+    where
+        S: Has<T, I>,
+        ensures* rests { sem 𝓛 (RestsUnregistered S.row self.entry result) }
+        ensures same_reference { IfOk result (λ w. (lent w).ghost_name ≡ self.entry.ghost_name) }
+        ensures now { IfOk result (λ w. (lent w).now ≡ self.old) }
+        ensures ok { OnOk result (IsSome (S.part self.old.parts.storages)) }
+        ensures err { OnErr result (S.part self.old.parts.storages ≡ None) }
+    {
+        self.write_storage()
+    }
+}

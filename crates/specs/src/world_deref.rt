@@ -1,0 +1,32 @@
+//! A world as its core.
+ghost use Rattle.std.specs.Prelude.{◌≡◌};
+ghost use Rattle.std.specs.Borrow.{sem};
+
+use crate::core_parts::Core;
+use crate::world::World;
+use std::ops::{Deref, DerefMut};
+
+/// The calls of a core are a world's: `world.write_storage::<T, _>()`, `world.create_entity()`.
+impl<S> Deref for World<S> {
+    type Target = Core<S>;
+
+    ghost deref_gives = { λ w c. c ≡ w.core };
+
+    fn deref(&self) -> &Core<S> {
+        &self.core
+    }
+}
+
+/// What is done to the core is done to the world's.
+impl<S> DerefMut for World<S> {
+    ghost use Rattle.specs.specs.Lending.{LendsCore};
+
+    ghost deref_mut_gives = { λ w c. c ≡ w.core };
+
+    fn deref_mut(&mut self) -> &mut Core<S>
+        ensures* writes_back { sem 𝓛 (LendsCore S.row self.entry result) }
+        ensures value { result.now ≡ self.old.core }
+    {
+        &mut self.core
+    }
+}

@@ -1,0 +1,167 @@
+//! A storage of a core, to write to.
+ghost use Rattle.std.specs.Prelude.{◌≡◌, ◌↔◌, Some, IsSome, IsTrue, IfOk, IfErr, OnOk, OnErr, option_copied};
+ghost use Rattle.std.specs.Borrow.{sem};
+ghost use Rattle.std.specs.Option.{option_map};
+ghost use Rattle.std.specs.FinMap as map;
+ghost use Rattle.storages.specs.ReadView as reading;
+ghost use Rattle.storages.specs.Slot as masked;
+ghost use Rattle.specs.specs.Field.{FieldInserts, FieldGets, FieldRemoves, FieldClears, WriteIsRefused, Holds, field_column};
+ghost use Rattle.specs.specs.State.{OnTable};
+ghost use Rattle.specs.specs.Table.{Inserts, Gets, Removes, RemovalWantsMemory, Clears, ClearingWantsMemory};
+ghost use Rattle.specs.specs.Writing.{lent, storages_of, shown, LendsMasked, LendsHere, LendsValue, LendsComponent};
+
+use crate::command::Refusal;
+use crate::core_parts::{Core, Parts};
+use crate::has::{Field, Has};
+use crate::{by_type, field};
+use entities::{Entity, Index};
+use std::alloc::AllocError;
+use std::marker::PhantomData;
+use storages::{Component, InsertError, MaskedStorage, NotLent, ReadStorage};
+
+/// The storage of a component type in a core, to write to. It holds the core, so that each call through it is one of the core's. The
+/// component type is registered when the view is made, and no call of the view ends that. Ports `specs::WriteStorage` of a world.
+#[derive(Drop)]
+pub struct Writing<'a, S, T, I> {
+    pub(crate) core: &'a mut Core<S>,
+    pub(crate) of: PhantomData<(T, I)>,
+}
+
+impl<'a, S: Has<T, I>, T: Component, I> Writing<'a, S, T, I> {
+    /// The same storage, to read.
+    pub fn read(&self) -> ReadStorage<'_, T>
+        requires { IsSome (S.part (storages_of self.now)) }
+        ensures slot { S.part (storages_of self.now) ≡ Some (reading.slot result) }
+        ensures entities { reading.entities_of result ≡ (lent self.now).now.parts.entities }
+    {
+        match self.core.parts.storages.field() {
+            Some(storage) => ReadStorage::new(&self.core.parts.entities, storage),
+            None => unreachable!(),
+        }
+    }
+
+    /// The component of an entity that is alive. Ports `Storage::get`.
+    pub fn get(&self, e: Entity) -> Option<&T>
+        requires { IsSome (S.part (storages_of self.now)) }
+        ensures ok { Gets (shown S.table self.now).people (shown S.table self.now).table S.the_slot e (option_map S.as_value (option_copied result)) }
+        ensures field { FieldGets (shown S.table self.now).people (field_column (S.part (storages_of self.now))) e (option_copied result) }
+    {
+        match self.core.parts.storages.field() {
+            Some(storage) => field::find(storage, &self.core.parts.entities, e),
+            None => unreachable!(),
+        }
+    }
+
+    /// Whether the entity is alive and has a component. Ports `Storage::contains`.
+    pub fn contains(&self, e: Entity) -> bool
+        requires { IsSome (S.part (storages_of self.now)) }
+        ensures { IsTrue result ↔ Holds (shown S.table self.now).people (field_column (S.part (storages_of self.now))) e }
+    {
+        self.get(e).is_some()
+    }
+
+    /// Puts a component at an entity that is alive, and answers the one before. A refused component is handed back, and nothing changed.
+    /// Ports `Storage::insert`.
+    pub fn insert(&mut self, e: Entity, component: T) -> Result<Option<T>, InsertError<T>>
+        requires { IsSome (S.part (storages_of self.old)) }
+        ensures same_reference { (lent self.new).ghost_name ≡ (lent self.old).ghost_name }
+        ensures there { IsSome (S.part (storages_of self.new)) }
+        ensures ok { IfOk result (λ before. OnTable (λ t t'. Inserts S.place (shown S.table self.old).people t e (S.as_value component) (option_map S.as_value before) t') (shown S.table self.old) (shown S.table self.new)) }
+        ensures field { IfOk result (λ before. FieldInserts (shown S.table self.old).people (field_column (S.part (storages_of self.old))) e component before (field_column (S.part (storages_of self.new)))) }
+        ensures refused { IfErr result (WriteIsRefused (shown S.table self.old).people (field_column (S.part (storages_of self.old))) e component) }
+        ensures err { OnErr result (shown S.table self.new ≡ shown S.table self.old) }
+    {
+        let Parts { entities, storages } = &mut self.core.parts;
+        match by_type::insert(storages, entities, e, component) {
+            Ok(before) => Ok(before),
+            Err((Refusal::WrongGeneration(wrong), component)) => {
+                Err(InsertError::WrongGeneration(wrong, component))
+            }
+            Err((Refusal::OutOfMemory, component)) => Err(InsertError::OutOfMemory(component)),
+            Err(_) => unreachable!(),
+        }
+    }
+
+    /// Removes the component of an entity and answers it, or none where the entity is not alive. It takes memory for an event alone, and a
+    /// refused call changes nothing. Ports `Storage::remove`.
+    pub fn remove(&mut self, e: Entity) -> Result<Option<T>, AllocError>
+        requires { IsSome (S.part (storages_of self.old)) }
+        ensures same_reference { (lent self.new).ghost_name ≡ (lent self.old).ghost_name }
+        ensures there { IsSome (S.part (storages_of self.new)) }
+        ensures ok { IfOk result (λ found. OnTable (λ t t'. Removes (shown S.table self.old).people t S.the_slot e (option_map S.as_value found) t') (shown S.table self.old) (shown S.table self.new)) }
+        ensures field { IfOk result (λ found. FieldRemoves (shown S.table self.old).people (field_column (S.part (storages_of self.old))) e found (field_column (S.part (storages_of self.new)))) }
+        ensures refused { OnErr result (RemovalWantsMemory (shown S.table self.old).people (field_column (S.part (storages_of self.old))) e) }
+        ensures err { OnErr result (shown S.table self.new ≡ shown S.table self.old) }
+    {
+        let Parts { entities, storages } = &mut self.core.parts;
+        match by_type::remove(storages, entities, e) {
+            Ok(found) => Ok(found),
+            Err(Refusal::OutOfMemory) => Err(AllocError),
+            Err(_) => unreachable!(),
+        }
+    }
+
+    /// Removes every component. It takes memory for events alone, and a refused call changes nothing. Ports `Storage::clear`.
+    pub fn clear(&mut self) -> Result<(), AllocError>
+        requires { IsSome (S.part (storages_of self.old)) }
+        ensures same_reference { (lent self.new).ghost_name ≡ (lent self.old).ghost_name }
+        ensures there { IsSome (S.part (storages_of self.new)) }
+        ensures ok { OnOk result (OnTable (λ t t'. Clears t S.the_slot t') (shown S.table self.old) (shown S.table self.new)) }
+        ensures field { OnOk result (FieldClears (field_column (S.part (storages_of self.old))) (field_column (S.part (storages_of self.new)))) }
+        ensures refused { OnErr result (ClearingWantsMemory (field_column (S.part (storages_of self.old)))) }
+        ensures err { OnErr result (shown S.table self.new ≡ shown S.table self.old) }
+    {
+        match by_type::clear(&mut self.core.parts.storages) {
+            Ok(()) => Ok(()),
+            Err(Refusal::OutOfMemory) => Err(AllocError),
+            Err(_) => unreachable!(),
+        }
+    }
+
+    /// The component of an entity that is alive, to write to. Ports `Storage::get_mut`.
+    pub fn get_mut(&mut self, e: Entity) -> Result<&mut T, NotLent>
+        requires { IsSome (S.part (storages_of self.old)) }
+        ensures* writes_back { sem 𝓛 (LendsComponent S.row T.row I.row S.part S.with_part self.entry e result) }
+        ensures value { IfOk result (λ x. FieldGets (shown S.table self.old).people (field_column (S.part (storages_of self.old))) e (Some x.now)) }
+    {
+        if !self.core.parts.entities.is_alive(e) {
+            return Err(NotLent::Absent);
+        }
+        let core = &mut *self.core;
+        let parts = &mut core.parts;
+        component_mut(&mut parts.storages, e.id())
+    }
+
+    /// The storage without the entities: its components to write to, its channel, its cursors.
+    pub fn masked_mut(&mut self) -> &mut MaskedStorage<T>
+        requires { IsSome (S.part (storages_of self.old)) }
+        ensures* lends { sem 𝓛 (LendsMasked S.row T.row I.row T.Storage.row T.Storage.meaning T.Storage.IsDefault self.entry result (S.with_part (storages_of self.old))) }
+        ensures slot { S.part (storages_of self.old) ≡ Some result.now }
+    {
+        let core = &mut *self.core;
+        let parts = &mut core.parts;
+        let storages = &mut parts.storages;
+        here(storages)
+    }
+}
+
+// The component of an index in the storage of its type.
+fn component_mut<T: Component, S: Has<T, I>, I>(
+    storages: &mut S,
+    id: Index,
+) -> Result<&mut T, NotLent>
+    requires { IsSome (S.part storages.old) }
+    ensures* writes_back { sem 𝓛 (LendsValue S.row T.row S.part S.with_part storages.entry id result) }
+    ensures value { IfOk result (λ x. option_map (λ (w : masked.Slot T). map.get w.map id) (S.part storages.old) ≡ Some (Some x.now)) }
+{
+    here(storages).get_mut(id)
+}
+
+// The storage of a component type that is registered.
+fn here<T: Component, S: Has<T, I>, I>(storages: &mut S) -> &mut MaskedStorage<T>
+    requires { IsSome (S.part storages.old) }
+    ensures* lends { sem 𝓛 (LendsHere S.row T.row T.Storage.row T.Storage.meaning T.Storage.IsDefault storages.entry result (S.with_part storages.old)) }
+    ensures slot { S.part storages.old ≡ Some result.now }
+{
+    storages.field_mut().unwrap()
+}
