@@ -9,3 +9,4 @@ pub mod Reached
 pub mod Gone
 pub mod Refused
 pub mod Lending
+pub mod Leading
