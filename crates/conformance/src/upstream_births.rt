@@ -70,7 +70,7 @@ impl Nursery {
     fn mark_all(&mut self) -> bool {
         let Nursery { world, living, .. } = self;
         for e in living.as_slice() {
-            if world.parts().delete(*e).is_err() {
+            if world.parts().entities.delete(*e).is_err() {
                 return false;
             }
         }
@@ -161,7 +161,7 @@ fn lowest(alloc: Global, world: &mut World<Small>) -> Result<Vec<Entity>, Fail> 
 fn mark_last(world: &mut World<Small>, mut list: Vec<Entity>, count: u32) -> bool {
     for _ in 0..count {
         if let Some(e) = list.pop() {
-            if world.parts().delete(e).is_err() {
+            if world.parts().entities.delete(e).is_err() {
                 return false;
             }
         }

@@ -206,12 +206,12 @@ fn maintains(world: &mut World<Small>, dead: &[Entity]) -> bool {
 }
 
 fn ends_at_maintain<R: Abort>(rt: &R, world: &mut World<Small>) -> Result<(), Fail> {
-    let e = world.parts().create().ok().ok_or("a birth")?;
+    let e = world.parts().entities.create().ok().ok_or("a birth")?;
     assert!(rt; world.entities().is_alive(e) && !world.is_alive(e));
-    assert_eq!(rt; world.parts().delete(e), Ok(()));
+    assert_eq!(rt; world.parts().entities.delete(e), Ok(()));
     assert!(rt; maintains(world, &[e]));
     assert!(rt; !world.entities().is_alive(e));
-    let again = world.parts().create().ok().ok_or("a birth")?;
+    let again = world.parts().entities.create().ok().ok_or("a birth")?;
     assert_eq!(rt; again, entity(0, 2)?);
     assert!(rt; maintains(world, &[]));
     assert!(rt; world.is_alive(again));

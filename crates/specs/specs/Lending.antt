@@ -1,10 +1,16 @@
--- What a world ends as, once its entities were lent.
+-- What a core and a world end as, once their parts were lent.
 use Rattle.std.specs.Borrow.{RattleType, Lends, MutBor, Fml}
-use Rattle.entities.specs.Census.{Census}
-use Rattle.entities.specs.contracts.entities_res.EntitiesRes as part
+use Rattle.specs.specs.declared.core_parts.Core.{Core}
+use Rattle.specs.specs.declared.core_parts.Parts.{Parts}
 use Rattle.specs.specs.declared.world.World.{World}
-use Rattle.specs.specs.contracts.world.World.{the_row}
+use Rattle.specs.specs.contracts.core_parts.Core.{the_row}
+use Rattle.specs.specs.contracts.core_parts.Parts as both
+use Rattle.specs.specs.contracts.world.World as world
 
--- the entities as they were left, and the storages as they were
-abbrev pub LendsEntities : (S : RattleType) → MutBor (World S.Denot) → MutBor Census → Fml
-LendsEntities S s r = Lends (the_row S) part.the_row s r (λ w. record s.now { entities = w })
+-- the parts as they were left
+abbrev pub LendsParts : (S : RattleType) → MutBor (Core S.Denot) → MutBor (Parts S.Denot) → Fml
+LendsParts S c r = Lends (the_row S) (both.the_row S) c r (λ w. record c.now { parts = w })
+
+-- the parts of its core as they were left
+abbrev pub LendsWorldParts : (S : RattleType) → MutBor (World S.Denot) → MutBor (Parts S.Denot) → Fml
+LendsWorldParts S s r = Lends (world.the_row S) (both.the_row S) s r (λ w. let c = s.now.core in record s.now { core = record c { parts = w } })

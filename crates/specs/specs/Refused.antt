@@ -2,8 +2,8 @@
 use Rattle.std.specs.Prelude.{◌≡◌, Bool, List}
 use Rattle.entities.specs.declared.entity.Entity.{Entity}
 use Rattle.entities.specs.Population.{born_as}
-use Rattle.specs.specs.declared.world.DeleteError.{DeleteError}
-use Rattle.specs.specs.declared.world.DeleteError.TheVariants.{WrongGeneration as NotDeleted, OutOfMemory as NoMemory}
+use Rattle.specs.specs.declared.core_parts.DeleteError.{DeleteError}
+use Rattle.specs.specs.declared.core_parts.DeleteError.TheVariants.{WrongGeneration as NotDeleted, OutOfMemory as NoMemory}
 use Rattle.specs.specs.declared.command.Reply.{Reply}
 use Rattle.specs.specs.declared.command.Reply.TheVariants.{Entity as Told, Count, Refused}
 use Rattle.specs.specs.declared.command.Refusal.{Refusal}

@@ -15,6 +15,7 @@ use Rattle.specs.specs.declared.command.Reply.{Reply}
 use Rattle.specs.specs.declared.command.Reply.TheVariants.{Done, Entity as Told, Bool as Yes, Value, Count, Indices, Maintained as Kept, Reader as NewReader, Events as Given, Refused, InsertRefused}
 use Rattle.specs.specs.declared.command.Refusal.{Refusal}
 use Rattle.specs.specs.declared.command.Refusal.TheVariants.{WrongGeneration as Wrong, Unregistered, IndexLimit, OutOfMemory}
+use Rattle.specs.specs.declared.core_parts.Core.{Core}
 use Rattle.specs.specs.declared.world.World.{World}
 use Rattle.specs.specs.Column.{without_values}
 use Rattle.specs.specs.People.{Births, IsFull, BirthWantsMemory, Deaths, DeathIsRefused, Marks, MarkIsRefused, IsEntityAt, NoneMarked}
@@ -26,8 +27,13 @@ pub record State (K V : Type 0) : Type 0 where
   pub people : Population
   pub table : Table K V
 
+-- what a core shows
+abbrev pub core_state : {S K V : Type 0} → (S → Table K V) → Core S → State K V
+core_state table c = record { people = population c.parts.entities; table = table c.parts.storages }
+
+-- what a world shows
 abbrev pub state_of : {S K V : Type 0} → (S → Table K V) → World S → State K V
-state_of table w = record { people = population w.entities; table = table w.storages }
+state_of table w = core_state table w.core
 
 -- only the population changed
 pub record OnPeople {K V : Type 0} (change : Population → Population → Type 0) (old new : State K V) : Type 0 where

@@ -2,15 +2,18 @@
 #![tactic(auto)]
 
 mod command;
+mod core_parts;
 mod laws;
+mod selection;
 mod slots;
 mod world;
 
 pub use command::{Command, Maintained, Refusal, Reply, SetExpr};
+pub use core_parts::{Core, DeleteError, Parts};
 pub use entities::{
     Allocator, CreateError, EntitiesRes, Entity, Error, Generation, Index, WrongGeneration,
 };
 pub use laws::{only_living, stays_dead};
 pub use slots::Storages;
 pub use storages::{ComponentEvent, ReaderId};
-pub use world::{DeleteError, World};
+pub use world::World;

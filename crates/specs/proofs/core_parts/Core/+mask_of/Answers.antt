@@ -1,6 +1,6 @@
 use Rattle.std.proofs.Common.{◌≡◌, refl, ◌∙◌}
 use Rattle.hibits.specs.Sets.{has_part_zero}
-use Rattle.specs.proofs.world.World.+mask_of.Goals as goal
+use Rattle.specs.proofs.core_parts.Core.+mask_of.Goals as goal
 
 pub returns-in-Some : goal.returns-in-Some
 returns-in-Some g t c i =

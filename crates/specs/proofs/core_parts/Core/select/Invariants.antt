@@ -4,7 +4,7 @@ use Rattle.hibits.specs.Left.{left}
 use Rattle.hibits.specs.MaskExprs.{expr_has, expr_cost}
 use Rattle.hibits.specs.Sets.{has_part}
 use Rattle.hibits.specs.WalkOf.{IsWalkOf, position}
-use Rattle.specs.proofs.world.World.select.Given as goal
+use Rattle.specs.proofs.core_parts.Core.select.Given as goal
 
 abbrev pub invariant-loop-i : goal.invariant-loop-i
 invariant-loop-i g l = record {

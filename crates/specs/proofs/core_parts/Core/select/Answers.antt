@@ -3,7 +3,7 @@ use mathlib.Core.Path.{fun_ext}
 use Rattle.hibits.specs.Left.{left}
 use Rattle.hibits.specs.MaskExprs.{expr_has}
 use Rattle.hibits.specs.Sets.{has_part}
-use Rattle.specs.proofs.world.World.select.Goals as goal
+use Rattle.specs.proofs.core_parts.Core.select.Goals as goal
 
 pub returns-clause-ok : goal.returns-clause-ok
 returns-clause-ok g c =

@@ -1,0 +1,139 @@
+//! Entities and storages, below the queue of a world.
+ghost use Rattle.std.specs.Prelude.{◌≡◌, ◌∷◌, [], IsTrue, ◌↔◌, IfErr, OnOk, OnErr};
+ghost use Rattle.std.specs.Borrow.{sem};
+ghost use Rattle.std.specs.List.{All};
+ghost use Rattle.entities.specs.Census.{population};
+ghost use Rattle.entities.specs.Population.{no_one, IsMerged};
+ghost use Rattle.specs.specs.Gone.{IsGone};
+ghost use Rattle.specs.specs.Reached.{HasNoValue, IsNew, OnlyLiving};
+ghost use Rattle.specs.specs.State.{core_state, Deletes};
+ghost use Rattle.specs.specs.Refused.{DeleteIsRefused};
+ghost use Rattle.specs.specs.Lending.{LendsParts};
+ghost use Rattle.specs.specs.Table.{WantsMemory};
+
+use crate::command::Refusal;
+use crate::slots::Storages;
+use entities::{EntitiesRes, Entity, WrongGeneration};
+use std::alloc::Global;
+
+/// Why a list of entities was not deleted. Nothing changed.
+#[derive(Clone, Copy, Debug, PartialEq, Eq)]
+pub enum DeleteError {
+    /// The first entity of the list that is not alive, or that equals an earlier one.
+    WrongGeneration(WrongGeneration),
+    /// Memory was refused.
+    OutOfMemory,
+}
+
+impl From<DeleteError> for Refusal {
+    ghost use Rattle.specs.specs.Refused.{refusal_of};
+
+    ghost from_gives = { λ e r. r ≡ refusal_of e };
+
+    fn from(e: DeleteError) -> Refusal {
+        match e {
+            DeleteError::WrongGeneration(wrong) => Refusal::WrongGeneration(wrong),
+            DeleteError::OutOfMemory => Refusal::OutOfMemory,
+        }
+    }
+}
+
+/// Entities and storages.
+#[derive(Drop)]
+pub struct Parts<S> {
+    /// The entities.
+    pub entities: EntitiesRes,
+    /// The storages.
+    pub storages: S,
+}
+
+/// Entities and their components, without a queue of jobs.
+#[derive(Drop)]
+pub struct Core<S> {
+    pub(crate) parts: Parts<S>,
+    pub(crate) alloc: Global,
+}
+
+impl<S: Storages> Core<S> {
+    /// A core without entities, over storages that are empty or not registered.
+    #[tactic(auto, using(crate::proofs::Living::begins))]
+    pub fn new(alloc: Global, storages: S) -> Self
+        ensures people { (core_state S.table result).people ≡ no_one }
+        ensures table { (core_state S.table result).table ≡ S.table storages }
+        ensures begins { HasNoValue (S.table storages) → IsNew (core_state S.table result) }
+        ensures living { HasNoValue (S.table storages) → OnlyLiving (core_state S.table result) }
+    {
+        Core {
+            parts: Parts {
+                entities: EntitiesRes::new(alloc),
+                storages,
+            },
+            alloc,
+        }
+    }
+
+    /// The entities.
+    pub fn entities(&self) -> &EntitiesRes
+        ensures { population result.now ≡ (core_state S.table self.now).people }
+    {
+        &self.parts.entities
+    }
+
+    /// Both parts, to change them: `let Parts { entities, storages } = core.parts();` lends each.
+    pub fn parts(&mut self) -> &mut Parts<S>
+        ensures* lends { sem 𝓛 (LendsParts S.row self.entry result) }
+        ensures value { result.now ≡ self.old.parts }
+    {
+        &mut self.parts
+    }
+
+    /// Whether the entity is alive and not pending. Ports `World::is_alive`.
+    pub fn is_alive(&self, e: Entity) -> bool
+        ensures { IsTrue result ↔ IsMerged (core_state S.table self.now).people e }
+    {
+        self.parts.entities.is_alive(e) && self.parts.entities.alive().contains(e.id())
+    }
+
+    /// The death at once of an entity, with its components. Ports `WorldExt::delete_entity`.
+    #[tactic(auto, using(crate::proofs::Gone::gone_deleted_one))]
+    pub fn delete_entity(&mut self, e: Entity) -> Result<(), DeleteError>
+        ensures ok { OnOk result (Deletes (e ∷ []) (core_state S.table self.old) (core_state S.table self.new)) }
+        ensures gone { OnOk result (IsGone (core_state S.table self.new).people e) }
+        ensures refused { IfErr result (DeleteIsRefused (core_state S.table self.old) (e ∷ [])) }
+        ensures err { OnErr result (core_state S.table self.new ≡ core_state S.table self.old) }
+    {
+        self.delete_entities(&[e])
+    }
+
+    /// The death at once of a list of entities, with their components. The whole list is tested first. It takes time near linear in the
+    /// list, and memory for events alone. Ports `WorldExt::delete_entities`.
+    pub fn delete_entities(&mut self, list: &[Entity]) -> Result<(), DeleteError>
+        ensures ok { OnOk result (Deletes list.now (core_state S.table self.old) (core_state S.table self.new)) }
+        ensures gone { OnOk result (All (IsGone (core_state S.table self.new).people) list.now) }
+        ensures refused { IfErr result (DeleteIsRefused (core_state S.table self.old) list.now) }
+        ensures err { OnErr result (core_state S.table self.new ≡ core_state S.table self.old) }
+    {
+        if self.parts.storages.reserve_drop(list.len()).is_err() {
+            return Err(self.no_room(list));
+        }
+        match self.parts.entities.alloc_mut().kill(list) {
+            Ok(()) => {
+                self.parts.storages.drop_all(list);
+                Ok(())
+            }
+            Err(wrong) => Err(DeleteError::WrongGeneration(wrong)),
+        }
+    }
+
+    // Why a list is not deleted that has no room: it is tested first.
+    fn no_room(&mut self, list: &[Entity]) -> DeleteError
+        requires { WantsMemory (core_state S.table self.old).table }
+        ensures refused { DeleteIsRefused (core_state S.table self.old) list.now result }
+        ensures same { core_state S.table self.new ≡ core_state S.table self.old }
+    {
+        match self.parts.entities.alloc_mut().may_kill(list) {
+            Ok(()) => DeleteError::OutOfMemory,
+            Err(wrong) => DeleteError::WrongGeneration(wrong),
+        }
+    }
+}
