@@ -50,9 +50,9 @@ in_lost [] has j h = refl
 in_lost (e ∷ es) has j h = elim (cases_eq (index_of e) j) [
   | inl same ↦ rw (ap has same ∙ h, eq-eqb (index_of e) j same) refl
   | inr other ↦ elim (cases_Bool (has (index_of e))) [
-      | inl on ↦ rw (on, ne_eqb (index_of e) j other) (in_lost es (set_without has (index_of e)) j (rw (h, ne_eqb (index_of e) j other) refl))
-      | inr off ↦ rw (off, ne_eqb (index_of e) j other) (in_lost es has j h)
-    ]
+    | inl on ↦ rw (on, ne_eqb (index_of e) j other) (in_lost es (set_without has (index_of e)) j (rw (h, ne_eqb (index_of e) j other) refl))
+    | inr off ↦ rw (off, ne_eqb (index_of e) j other) (in_lost es has j h)
+  ]
 ]
 
 -- a member below the limit is in the list of the members
@@ -82,7 +82,7 @@ module _ {V : Type 0} where
     mask = λ i. k.mask i ∙ ap (λ (p : ℕ → Bool). replay fs p i) (fun_ext l.mask) ∙ ap (λ (p : ℕ → Bool). p i) (sym (replay-append es fs (has_value a)));
     kept = λ i e.
         let off = or_false (is_named i es) (is_named i fs) (sym (list_any-append (λ e. eqb (index_at e) i) es fs) ∙ e) in
-        k.kept i off.1 ∙ l.kept i off.0
+        k.kept i off.1 ∙ l.kept i off.0;
   }
 
   -- a value put where one was, or where none was
@@ -92,24 +92,27 @@ module _ {V : Type 0} where
       mask : (j : ℕ) → has_value (put m i v) j ≡ replay_one (cond (has_value m i) (Modified i) (Inserted i)) (has_value m) j
       mask j = elim (cases_Bool (has_value m i)) [
         | inl on ↦ rw on (elim (cases_eq i j) [
-            | inl same ↦ rw (eq-eqb i j same) (sym on ∙ ap (has_value m) same)
-            | inr other ↦ rw (ne_eqb i j other) refl
-          ])
+          | inl same ↦ rw (eq-eqb i j same) (sym on ∙ ap (has_value m) same)
+          | inr other ↦ rw (ne_eqb i j other) refl
+        ])
         | inr off ↦ rw off (elim (cases_eq i j) [
-            | inl same ↦ rw (eq-eqb i j same) (or_true (has_value m j))
-            | inr other ↦ rw (ne_eqb i j other) (or_off (has_value m j))
-          ])
+          | inl same ↦ rw (eq-eqb i j same) (or_true (has_value m j))
+          | inr other ↦ rw (ne_eqb i j other) (or_off (has_value m j))
+        ])
       ]
         where
           or_true : (a : Bool) → true ≡ (a || true)
           or_true true = refl
           or_true false = refl
+
           or_off : (a : Bool) → a ≡ (a || false)
           or_off true = refl
           or_off false = refl
+
       of_index : (b : Bool) → index_at (cond b (Modified i) (Inserted i)) ≡ i
       of_index true = refl
       of_index false = refl
+
       kept : (j : ℕ) → is_named j (cond (has_value m i) (Modified i) (Inserted i) ∷ []) ≡ false → put m i v j ≡ m j
       kept j h = rw (sym (ap (λ k. eqb k j) (of_index (has_value m i))) ∙ (or_false _ false h).0) refl
 
@@ -126,7 +129,7 @@ module _ {V : Type 0} where
   pub leads_taken : (m m' : Map V) (is : List ℕ) → ((j : ℕ) → m' j ≡ taken is m j) → Leads m m' (map Removed is)
   leads_taken m m' is same = record {
     mask = λ j. ap is_some (same j) ∙ taken_some (list_any (λ i. eqb i j) is) (m j) ∙ sym (removed_mask is (has_value m) j);
-    kept = λ j e. same j ∙ ap (λ b. cond b None (m j)) (sym (removed_named is j) ∙ e)
+    kept = λ j e. same j ∙ ap (λ b. cond b None (m j)) (sym (removed_named is j) ∙ e);
   }
 
   none_by : (o : Option V) → is_some o ≡ false → o ≡ None

@@ -13,7 +13,7 @@ abbrev pub added : List ComponentEvent → Option (List ComponentEvent) → Opti
 added es None = None
 added es (Some us) = Some (us ++ es)
 
-added_none : (o : Option (List ComponentEvent)) → added [] o ≡ o
+pub added_none : (o : Option (List ComponentEvent)) → added [] o ≡ o
 added_none None = refl
 added_none (Some us) = ap Some (append-nil us)
 

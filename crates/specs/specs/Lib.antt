@@ -10,3 +10,4 @@ pub mod Gone
 pub mod Refused
 pub mod Lending
 pub mod Leading
+pub mod Following

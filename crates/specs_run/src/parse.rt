@@ -29,6 +29,7 @@ fn plain(words: &[&str]) -> Option<Command<Slot, Value>> {
     match words {
         ["create"] => Some(Command::Create),
         ["create", "pending"] => Some(Command::CreatePending),
+        ["delete-all"] => Some(Command::DeleteAll),
         ["register", s] => Some(Command::Register(slot(s)?)),
         ["mark", e] => Some(Command::MarkDead(entity(e)?)),
         ["alive", e] => Some(Command::IsAlive(entity(e)?)),
