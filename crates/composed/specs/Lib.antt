@@ -3,3 +3,4 @@ pub mod Field
 pub mod Finds
 pub mod Lending
 pub mod Places
+pub mod Exact
