@@ -34,5 +34,7 @@ pub use phases::{marked_at_closing, sees_its_own, two_births};
 pub use sets::{
     added_and_found, first_is_member, none_to_walk, one, others_stay, removed_and_gone,
 };
-pub use typed::{built_with, stripped, two_written, written_and_found};
+pub use typed::{
+    built_with, overwritten, stripped, two_written, written_and_found, written_in_world,
+};
 pub use worlds::{deleted_is_gone, is_back, lived, position, removed_unheard};

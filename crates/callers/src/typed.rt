@@ -26,8 +26,26 @@ pub fn written_and_found<T: Component + Copy, S: Has<T, I>, I>(
     }
 }
 
-/// Through a view nobody is born or dies, in a world too.
+/// Through a view nobody is born or dies.
 pub fn two_written<T: Component + Drop, S: Has<T, I>, I>(
+    core: &mut Core<S>,
+    e: Entity,
+    f: Entity,
+    x: T,
+    y: T,
+) -> Result<(), Unregistered>
+    ensures entities { core.new.parts.entities ≡ core.old.parts.entities }
+    ensures err { OnErr result (core.new ≡ core.old) }
+{
+    let mut view = core.write_storage::<T, I>()?;
+    let _ = view.insert(e, x);
+    let _ = view.remove(e);
+    let _ = view.insert(f, y);
+    Ok(())
+}
+
+/// The same in a world, whose core is passed on.
+pub fn written_in_world<T: Component + Drop, S: Has<T, I>, I>(
     world: &mut World<S>,
     e: Entity,
     f: Entity,
@@ -37,11 +55,26 @@ pub fn two_written<T: Component + Drop, S: Has<T, I>, I>(
     ensures people { (state_of S.table world.new).people ≡ (state_of S.table world.old).people }
     ensures err { OnErr result (world.new ≡ world.old) }
 {
-    let mut view = world.write_storage::<T, I>()?;
-    let _ = view.insert(e, x);
-    let _ = view.remove(e);
-    let _ = view.insert(f, y);
-    Ok(())
+    two_written(&mut **world, e, f, x, y)
+}
+
+/// A component that is written in its place is the one found there, and the core's entities stay.
+pub fn overwritten<T: Component + Drop, S: Has<T, I>, I>(
+    core: &mut Core<S>,
+    e: Entity,
+    component: T,
+) -> Result<bool, Unregistered>
+    ensures entities { core.new.parts.entities ≡ core.old.parts.entities }
+    ensures err { OnErr result (core.new ≡ core.old) }
+{
+    let mut view = core.write_storage::<T, I>()?;
+    match view.get_mut(e) {
+        Ok(place) => {
+            *place = component;
+            Ok(true)
+        }
+        Err(_) => Ok(false),
+    }
 }
 
 /// An entity that is built with a component is a birth.

@@ -108,8 +108,14 @@ fn a_refused_component_comes_back_and_its_entity_is_marked(rt: HostRuntime) -> R
 #[test]
 fn a_type_without_a_storage_is_unregistered(rt: HostRuntime) -> Result<(), Fail> {
     let mut world = World::new(rt.alloc(), Slots::empty());
-    assert_eq!(rt; world.read_storage::<Position, _>().err(), Some(Unregistered));
-    assert_eq!(rt; world.write_storage::<Position, _>().err(), Some(Unregistered));
+    assert_eq!(rt;
+        world.read_storage::<Position, _>().err(),
+        Some(Unregistered)
+    );
+    assert_eq!(rt;
+        world.write_storage::<Position, _>().err(),
+        Some(Unregistered)
+    );
     Ok(())
 }
 
@@ -124,7 +130,10 @@ fn components_go_without_their_entities(rt: HostRuntime) -> Result<(), Fail> {
     assert_eq!(rt; reborn.id(), dead.id());
     world.delete_components(&[dead, a])?;
     assert_eq!(rt; (position(&world, a), health(&world, a)), (None, None));
-    assert_eq!(rt; (position(&world, b), health(&world, b)), (Some(Position(2)), Some(Health(20))));
+    assert_eq!(rt;
+        (position(&world, b), health(&world, b)),
+        (Some(Position(2)), Some(Health(20)))
+    );
     assert_eq!(rt; position(&world, reborn), Some(Position(4)));
     assert!(rt; world.is_alive(a));
     Ok(())

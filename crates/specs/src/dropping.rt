@@ -15,6 +15,7 @@ impl<S: Storages> Core<S> {
     /// the list of the others, and for events, and a refused call changes nothing. Ports `WorldExt::delete_components`.
     pub fn delete_components(&mut self, list: &[Entity]) -> Result<(), AllocError>
         ensures ok { OnOk result (DropsComponents list.now (core_state S.table self.old) (core_state S.table self.new)) }
+        ensures entities { self.new.parts.entities ≡ self.old.parts.entities }
         ensures err { OnErr result (core_state S.table self.new ≡ core_state S.table self.old) }
     {
         let living = self.living_of(list)?;

@@ -66,6 +66,7 @@ impl<'a, S: Has<T, I>, T: Component, I> Writing<'a, S, T, I> {
         requires { IsSome (S.part (storages_of self.old)) }
         ensures same_reference { (lent self.new).ghost_name ≡ (lent self.old).ghost_name }
         ensures there { IsSome (S.part (storages_of self.new)) }
+        ensures entities { (lent self.new).now.parts.entities ≡ (lent self.old).now.parts.entities }
         ensures ok { IfOk result (λ before. OnTable (λ t t'. Inserts S.place (shown S.table self.old).people t e (S.as_value component) (option_map S.as_value before) t') (shown S.table self.old) (shown S.table self.new)) }
         ensures field { IfOk result (λ before. FieldInserts (shown S.table self.old).people (field_column (S.part (storages_of self.old))) e component before (field_column (S.part (storages_of self.new)))) }
         ensures refused { IfErr result (WriteIsRefused (shown S.table self.old).people (field_column (S.part (storages_of self.old))) e component) }
@@ -88,6 +89,7 @@ impl<'a, S: Has<T, I>, T: Component, I> Writing<'a, S, T, I> {
         requires { IsSome (S.part (storages_of self.old)) }
         ensures same_reference { (lent self.new).ghost_name ≡ (lent self.old).ghost_name }
         ensures there { IsSome (S.part (storages_of self.new)) }
+        ensures entities { (lent self.new).now.parts.entities ≡ (lent self.old).now.parts.entities }
         ensures ok { IfOk result (λ found. OnTable (λ t t'. Removes (shown S.table self.old).people t S.the_slot e (option_map S.as_value found) t') (shown S.table self.old) (shown S.table self.new)) }
         ensures field { IfOk result (λ found. FieldRemoves (shown S.table self.old).people (field_column (S.part (storages_of self.old))) e found (field_column (S.part (storages_of self.new)))) }
         ensures refused { OnErr result (RemovalWantsMemory (shown S.table self.old).people (field_column (S.part (storages_of self.old))) e) }
@@ -106,6 +108,7 @@ impl<'a, S: Has<T, I>, T: Component, I> Writing<'a, S, T, I> {
         requires { IsSome (S.part (storages_of self.old)) }
         ensures same_reference { (lent self.new).ghost_name ≡ (lent self.old).ghost_name }
         ensures there { IsSome (S.part (storages_of self.new)) }
+        ensures entities { (lent self.new).now.parts.entities ≡ (lent self.old).now.parts.entities }
         ensures ok { OnOk result (OnTable (λ t t'. Clears t S.the_slot t') (shown S.table self.old) (shown S.table self.new)) }
         ensures field { OnOk result (FieldClears (field_column (S.part (storages_of self.old))) (field_column (S.part (storages_of self.new)))) }
         ensures refused { OnErr result (ClearingWantsMemory (field_column (S.part (storages_of self.old)))) }
