@@ -2,13 +2,13 @@
 ghost use Rattle.std.specs.Prelude.{◌<◌};
 
 use crate::joining::crowd::Crowd;
-use crate::joining::drained;
 use crate::joining::looking::{EntitySum, Entries, ReadSum, Restricted};
 use crate::joining::spots::Spotted;
 use crate::joining::writing::{
     Joined3, JoinedDefault, MaybeSparse, MoveDefault, MoveDense, MoveVec, NotSparse, SparseDefault,
     SparseOnes,
 };
+use crate::joining::{drained, fragments};
 use crate::random::mix;
 use crate::workload::{Plan, Workload, report};
 use anyhow::Result;
@@ -175,5 +175,6 @@ pub fn run(rt: &(impl Clock + Print), alloc: Global, plan: &Plan, prefix: &str) 
     to.pass("o_join_maybe", all, PhantomData::<MaybeSparse>)?;
     to.pass("o_join_entries", all, PhantomData::<Entries>)?;
     to.pass("o_join_restricted", all, PhantomData::<Restricted>)?;
-    drained::run(rt, alloc, plan, prefix)
+    drained::run(rt, alloc, plan, prefix)?;
+    fragments::run(rt, alloc, plan, prefix)
 }
