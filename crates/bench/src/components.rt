@@ -1,7 +1,7 @@
 //! Single components: read, written to, taken out and inserted again.
 
 use crate::moving::Moving;
-use crate::points::{DensePosition, HashPosition, Point, Pointed, VecPosition};
+use crate::points::{DensePosition, FlaggedPosition, HashPosition, Point, Pointed, VecPosition};
 use crate::random::{Random, mix};
 use crate::workload::{Plan, Workload, report};
 use anyhow::{Result, bail};
@@ -220,6 +220,17 @@ pub fn run(rt: &(impl Clock + Print), alloc: Global, plan: &Plan, prefix: &str) 
         plan,
         prefix,
         ["e_get_rand_vec", "e_get_mut_rand_vec", "f_churn_vec"],
+    )?;
+    run_kind::<FlaggedPosition>(
+        rt,
+        alloc,
+        plan,
+        prefix,
+        [
+            "e_get_rand_vec+tracked",
+            "e_get_mut_rand_vec+tracked",
+            "f_churn_vec+tracked",
+        ],
     )?;
     run_kind::<DensePosition>(
         rt,

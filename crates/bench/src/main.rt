@@ -59,6 +59,7 @@ fn main(rt: HostRuntime) -> Result<()> {
     births::run(&rt, rt.alloc(), &plan, prefix)?;
     threads::run(&rt, rt.alloc(), &plan, prefix)?;
     parallel::run(&rt, &plan, prefix)?;
+    joining::run_light(&rt, &plan, prefix)?;
     deaths::run(&rt, rt.alloc(), &plan, prefix)?;
     components::run(&rt, rt.alloc(), &plan, prefix)?;
     flags::run(&rt, rt.alloc(), &plan, prefix)?;

@@ -3,7 +3,7 @@
 use crate::workload::{Best, Plan};
 use anyhow::{Result, bail};
 use hibits::{BitSetAll, Index};
-use joins::Join;
+use joins::{Join, JoinMut};
 use joins_parallel::par_update;
 use std::alloc::{Alloc, Global};
 use std::io::Print;
@@ -74,13 +74,40 @@ fn run_rounds(
     Ok(sum)
 }
 
+/// The same by a cursor, in one thread.
+fn run_by_cursor(storage: &mut MaskedStorage<Seed>, passes: u64) -> u64 {
+    let mut sum: u64 = 0;
+    for _pass in 0..passes {
+        sum = sum.wrapping_add(heavy_by_cursor(storage));
+    }
+    sum
+}
+
+// Runs the rounds on each seed once.
+fn heavy_by_cursor(storage: &mut MaskedStorage<Seed>) -> u64 {
+    let mut sum: u64 = 0;
+    let mut cursor = storage.join_mut(BitSetAll);
+    while let Some(_id) = cursor.next() {
+        if let Ok(seed) = cursor.item() {
+            seed.0 = heavy(seed.0);
+            sum = sum.wrapping_add(seed.0);
+        }
+    }
+    sum
+}
+
 /// Reports on heavy updates. The line's name says for how many processors it is: the others are to be kept from the program.
 pub fn run(
     rt: &(impl Threads + Alloc<A = Global> + Sync + Clock + Print),
     plan: &Plan,
     prefix: &str,
 ) -> Result<()> {
-    for name in ["j_par_heavy_t1", "j_par_heavy_t2", "j_par_heavy_t4"] {
+    for name in [
+        "j_par_heavy_seq",
+        "j_par_heavy_t1",
+        "j_par_heavy_t2",
+        "j_par_heavy_t4",
+    ] {
         if name.starts_with(prefix) {
             report(rt, plan, name)?;
         }
@@ -99,7 +126,11 @@ fn report(
     for run in 0..plan.runs() {
         let mut storage = seeds(rt.alloc(), plan.count)?;
         let start = Instant::now(rt)?;
-        let answer = run_rounds(rt, &mut storage, passes)?;
+        let answer = if name == "j_par_heavy_seq" {
+            run_by_cursor(&mut storage, passes)
+        } else {
+            run_rounds(rt, &mut storage, passes)?
+        };
         let nanoseconds = u64::try_from(start.elapsed(rt)?.as_nanos())?;
         best.take(run, nanoseconds, answer)?;
     }

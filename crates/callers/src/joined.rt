@@ -1,5 +1,5 @@
 //! Joins, walked and in threads.
-ghost use Rattle.std.specs.Prelude.{◌≡◌, ◌≤◌, ◌<◌, ◌+◌, ◌*◌, ℕ, Some, true, IfOk, OnOk, IsSome, length, min};
+ghost use Rattle.std.specs.Prelude.{◌≡◌, ◌≤◌, ◌<◌, ◌+◌, ◌*◌, ◌&&◌, ℕ, Some, true, IfOk, OnOk, IsSome, length, min};
 ghost use Rattle.std.specs.Borrow.{Bor};
 ghost use Rattle.std.specs.FinMap as map;
 ghost use Rattle.std.specs.FinSet as set;
@@ -10,8 +10,8 @@ ghost use Rattle.storages.specs.Slot.{indices_of};
 
 use crate::components::Health;
 use entities::{EntitiesRes, Entity};
-use hibits::{BitSet, BitSetAll, INDEX_LIMIT, Index};
-use joins::Join;
+use hibits::{BitSet, BitSetAll, BitSetLike, INDEX_LIMIT, Index};
+use joins::{BitAnd, Join};
 use joins_parallel::{ParJoin, par_update};
 use std::alloc::{Alloc, AllocError, Global};
 use std::thread::Threads;
@@ -34,6 +34,30 @@ pub fn words_for_one(healths: &MaskedStorage<Health>, chosen: &BitSet) -> u64
     let mut walk = (healths, chosen).join();
     let _ = walk.next();
     walk.reads()
+}
+
+/// A copy of a walk goes on as the walk does.
+pub fn same_again(healths: &MaskedStorage<Health>) -> bool
+    ensures { result ≡ true }
+{
+    let mut walk = healths.join();
+    let _ = walk.next();
+    let Ok(mut copy) = walk.clone() else {
+        unreachable!()
+    };
+    match (walk.next(), copy.next()) {
+        (Some(a), Some(b)) => a.points == b.points,
+        (None, None) => true,
+        _ => false,
+    }
+}
+
+/// The combined set of two has what both have.
+#[tactic(auto, using(hibits::specs::Sets::has_part_zero))]
+pub fn in_both(a: &BitSet, b: &BitSet, id: Index) -> bool
+    ensures { result ≡ (set.contains a.now.members id && set.contains b.now.members id) }
+{
+    (a, b).and().contains(id)
 }
 
 /// The points of all, from several threads, by their indices.

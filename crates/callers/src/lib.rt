@@ -2,6 +2,7 @@
 //! and a list from threads with no proof file. What one of them could not prove would be a hole in a contract.
 #![tactic(auto)]
 
+mod changes;
 mod channels;
 mod components;
 mod cursors;
@@ -13,6 +14,7 @@ mod sets;
 mod typed;
 mod worlds;
 
+pub use changes::{all_changes_are, first_change};
 pub use channels::{heard, read_twice, told};
 pub use components::{
     Health, dead_and_gone, healths, hit, inserted_and_found, removed_beside, taken_and_gone,
@@ -23,7 +25,7 @@ pub use cursors::{
     first_taken, next_pair_has,
 };
 pub use entries::{ninety_at, taken, three_and_found};
-pub use joined::{all_healed, all_points, counted, points_at, words_for_one};
+pub use joined::{all_healed, all_points, counted, in_both, points_at, same_again, words_for_one};
 pub use own_world::{
     Frozen, Game, Leader, Load, Parts, Place, Speed, load_slot, loaded, moved_and_found, new_game,
     put_and_found,

@@ -18,6 +18,8 @@ pub struct Both<A, B> {
 }
 
 impl<A: Storages, B: Storages> Storages for Both<A, B> {
+    ghost use Rattle.std.specs.Prelude.{refl};
+    ghost use Rattle.composed.specs.Exact.{exact_by};
     ghost use Rattle.composed.specs.Both.{table_of_both, place_of_both, of_either};
 
     type Slot = Either<A::Slot, B::Slot>;
@@ -27,6 +29,8 @@ impl<A: Storages, B: Storages> Storages for Both<A, B> {
     ghost table = { λ s. table_of_both (A.table s.first) (B.table s.rest) };
 
     ghost room = { λ s. of_either (A.room s.first) (B.room s.rest) };
+
+    ghost exact = { exact_by _ A.Slot.eq B.Slot.eq (λ x y. refl) (λ x y. refl) (λ x y. refl) (λ x y. refl) A.exact B.exact };
 
     ghost place = { place_of_both A.place B.place };
 

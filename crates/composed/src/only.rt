@@ -33,6 +33,8 @@ impl<T: Component + Duplicate> Storages for Only<T>
 where
     T::Storage: MaybeTracked<T>,
 {
+    ghost use Rattle.std.specs.Prelude.{refl};
+    ghost use Rattle.composed.specs.Exact.{sole_is};
     ghost use Rattle.specs.specs.Field.{field_column, field_room};
     ghost use Rattle.composed.specs.declared.only.Sole.TheVariants.{Sole};
 
@@ -43,6 +45,8 @@ where
     ghost table = { λ s _. field_column s.field };
 
     ghost room = { λ s _. field_room s.field };
+
+    ghost exact = { λ a b. (λ _. sole_is a b, λ _. refl) };
 
     ghost place = { λ _. Sole };
 

@@ -10,6 +10,8 @@ mod hostile_scripts;
 mod runs;
 #[cfg(test)]
 mod scripts;
+#[cfg(test)]
+mod selections;
 mod small;
 #[cfg(test)]
 mod typed_worlds;

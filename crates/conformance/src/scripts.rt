@@ -198,3 +198,51 @@ fn refused_commands_name_their_cause(rt: HostRuntime) {
         "",
     );
 }
+
+#[test]
+fn everyone_dies_at_once(rt: HostRuntime) -> Result<(), Fail> {
+    assert_tale(
+        &rt,
+        rt.alloc(),
+        "
+        delete-all -> ok
+        register hp -> ok
+        reader hp -> reader 0
+        create -> 0:1
+        create -> 1:1
+        create pending -> 2:1
+        insert hp 2:1 7 -> none
+        insert hp 0:1 8 -> none
+        mark 1:1 -> ok
+        events hp 0 -> [Inserted(2), Inserted(0)]
+        delete-all -> ok
+        events hp 0 -> [Removed(0), Removed(2)]
+        select living -> []
+        select hp -> []
+        living 2:1 -> false
+        maintain 0 -> deleted [] ran 0 refused 0 left 0
+        entity 1 -> 1:-1
+        entity 2 -> 2:-1
+        ",
+    )?;
+    Ok(())
+}
+
+#[test]
+fn a_refused_list_keeps_all_until_everyone_dies(rt: HostRuntime) -> Result<(), Fail> {
+    assert_tale(
+        &rt,
+        rt.alloc(),
+        "
+        register pos -> ok
+        create -> 0:1
+        create -> 1:1
+        insert pos 1:1 8 -> none
+        delete 1:1 0:1 1:1 -> error: Tried to delete entity Entity(1, Generation(1)), but the generation is no longer valid; it should be Generation(1)
+        get pos 1:1 -> 8
+        delete-all -> ok
+        select living -> []
+        ",
+    )?;
+    Ok(())
+}

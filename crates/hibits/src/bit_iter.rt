@@ -10,6 +10,7 @@ ghost use Rattle.hibits.specs.Left.{left};
 use crate::layers::Layers;
 use crate::limits::{INDEX_LIMIT, Index, LAYERS};
 use crate::walk::Walk;
+use std::alloc::AllocError;
 use std::marker::Model;
 
 /// The members of a set or of a view, ascending. Ports `hibitset::BitIter`.
@@ -29,6 +30,21 @@ impl<M: Layers> Model for BitIter<M> {
     ghost view = { λ a. record { mask = a.mask; position = position a.walk; reads = words_read a.walk } };
 
     ghost invariant = { λ a. IsWalkOf (M.has a.mask) (M.cost a.mask) a.walk };
+}
+
+/// The copy walks on from the same place, and has read as many words.
+impl<M: Layers + Copy> Clone for BitIter<M> {
+    ghost is_clone = { λ x y. y ≡ x };
+
+    ghost is_infallible = { λ _. ⊤ };
+
+    #[inline(always)]
+    fn clone(&self) -> Result<Self, AllocError> {
+        Ok(BitIter {
+            mask: self.mask,
+            walk: self.walk,
+        })
+    }
 }
 
 impl<M: Layers> BitIter<M> {

@@ -9,7 +9,7 @@ use crate::limits::{INDEX_LIMIT, Index, LAYERS};
 use crate::reads::Reads;
 
 /// The members of both. Ports `hibitset::BitSetAnd`.
-#[derive(Debug, Drop)]
+#[derive(Clone, Copy, Debug)]
 pub struct BitSetAnd<A, B>(pub A, pub B);
 
 impl<A: Layers, B: Layers> Layers for BitSetAnd<A, B> {
@@ -37,7 +37,7 @@ impl<A: BitSetLike, B: BitSetLike> BitSetLike for BitSetAnd<A, B> {
 }
 
 /// The members of either. Ports `hibitset::BitSetOr`.
-#[derive(Debug, Drop)]
+#[derive(Clone, Copy, Debug)]
 pub struct BitSetOr<A, B>(pub A, pub B);
 
 impl<A: Layers, B: Layers> Layers for BitSetOr<A, B> {
@@ -65,7 +65,7 @@ impl<A: BitSetLike, B: BitSetLike> BitSetLike for BitSetOr<A, B> {
 }
 
 /// The members of one and not of the other. Ports `hibitset::BitSetXor`.
-#[derive(Debug, Drop)]
+#[derive(Clone, Copy, Debug)]
 pub struct BitSetXor<A, B>(pub A, pub B);
 
 impl<A: Layers, B: Layers> Layers for BitSetXor<A, B> {
@@ -100,7 +100,7 @@ impl<A: BitSetLike, B: BitSetLike> BitSetLike for BitSetXor<A, B> {
 }
 
 /// The indices below the limit that are no members. Ports `hibitset::BitSetNot`.
-#[derive(Debug, Drop)]
+#[derive(Clone, Copy, Debug)]
 pub struct BitSetNot<A>(pub A);
 
 impl<A: Layers> Layers for BitSetNot<A> {

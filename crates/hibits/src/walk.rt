@@ -11,7 +11,7 @@ use crate::reads::Reads;
 
 /// Where a walk is in layers that stand apart from it, and are passed to each step: so a cursor can walk the mask of
 /// a storage that it also changes, as long as the mask stays. It keeps the word of each layer that it is in, and reads none of them twice.
-#[derive(Drop)]
+#[derive(Clone, Copy)]
 pub struct Walk {
     // What is left of the current word of each layer.
     word0: u64,

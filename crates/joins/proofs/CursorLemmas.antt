@@ -1,8 +1,8 @@
 -- Walks of cursors over storages.
-use Rattle.std.proofs.Common.{◌≡◌, ℕ, Bool, ◌&&◌, ◌≤◌, ◌<◌, ◌+◌, ◌-◌, ◌^◌, true, List, ◌∷◌, zero, suc, arith, refl, sym, ap, subst, ◌∙◌}
+use Rattle.std.proofs.Common.{◌≡◌, ℕ, Bool, ◌&&◌, ◌≤◌, ◌<◌, ◌+◌, ◌-◌, ◌^◌, true, List, ◌∷◌, zero, suc, nat_eq, arith, refl, sym, ap, subst, ◌∙◌}
 use Rattle.std.proofs.Math.Path.{fun_ext}
-use Rattle.std.proofs.lemmas.Bool.{lt-ltb, and_parts}
-use Rattle.std.specs.Prelude.{cond, Option, Some, None, IfSome, is_some, false, ◌||◌, Result, Ok, Err, IfErr}
+use Rattle.std.proofs.lemmas.Bool.{lt-ltb, and_parts, false≢true}
+use Rattle.std.specs.Prelude.{◌↔◌, IfNone, cond, Option, Some, None, IfSome, is_some, false, ◌||◌, Result, Ok, Err, IfErr}
 use Rattle.std.specs.FinMap as map
 use Rattle.std.specs.FinSet as set
 use Rattle.std.specs.Ordering.{nat_cmp}
@@ -11,6 +11,8 @@ use Rattle.hibits.specs.Left.{left, passing}
 use Rattle.hibits.specs.Sets.{has_part, has_part_zero}
 use Rattle.hibits.specs.Views.{everywhere}
 use Rattle.hibits.specs.declared.limits.TheConstants.{INDEX_LIMIT}
+use Rattle.storages.specs.Finds.{get-insert}
+use Rattle.std.proofs.lemmas.Bool.Decides.{nat_tests}
 use Rattle.storages.specs.declared.masked.NotLent.{NotLent}
 use Rattle.storages.specs.declared.masked.NotLent.TheVariants.{Absent, OutOfMemory}
 use Rattle.entities.specs.Census.{Census, population}
@@ -66,6 +68,14 @@ pub some_at : (P : ℕ → Type 0) (o p : Option ℕ) → p ≡ o → IfSome o P
 some_at P None p same h x e = cc
 some_at P (Some i) p same h x e = let at : i ≡ x = cc in subst P at h
 
+-- an index that had a value has one after a write to it, and so the same indices have one
+either_some : {A : Type 0} (b : Bool) (x : A) (o : Option A) → (b ≡ true → is_some o ≡ true) → is_some (cond b (Some x) o) ≡ is_some o
+either_some true x o h = sym (h refl)
+either_some false x o h = refl
+
+pub same_indices : {T : Type 0} (m : map.FinMap nat_cmp T) (id : ℕ) (x : T) → map.contains_key m id ≡ true → (q : ℕ) → map.contains_key (map.insert m id x) q ≡ map.contains_key m q
+same_indices m id x h q = ap is_some (get-insert m id x q) ∙ either_some (nat_eq id q) x (map.get m q) (λ e. let same : id ≡ q = grind (arith, nat_tests) in ap (map.contains_key m) (sym same) ∙ h)
+
 pub none_at : (o : Option ℕ) → is_some o ≡ false → (x : ℕ) → o ≡ Some x → ⊥
 none_at None h x e = cc
 none_at (Some i) h x e = cc
@@ -74,6 +84,12 @@ none_at (Some i) h x e = cc
 pub not_absent : {B : Type 0} (r : Result B NotLent) → IfErr r (λ e. e ≡ OutOfMemory) → r ≡ Err Absent → ⊥
 not_absent (Ok x) h e = cc
 not_absent (Err a) h e = cc
+
+-- where a cursor stands at an index that has a value, it lends something
+pub standing_somewhere : {A T : Type 0} (r : Option A) (here : Option ℕ) (i : ℕ) (x : Option T) → here ≡ Some i → is_some x ≡ true → IfNone r (x ≡ None) → (r ≡ None) ↔ (here ≡ None)
+standing_somewhere r here i None at there none = absurd (false≢true there)
+standing_somewhere None here i (Some x) at there none = absurd (false≢true (sym (ap is_some none)))
+standing_somewhere (Some y) here i (Some x) at there none = ((λ e. absurd (false≢true (ap is_some (sym e)))), (λ e. absurd (false≢true (ap is_some (sym e ∙ at)))))
 
 -- ---- every index
 and_true : (b : Bool) → (b && true) ≡ b

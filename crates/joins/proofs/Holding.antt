@@ -1,6 +1,8 @@
 -- On the map that a change set holds.
-use Rattle.std.proofs.Common.{◌≡◌, ℕ, Bool, true, false, nat_eq, cond, List, [], ◌∷◌, ◌++◌, refl, ap, sym, ◌∙◌, subst, Some, None, is_some, arith}
-use Rattle.std.specs.Prelude.{Option, IsSome, option_map}
+use Rattle.std.proofs.Common.{◌≡◌, ℕ, Bool, true, false, nat_eq, cond, List, [], ◌∷◌, ◌++◌, refl, ap, sym, ◌∙◌, subst, Some, None, is_some, is_ok, Result, Err, ◌⊎◌, inl, arith}
+use Rattle.std.proofs.Math.Path.{fun_ext}
+use Rattle.std.specs.Prelude.{Option, IsSome, IsOk, is_none, option_map}
+use Rattle.storages.specs.Meaning.{HasRoom}
 use Rattle.std.proofs.lemmas.Bool.{false≢true}
 use Rattle.std.proofs.lemmas.Bool.Decides.{nat_tests}
 use Rattle.entities.specs.declared.entity.Entity.{Entity}
@@ -25,7 +27,7 @@ module _ {T : Type 0} where
   pub get-held : (m : map.FinMap nat_cmp (Change T)) (q : ℕ) → map.get (held m) q ≡ option_map value_of (map.get m q)
   get-held m q = map.get-from_entries nat_cmp_total (entries_of (map.entries m)) q ∙ find_entries (map.entries m) q ∙ ap (option_map value_of) (sym (map.get-entries m q))
 
-  same_presence : (o : Option (Change T)) → is_some (option_map value_of o) ≡ is_some o
+  pub same_presence : (o : Option (Change T)) → is_some (option_map value_of o) ≡ is_some o
   same_presence None = refl
   same_presence (Some c) = refl
 
@@ -52,6 +54,22 @@ none_of : {A : Type 0} (o : Option A) → is_some o ≡ false → o ≡ None
 none_of None e = refl
 none_of (Some x) e = absurd (false≢true (sym e))
 
+-- what is lent where no event needs room is refused only where there is nothing
+pub none_where_refused : {A E : Type 0} (r : Result A E) (e : E) (o : Option ℕ) {X : Type 0} (x : Option X) → r ≡ Err e → is_some o ≡ false → (IsSome x → HasRoom o 1 → IsOk r) → x ≡ None
+none_where_refused r e None None at free h = refl
+none_where_refused r e None (Some x) at free h = absurd (false≢true (ap is_ok (sym at) ∙ h refl tt))
+none_where_refused r e (Some k) x at free h = absurd (false≢true (sym free))
+
+-- a borrow that ends as one of two equal functions says
+pub ends_alike : {N A B C : Type 0} (n : N) (f h : A → B) → ((x : A) → f x ≡ h x) → ◌≡◌ {A = ◌⊎◌ (N × (A → B)) C} (inl (n, f)) (inl (n, h))
+ends_alike n f h e = ap (λ (k : _ → _). inl (n, k)) (fun_ext e)
+
+-- what has just what another has
+pub same_at : {A : Type 0} (o a : Option A) → (IsSome o → a ≡ o) → (o ≡ None → is_none a ≡ true) → a ≡ o
+same_at None None p q = refl
+same_at None (Some x) p q = absurd (false≢true (q refl))
+same_at (Some y) a p q = p refl
+
 module _ {T : Type 0} where
   -- a value put where it is already
   put_again : (m : map.FinMap nat_cmp (Change T)) (id : ℕ) (c : Change T) → map.get m id ≡ Some c → map.insert m id c ≡ m
@@ -77,6 +95,10 @@ module _ {T : Type 0} (m : map.FinMap nat_cmp (Change T)) (s : map.FinMap nat_cm
   pub combined_there : (f : T → T → T) (n : map.FinMap nat_cmp (Change T)) (c d : Change T) (x : T) → n ≡ map.insert m id d → map.get m id ≡ Some c → d.value ≡ f c.value x → held n ≡ with_change f s id x
   combined_there f n c d x e g v =
       ap (held {T = T}) e ∙ held-insert m id d ∙ ap (λ (k : map.FinMap nat_cmp T). map.insert k id d.value) h ∙ ap (map.insert s id) v ∙ ap (λ o. map.insert s id (joined f o x)) (sym (value_here c g))
+
+  -- a value was written where there was one
+  pub put_there : (n : map.FinMap nat_cmp (Change T)) (x : T) → n ≡ map.insert m id (record { value = x }) → held n ≡ map.insert s id x
+  put_there n x e = ap (held {T = T}) e ∙ held-insert m id (record { value = x }) ∙ ap (λ (k : map.FinMap nat_cmp T). map.insert k id x) h
 
   -- a value refused, and is as it was
   pub kept_there : (n : map.FinMap nat_cmp (Change T)) (c d : Change T) → n ≡ map.insert m id d → map.get m id ≡ Some c → d.value ≡ c.value → held n ≡ s

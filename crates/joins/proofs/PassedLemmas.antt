@@ -1,5 +1,5 @@
 -- A walk goes on while what it passed changes.
-use Rattle.std.proofs.Common.{◌≡◌, ◌≢◌, ◌⊎◌, ℕ, Bool, ◌&&◌, ◌≤◌, ◌<◌, ◌+◌, ◌*◌, ◌/◌, ◌^◌, true, false, zero, suc, arith, refl, sym, ap, ◌∙◌, add-one, inl, inr}
+use Rattle.std.proofs.Common.{◌≡◌, ◌≢◌, ◌⊎◌, ℕ, Bool, ◌&&◌, ◌≤◌, ◌<◌, ◌+◌, ◌*◌, ◌/◌, ◌^◌, true, false, zero, suc, arith, refl, sym, ap, ◌∙◌, inl, inr}
 use Rattle.std.specs.Prelude.{slice_index, min, ◌-◌, Option, Some, None, is_some, IsSome, Result, Ok, Err, IfOk, OnErr}
 use Rattle.hibits.specs.Walks.{walked}
 use Rattle.std.specs.FinMap as map
@@ -7,7 +7,7 @@ use Rattle.std.specs.Ordering.{nat_cmp}
 use Rattle.std.proofs.Math.Nat.{div-one}
 use Rattle.std.proofs.lemmas.Bool.{cases_eq, and_parts}
 use Rattle.hibits.specs.declared.walk.Walk.{Walk}
-use Rattle.hibits.specs.declared.limits.TheConstants.{LAYERS, INDEX_LIMIT}
+use Rattle.hibits.specs.declared.limits.TheConstants.{LAYERS}
 use Rattle.hibits.specs.Left.{left}
 use Rattle.hibits.specs.Sets.{has_part, part_member, member_part, up_part}
 use Rattle.hibits.specs.WalkOf.{IsWalkOf, from_of, position}

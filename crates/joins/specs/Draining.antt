@@ -1,5 +1,5 @@
 -- What a cursor that takes components out means.
-use Rattle.std.specs.Prelude.{◌≡◌, ℕ, ◌&&◌, Bool, Option, List, []}
+use Rattle.std.specs.Prelude.{ℕ, ◌&&◌, Bool, Option, List, []}
 use Rattle.std.specs.Option.{option_and_then}
 use Rattle.std.specs.FinMap as map
 use Rattle.std.specs.Borrow.{RattleType, MutBor, GName, Fml, follows}

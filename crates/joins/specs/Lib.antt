@@ -1,4 +1,6 @@
 pub mod Both
+pub mod ChangeCursor
+pub mod ChangeLends
 pub mod Changes
 pub mod Cursor
 pub mod CursorOfTwo
@@ -6,6 +8,7 @@ pub mod CursorOfView
 pub mod Draining
 pub mod Each
 pub mod EntryCursor
+pub mod Given
 pub mod Held
 pub mod Indexed
 pub mod Keys

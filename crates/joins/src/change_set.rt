@@ -1,5 +1,6 @@
 //! Values that were added to entities, until someone applies them.
-ghost use Rattle.std.specs.Prelude.{◌≡◌, ◌↔◌, ◌≤◌, ◌^◌, ℕ, None, Some, Err, option_copied, IsSome, OnOk, OnErr, IfOk, IfErr};
+ghost use Rattle.std.specs.Prelude.{◌≡◌, ◌↔◌, ◌≤◌, ◌^◌, ℕ, None, Some, Err, option_copied, IsSome, IfSome, IfNone, OnOk, OnErr, IfOk, IfErr};
+ghost use Rattle.std.specs.Borrow.{sem};
 ghost use Rattle.std.specs.FinMap as map;
 ghost use Rattle.std.specs.FinSet as set;
 ghost use Rattle.entities.specs.Population.{index_of};
@@ -29,8 +30,8 @@ pub enum ChangeError {
 
 // What a change set keeps at an index.
 #[derive(Drop)]
-struct Change<T> {
-    value: T,
+pub struct Change<T> {
+    pub(crate) value: T,
 }
 
 impl<T: Drop> Component for Change<T> {
@@ -62,6 +63,9 @@ impl<T: Drop> Model for ChangeSet<T> {
 }
 
 impl<T: Combine + Drop> ChangeSet<T> {
+    ghost use Rattle.joins.specs.ChangeLends.{lends_change};
+    ghost use Rattle.joins.specs.Given.{value_given};
+
     /// Without values.
     pub fn new(alloc: Global) -> Self
         ensures { result ≡ map.empty }
@@ -141,6 +145,16 @@ impl<T: Combine + Drop> ChangeSet<T> {
         self.changes.mask()
     }
 
+    // The indices that have a value, and the values, apart.
+    #[inline(always)]
+    pub(crate) fn into_parts(self) -> (BitSet, DenseVecStorage<Change<T>>)
+        ensures mask { (q : ℕ) → set.contains result.0.members q ≡ map.contains_key self q }
+        ensures values { (q : ℕ) → value_given result.1 q ≡ map.get self q }
+    {
+        let ChangeSet { changes } = self;
+        changes.into_parts()
+    }
+
     // The value of an index that has one.
     #[inline(always)]
     pub(crate) fn present(&self, id: Index) -> &T
@@ -161,6 +175,19 @@ impl<T: Combine + Drop> ChangeSet<T> {
         match self.changes.get(id) {
             Some(change) => Some(&change.value),
             None => None,
+        }
+    }
+
+    /// The value of an index, to write to. It takes no memory.
+    #[inline(always)]
+    pub fn get_mut(&mut self, id: Index) -> Option<&mut T>
+        ensures* writes_back { sem 𝓛 (lends_change T.row self.entry id result) }
+        ensures value { IfSome result (λ x. map.get self.old id ≡ Some x.now) }
+        ensures absent { IfNone result (map.get self.old id ≡ None) }
+    {
+        match self.changes.get_mut(id) {
+            Ok(change) => Some(&mut change.value),
+            Err(_) => None,
         }
     }
 

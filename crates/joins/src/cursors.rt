@@ -1,5 +1,6 @@
 //! Cursors: walks over storages that are changed on the way, beside another join.
 
+pub(crate) mod change_join;
 pub(crate) mod drain;
 pub(crate) mod entry_join;
 pub(crate) mod join_living;

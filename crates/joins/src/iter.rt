@@ -1,5 +1,5 @@
 //! The values of a join.
-ghost use Rattle.std.specs.Prelude.{◌≡◌, ℕ, ◌+◌, ◌-◌, ◌*◌, ◌≤◌, ◌<◌, true, false, [], ◌∷◌, MatchOption, IfSome, IfNone};
+ghost use Rattle.std.specs.Prelude.{◌≡◌, ℕ, ◌+◌, ◌-◌, ◌*◌, ◌≤◌, ◌<◌, true, false, [], ◌∷◌, MatchOption, IfSome, IfNone, ⊤};
 ghost use Rattle.std.specs.Iterator.{item_count, MakesProgress};
 ghost use Rattle.hibits.specs.Left.{left};
 ghost use Rattle.entities.specs.Census.{population};
@@ -10,6 +10,7 @@ use crate::lookup::Lookup;
 use crate::repeatable::RepeatableJoin;
 use entities::{EntitiesRes, Entity};
 use hibits::{BitIter, BitSetLike, INDEX_LIMIT, Index, LAYERS, Layers};
+use std::alloc::AllocError;
 
 /// The values of a join at its indices, ascending. Ports `specs::join::JoinIter`.
 #[derive(Drop)]
@@ -61,6 +62,25 @@ impl<J: Join> JoinIter<J> {
     {
         let id = self.keys.next()?;
         Some(J::get(&mut self.values, id))
+    }
+}
+
+/// The copy walks on from the same place over the same, and has read as many words.
+impl<J: Join> Clone for JoinIter<J>
+where
+    J::Mask: Copy,
+    J::Value: Copy,
+{
+    ghost is_clone = { λ x y. (y.keys ≡ x.keys) × (y.values ≡ x.values) };
+
+    ghost is_infallible = { λ _. ⊤ };
+
+    #[inline(always)]
+    fn clone(&self) -> Result<Self, AllocError> {
+        Ok(JoinIter {
+            keys: self.keys.clone()?,
+            values: self.values,
+        })
     }
 }
 

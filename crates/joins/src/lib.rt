@@ -1,9 +1,11 @@
 //! Joins over sets, storages and entities, and change sets: values that combine at each entity until they are applied.
 #![tactic(auto)]
 
+mod bit_and;
 mod change_set;
 mod combine;
 mod components;
+mod consumed;
 mod cursors;
 mod indexed;
 mod iter;
@@ -17,8 +19,10 @@ mod restricted;
 mod sets;
 mod tuples;
 
+pub use bit_and::BitAnd;
 pub use change_set::{ChangeError, ChangeSet};
 pub use combine::{Combine, Refused};
+pub use cursors::change_join::ChangeJoin;
 pub use cursors::drain::Drain;
 pub use cursors::entry_join::EntryJoin;
 pub use cursors::join_living::JoinLiving;

@@ -1,17 +1,11 @@
 //! Change sets.
+use crate::cursor_walks::{no_more_than, subtract, subtract_all};
+use crate::worlds::{Health, empty};
 use entities::Entity;
 use joins::{ChangeError, ChangeSet};
 use std::alloc::{AllocError, Global};
 use std::test::Fail;
-use storages::{Component, DenseVecStorage, MaskedStorage, TryDefault};
-
-// What an entity has left.
-#[derive(Clone, Copy)]
-struct Health(i32);
-
-impl Component for Health {
-    type Storage = DenseVecStorage<Self>;
-}
+use storages::MaskedStorage;
 
 // The value of an entity, or none.
 fn at(set: &ChangeSet<i32>, e: Entity) -> Option<i32> {
@@ -34,28 +28,12 @@ fn fill(healths: &mut MaskedStorage<Health>) -> bool {
         && healths.put(2, Health(300)).is_ok()
 }
 
-// Subtracts the change of an index, if there is one.
-fn subtract(healths: &mut MaskedStorage<Health>, set: &ChangeSet<i32>, id: u32) {
-    if let Some(change) = set.get(id) {
-        if let Ok(health) = healths.get_mut(id) {
-            health.0 = health.0.wrapping_sub(*change);
-        }
-    }
-}
-
 // What is left at the three indices.
 fn left(healths: &MaskedStorage<Health>) -> Option<(i32, i32, i32)> {
     match (healths.get(0), healths.get(1), healths.get(2)) {
         (Some(a), Some(b), Some(c)) => Some((a.0, b.0, c.0)),
         _ => None,
     }
-}
-
-// Subtracts all.
-fn subtract_all(healths: &mut MaskedStorage<Health>, set: &ChangeSet<i32>) {
-    subtract(healths, set, 0);
-    subtract(healths, set, 1);
-    subtract(healths, set, 2);
 }
 
 // The change set of a list.
@@ -74,16 +52,51 @@ fn first_at(index: u32) -> Option<Entity> {
     Entity::from_parts(index, 1)
 }
 
-#[test]
-fn changes_are_subtracted_from_healths(rt: HostRuntime) -> Result<(), Fail> {
+// The changes of three healths: 32 of the first, and 12 and 13 of the second.
+fn three_changes(alloc: Global) -> Result<ChangeSet<i32>, Fail> {
     let a = first_at(0).ok_or("no entity")?;
     let b = first_at(1).ok_or("no entity")?;
-    let inner = DenseVecStorage::<Health>::try_default(rt.alloc())?;
-    let mut healths = MaskedStorage::new(rt.alloc(), inner);
-    assert!(rt; fill(&mut healths));
-    let set = changes(rt.alloc(), [(a, 32), (b, 12), (b, 13)].as_slice()).ok_or("refused")?;
-    subtract_all(&mut healths, &set);
-    assert!(rt; left(&healths) == Some((68, 175, 300)));
+    Ok(changes(alloc, [(a, 32), (b, 12), (b, 13)].as_slice()).ok_or("refused")?)
+}
+
+// The changes are subtracted, and stay.
+fn subtracts(alloc: Global, healths: &mut MaskedStorage<Health>) -> Result<bool, Fail> {
+    let set = three_changes(alloc)?;
+    let there = fill(healths);
+    subtract(healths, &set);
+    Ok(there && left(healths) == Some((68, 175, 300)) && set.mask().count() == 2)
+}
+
+#[test]
+fn changes_are_subtracted_from_healths(rt: HostRuntime) -> Result<(), Fail> {
+    assert!(rt; subtracts(rt.alloc(), &mut empty(rt.alloc())?)?);
+    Ok(())
+}
+
+// The changes are subtracted, and given up.
+fn subtracts_all(alloc: Global, healths: &mut MaskedStorage<Health>) -> Result<bool, Fail> {
+    let there = fill(healths);
+    subtract_all(healths, three_changes(alloc)?);
+    Ok(there && left(healths) == Some((68, 175, 300)))
+}
+
+#[test]
+fn a_change_set_that_is_given_up_gives_its_changes(rt: HostRuntime) -> Result<(), Fail> {
+    assert!(rt; subtracts_all(rt.alloc(), &mut empty(rt.alloc())?)?);
+    Ok(())
+}
+
+// The changes by a cursor: of two the second is more than the health beside it.
+fn are_bounded(set: &mut ChangeSet<i32>, healths: &mut MaskedStorage<Health>) -> bool {
+    let there = healths.put(0, Health(100)).is_ok() && healths.put(1, Health(20)).is_ok();
+    no_more_than(set, healths);
+    there && set.get(0).copied() == Some(32) && set.get(1).copied() == Some(20)
+}
+
+#[test]
+fn a_cursor_lends_the_changes(rt: HostRuntime) -> Result<(), Fail> {
+    let mut set = three_changes(rt.alloc())?;
+    assert!(rt; are_bounded(&mut set, &mut empty(rt.alloc())?));
     Ok(())
 }
 

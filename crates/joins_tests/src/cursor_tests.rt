@@ -1,13 +1,18 @@
 //! Cursors, and what they write.
 use crate::cursor_walks::{
     beside_one, counted, drained, drained_at, exchange, go_on, increase, raise_low, shown_and_lent,
+    sum_of_entries,
 };
-use crate::worlds::{Chosen, Number, Position, Velocity, World, put_all};
+use crate::worlds::{Chosen, Number, Place, Position, Velocity, World, empty, put_all};
 use entities::Entity;
 use hibits::BitSetAll;
 use joins::{JoinIter, JoinLiving, JoinMut, Restrict, WriteJoin};
+use std::alloc::Global;
 use std::test::Fail;
-use storages::{AntiStorage, ComponentEvent, MaskedStorage, NotLent, ReaderId, WriteStorage};
+use storages::ComponentEvent::{Inserted, Modified, Removed};
+use storages::{
+    AntiStorage, Component, ComponentEvent, MaskedStorage, NotLent, ReaderId, WriteStorage,
+};
 
 // What a storage of positions has at the indices 0, 1 and 2.
 fn positions_of(
@@ -22,74 +27,92 @@ fn positions_of(
 
 // Two positions of which one has a velocity go on.
 fn goes_on(world: &mut World<Position, Velocity>) -> bool {
-    put_all(&mut world.first, [0, 1].as_slice(), Position { x: 0, y: 0 })
-        && put_all(&mut world.second, [0].as_slice(), Velocity { x: 5, y: 2 })
+    let there = put_all(&mut world.first, [0, 1].as_slice(), Position { x: 0, y: 0 })
+        && put_all(&mut world.second, [0].as_slice(), Velocity { x: 5, y: 2 });
+    go_on(&mut world.first, &world.second);
+    there
+        && positions_of(&world.first)
+            == (
+                Some(Position { x: 5, y: 2 }),
+                Some(Position { x: 0, y: 0 }),
+                None,
+            )
 }
 
 #[test]
 fn positions_go_on_where_there_is_a_velocity(rt: HostRuntime) -> Result<(), Fail> {
     let mut world = World::<Position, Velocity>::of(rt.alloc(), 2)?;
     assert!(rt; goes_on(&mut world));
-    go_on(&mut world.first, &world.second);
-    assert!(rt;
-        positions_of(&world.first)
-            == (
-                Some(Position { x: 5, y: 2 }),
-                Some(Position { x: 0, y: 0 }),
-                None
-            )
-    );
     Ok(())
+}
+
+// Ten components, of which none stands beside its absence.
+fn is_never_absent<T: Component + Copy + Default + Drop>(storage: &mut MaskedStorage<T>) -> bool {
+    put_all(
+        storage,
+        [0, 1, 2, 3, 4, 5, 6, 7, 8, 9].as_slice(),
+        T::default(),
+    ) && counted(&*storage) == 10
+        && counted((&*storage, AntiStorage(storage.mask()))) == 0
 }
 
 #[test]
 fn vec_test_anti(rt: HostRuntime) -> Result<(), Fail> {
-    let mut world = World::<Position, Velocity>::of(rt.alloc(), 10)?;
-    assert!(rt;
-        put_all(
-            &mut world.first,
-            [0, 1, 2, 3, 4, 5, 6, 7, 8, 9].as_slice(),
-            Position { x: 1, y: 1 }
-        )
-    );
-    assert_eq!(rt; counted(&world.first), 10);
-    assert_eq!(rt; counted((&world.first, AntiStorage(world.first.mask()))), 0);
+    assert!(rt; is_never_absent::<Position>(&mut empty(rt.alloc())?));
     Ok(())
 }
 
 #[test]
-fn a_drain_takes_what_it_is_asked_for(rt: HostRuntime) -> Result<(), Fail> {
-    let mut world = World::<Position, Velocity>::of(rt.alloc(), 5)?;
-    assert!(rt;
-        put_all(
-            &mut world.first,
-            [1, 2, 4].as_slice(),
-            Position { x: 7, y: 7 }
-        )
-    );
-    let (list, once) = drained_at(rt.alloc(), &mut world.first, 2)?;
-    assert!(rt; list.as_slice() == [1, 2, 4].as_slice());
-    assert!(rt; once);
-    assert!(rt; world.first.contains(1) && !world.first.contains(2) && world.first.contains(4));
+fn default_vec_test_anti(rt: HostRuntime) -> Result<(), Fail> {
+    assert!(rt; is_never_absent::<Place>(&mut empty(rt.alloc())?));
     Ok(())
+}
+
+// Three positions.
+fn three_there(positions: &mut MaskedStorage<Position>) -> bool {
+    put_all(positions, [1, 2, 4].as_slice(), Position { x: 7, y: 7 })
+}
+
+// Of three positions one is taken, once.
+fn one_is_taken(alloc: Global, positions: &mut MaskedStorage<Position>) -> Result<bool, Fail> {
+    let there = three_there(positions);
+    let (list, once) = drained_at(alloc, positions, 2)?;
+    Ok(
+        there
+            && once
+            && list.as_slice() == [1, 2, 4].as_slice()
+            && positions.contains(1)
+            && !positions.contains(2)
+            && positions.contains(4),
+    )
+}
+
+#[test]
+fn a_drain_takes_what_it_is_asked_for(rt: HostRuntime) -> Result<(), Fail> {
+    assert!(rt; one_is_taken(rt.alloc(), &mut empty(rt.alloc())?)?);
+    Ok(())
+}
+
+// Three positions are taken beside their entities.
+fn all_are_taken(alloc: Global, world: &mut World<Position, Velocity>) -> Result<bool, Fail> {
+    let there = three_there(&mut world.first);
+    let list = drained(alloc, &mut world.first, &world.entities)?;
+    Ok(there && are(&list, [(1, 1), (2, 1), (4, 1)].as_slice()) && counted(&world.first) == 0)
+}
+
+// Whether entities have these indices and generations.
+fn are(list: &[Entity], wanted: &[(u32, i32)]) -> bool {
+    let mut same = list.len() == wanted.len();
+    for (entity, parts) in list.iter().zip(wanted) {
+        same = same && Entity::from_parts(parts.0, parts.1) == Some(*entity);
+    }
+    same
 }
 
 #[test]
 fn basic_drain(rt: HostRuntime) -> Result<(), Fail> {
     let mut world = World::<Position, Velocity>::of(rt.alloc(), 5)?;
-    assert!(rt;
-        put_all(
-            &mut world.first,
-            [1, 2, 4].as_slice(),
-            Position { x: 7, y: 7 }
-        )
-    );
-    let list = drained(rt.alloc(), &mut world.first, &world.entities)?;
-    assert_eq!(rt; list.len(), 3);
-    assert_eq!(rt; list[0], World::<Position, Velocity>::entity(1)?);
-    assert_eq!(rt; list[1], World::<Position, Velocity>::entity(2)?);
-    assert_eq!(rt; list[2], World::<Position, Velocity>::entity(4)?);
-    assert_eq!(rt; counted(&world.first), 0);
+    assert!(rt; all_are_taken(rt.alloc(), &mut world)?);
     Ok(())
 }
 
@@ -111,7 +134,7 @@ fn numbers_of(
 }
 
 // Of four entities the last dies; all but the first are chosen, and the second has a number.
-fn chosen_are_counted(world: &mut World<Number, Chosen>) -> Result<bool, Fail> {
+fn chosen_are_there(world: &mut World<Number, Chosen>) -> Result<bool, Fail> {
     let dead = World::<Number, Chosen>::entity(3)?;
     Ok(
         world.entities.alloc_mut().kill(&[dead]).is_ok()
@@ -120,83 +143,121 @@ fn chosen_are_counted(world: &mut World<Number, Chosen>) -> Result<bool, Fail> {
     )
 }
 
+// The numbers of the chosen are counted up to 10, and from 0 again.
+fn chosen_are_counted(world: &mut World<Number, Chosen>) -> Result<bool, Fail> {
+    let there = chosen_are_there(world)?;
+    increase(&world.entities, &mut world.first, &world.second, 10)?;
+    let once = numbers_of(&world.first) == (None, Some(Number(9)), Some(Number(1)), None);
+    increase(&world.entities, &mut world.first, &world.second, 10)?;
+    let twice = numbers_of(&world.first) == (None, Some(Number(0)), Some(Number(2)), None);
+    Ok(there && once && twice)
+}
+
 #[test]
 fn entries_are_those_of_the_living(rt: HostRuntime) -> Result<(), Fail> {
     let mut world = World::<Number, Chosen>::of(rt.alloc(), 4)?;
     assert!(rt; chosen_are_counted(&mut world)?);
-    increase(&world.entities, &mut world.first, &world.second, 10)?;
-    assert!(rt; numbers_of(&world.first) == (None, Some(Number(9)), Some(Number(1)), None));
-    increase(&world.entities, &mut world.first, &world.second, 10)?;
-    assert!(rt; numbers_of(&world.first) == (None, Some(Number(0)), Some(Number(2)), None));
     Ok(())
+}
+
+// The sum of the numbers of 30 entities, of which the first 15 have their indices, and the others get 2.
+fn numbers_are_summed(world: &mut World<Number, Chosen>) -> Result<bool, Fail> {
+    for index in 0..15u32 {
+        if world.first.put(index, Number(index)).is_err() {
+            return Ok(false);
+        }
+    }
+    Ok(sum_of_entries(&world.entities, &mut world.first, Number(2))? == 135)
+}
+
+#[test]
+fn entries(rt: HostRuntime) -> Result<(), Fail> {
+    let mut world = World::<Number, Chosen>::of(rt.alloc(), 30)?;
+    assert!(rt; numbers_are_summed(&mut world)?);
+    Ok(())
+}
+
+// Three positions are shown, and lent the same.
+fn are_shown_and_lent(alloc: Global, world: &mut World<Position, Velocity>) -> Result<bool, Fail> {
+    let there = put_all(
+        &mut world.first,
+        [0, 3].as_slice(),
+        Position { x: 10, y: 0 },
+    ) && put_all(&mut world.first, [2].as_slice(), Position { x: 12, y: 0 });
+    let list = shown_and_lent(alloc, &world.entities, &mut world.first)?.ok_or("another")?;
+    Ok(there && list.as_slice() == [10, 12, 10].as_slice())
 }
 
 #[test]
 fn restricted_storage(rt: HostRuntime) -> Result<(), Fail> {
     let mut world = World::<Position, Velocity>::of(rt.alloc(), 4)?;
-    assert!(rt;
-        put_all(
-            &mut world.first,
-            [0, 3].as_slice(),
-            Position { x: 10, y: 0 }
-        )
-    );
-    assert!(rt; put_all(&mut world.first, [2].as_slice(), Position { x: 12, y: 0 }));
-    let list = shown_and_lent(rt.alloc(), &world.entities, &mut world.first)?.ok_or("another")?;
-    assert!(rt; list.as_slice() == [10, 12, 10].as_slice());
+    assert!(rt; are_shown_and_lent(rt.alloc(), &mut world)?);
     Ok(())
+}
+
+// What is shown of the entity of an index beside two positions.
+fn shown_beside(
+    alloc: Global,
+    world: &World<Position, Velocity>,
+    index: u32,
+) -> Result<Vec<(i32, i32)>, Fail> {
+    let one = World::<Position, Velocity>::entity(index)?;
+    Ok(beside_one(alloc, &world.entities, &world.first, one)?)
+}
+
+// Another is shown where it has a position.
+fn others_are_shown(alloc: Global, world: &mut World<Position, Velocity>) -> Result<bool, Fail> {
+    let there = put_all(
+        &mut world.first,
+        [0, 3].as_slice(),
+        Position { x: 10, y: 0 },
+    );
+    let some = shown_beside(alloc, world, 3)?;
+    let none = shown_beside(alloc, world, 1)?;
+    Ok(
+        there
+            && some.as_slice() == [(10, 10), (10, 10)].as_slice()
+            && none.as_slice() == [(10, -1), (10, -1)].as_slice(),
+    )
 }
 
 #[test]
 fn a_restricted_storage_shows_others(rt: HostRuntime) -> Result<(), Fail> {
     let mut world = World::<Position, Velocity>::of(rt.alloc(), 4)?;
-    assert!(rt;
-        put_all(
-            &mut world.first,
-            [0, 3].as_slice(),
-            Position { x: 10, y: 0 }
-        )
-    );
-    let one = World::<Position, Velocity>::entity(3)?;
-    let list = beside_one(rt.alloc(), &world.entities, &world.first, one)?;
-    assert!(rt; list.as_slice() == [(10, 10), (10, 10)].as_slice());
-    let none = World::<Position, Velocity>::entity(1)?;
-    let list = beside_one(rt.alloc(), &world.entities, &world.first, none)?;
-    assert!(rt; list.as_slice() == [(10, -1), (10, -1)].as_slice());
+    assert!(rt; others_are_shown(rt.alloc(), &mut world)?);
     Ok(())
+}
+
+// Of three positions and two velocities those of the third are exchanged.
+fn are_exchanged(
+    world: &mut World<Position, Velocity>,
+    chosen: &mut MaskedStorage<Chosen>,
+) -> bool {
+    let there = put_all(
+        &mut world.first,
+        [0, 1, 2].as_slice(),
+        Position { x: 1, y: 2 },
+    ) && put_all(
+        &mut world.second,
+        [0, 2].as_slice(),
+        Velocity { x: 3, y: 4 },
+    ) && put_all(chosen, [1, 2].as_slice(), Chosen);
+    exchange(&mut world.first, &mut world.second, chosen);
+    there
+        && positions_of(&world.first)
+            == (
+                Some(Position { x: 1, y: 2 }),
+                Some(Position { x: 1, y: 2 }),
+                Some(Position { x: 3, y: 4 }),
+            )
+        && world.second.get(0).copied() == Some(Velocity { x: 3, y: 4 })
+        && world.second.get(2).copied() == Some(Velocity { x: 1, y: 2 })
 }
 
 #[test]
 fn two_storages_are_exchanged(rt: HostRuntime) -> Result<(), Fail> {
-    let alloc = rt.alloc();
-    let mut world = World::<Position, Velocity>::of(alloc, 3)?;
-    let mut chosen = World::<Chosen, Number>::of(alloc, 3)?;
-    assert!(rt;
-        put_all(
-            &mut world.first,
-            [0, 1, 2].as_slice(),
-            Position { x: 1, y: 2 }
-        )
-    );
-    assert!(rt;
-        put_all(
-            &mut world.second,
-            [0, 2].as_slice(),
-            Velocity { x: 3, y: 4 }
-        )
-    );
-    assert!(rt; put_all(&mut chosen.first, [1, 2].as_slice(), Chosen));
-    exchange(&mut world.first, &mut world.second, &chosen.first);
-    assert!(rt;
-        positions_of(&world.first)
-            == (
-                Some(Position { x: 1, y: 2 }),
-                Some(Position { x: 1, y: 2 }),
-                Some(Position { x: 3, y: 4 })
-            )
-    );
-    assert!(rt; world.second.get(0).copied() == Some(Velocity { x: 3, y: 4 }));
-    assert!(rt; world.second.get(2).copied() == Some(Velocity { x: 1, y: 2 }));
+    let mut world = World::<Position, Velocity>::of(rt.alloc(), 3)?;
+    assert!(rt; are_exchanged(&mut world, &mut empty(rt.alloc())?));
     Ok(())
 }
 
@@ -215,27 +276,30 @@ fn stands_nowhere(cursor: &mut WriteJoin<'_, Position, &MaskedStorage<Velocity>>
         && cursor.next().is_none()
 }
 
+// A cursor over two, of which both have the second alone.
+fn lends_only_where_it_stands(world: &mut World<Position, Velocity>) -> bool {
+    put_all(&mut world.first, [0, 1].as_slice(), Position { x: 1, y: 2 })
+        && put_all(
+            &mut world.second,
+            [1, 2].as_slice(),
+            Velocity { x: 3, y: 4 },
+        )
+        && stands_nowhere(&mut world.first.join_mut(&world.second))
+}
+
 #[test]
 fn a_cursor_lends_nothing_where_it_does_not_stand(rt: HostRuntime) -> Result<(), Fail> {
     let mut world = World::<Position, Velocity>::of(rt.alloc(), 3)?;
-    assert!(rt; put_all(&mut world.first, [0, 1].as_slice(), Position { x: 1, y: 2 }));
-    assert!(rt;
-        put_all(
-            &mut world.second,
-            [1, 2].as_slice(),
-            Velocity { x: 3, y: 4 }
-        )
-    );
-    assert!(rt; stands_nowhere(&mut world.first.join_mut(&world.second)));
+    assert!(rt; lends_only_where_it_stands(&mut world));
     Ok(())
 }
 
-// The events since the last look.
-fn events(
-    numbers: &mut MaskedStorage<Number>,
-    reader: &ReaderId,
-) -> Result<Vec<ComponentEvent>, Fail> {
-    Ok(numbers.read(reader).ok().ok_or("no reader")?)
+// Whether the first reader reads just these events.
+fn reads(numbers: &mut MaskedStorage<Number>, wanted: &[ComponentEvent]) -> bool {
+    match numbers.read(&ReaderId::of(0)) {
+        Ok(events) => events.as_slice() == wanted,
+        Err(_) => false,
+    }
 }
 
 // The numbers 1, 6 and 2 at the indices 0 to 2.
@@ -245,45 +309,51 @@ fn three_numbers(numbers: &mut MaskedStorage<Number>) -> bool {
         && put_all(numbers, [2].as_slice(), Number(2))
 }
 
+// The low ones of three numbers are raised, and told.
+fn low_ones_are_told(world: &mut World<Number, Chosen>) -> bool {
+    let there = three_numbers(&mut world.first) && world.first.register_reader().is_ok();
+    raise_low(&world.entities, &mut world.first, 5);
+    there
+        && reads(&mut world.first, [Modified(0), Modified(2)].as_slice())
+        && numbers_of(&world.first) == (Some(Number(2)), Some(Number(6)), Some(Number(3)), None)
+}
+
 #[test]
 fn a_restricted_storage_tells_what_was_written(rt: HostRuntime) -> Result<(), Fail> {
     let mut world = World::<Number, Chosen>::of(rt.alloc(), 4)?;
-    assert!(rt; three_numbers(&mut world.first));
-    let reader = world.first.register_reader()?;
-    raise_low(&world.entities, &mut world.first, 5);
-    let told = events(&mut world.first, &reader)?;
-    assert!(rt;
-        told.as_slice() == [ComponentEvent::Modified(0), ComponentEvent::Modified(2)].as_slice()
-    );
-    assert!(rt;
-        numbers_of(&world.first) == (Some(Number(2)), Some(Number(6)), Some(Number(3)), None)
-    );
+    assert!(rt; low_ones_are_told(&mut world));
     Ok(())
+}
+
+// Of two numbers the second is taken out.
+fn second_is_taken(numbers: &mut MaskedStorage<Number>) -> bool {
+    let mut cursor = numbers.drain();
+    cursor.next() == Some(0)
+        && cursor.next() == Some(1)
+        && matches!(cursor.item(), Ok(Some(Number(7))))
+}
+
+// An entry, a write and a removal by cursors.
+fn all_are_told(world: &mut World<Number, Chosen>) -> Result<bool, Fail> {
+    let there = put_all(&mut world.first, [1].as_slice(), Number(6))
+        && put_all(&mut world.second, [0, 1].as_slice(), Chosen)
+        && world.first.register_reader().is_ok();
+    increase(&world.entities, &mut world.first, &world.second, 10)?;
+    Ok(
+        there
+            && reads(
+                &mut world.first,
+                [Inserted(0), Modified(0), Modified(1)].as_slice(),
+            )
+            && second_is_taken(&mut world.first)
+            && reads(&mut world.first, [Removed(1)].as_slice()),
+    )
 }
 
 #[test]
 fn cursors_tell_their_events(rt: HostRuntime) -> Result<(), Fail> {
     let mut world = World::<Number, Chosen>::of(rt.alloc(), 4)?;
-    assert!(rt; put_all(&mut world.first, [1].as_slice(), Number(6)));
-    assert!(rt; put_all(&mut world.second, [0, 1].as_slice(), Chosen));
-    let reader = world.first.register_reader()?;
-    increase(&world.entities, &mut world.first, &world.second, 10)?;
-    let told = events(&mut world.first, &reader)?;
-    assert!(rt;
-        told.as_slice()
-            == [
-                ComponentEvent::Inserted(0),
-                ComponentEvent::Modified(0),
-                ComponentEvent::Modified(1)
-            ]
-            .as_slice()
-    );
-    let mut cursor = world.first.drain();
-    assert_eq!(rt; cursor.next(), Some(0));
-    assert_eq!(rt; cursor.next(), Some(1));
-    assert!(rt; cursor.item()? == Some(Number(7)));
-    let told = events(&mut world.first, &reader)?;
-    assert!(rt; told.as_slice() == [ComponentEvent::Removed(1)].as_slice());
+    assert!(rt; all_are_told(&mut world)?);
     Ok(())
 }
 
@@ -319,15 +389,21 @@ fn places_of_a_view(view: &mut WriteStorage<'_, Position>, one: Entity) -> bool 
     there && lent && iter.next().is_some()
 }
 
+// The cursors of a view of two positions, of which the second has a velocity.
+fn by_a_view(world: &mut World<Position, Velocity>, one: Entity) -> bool {
+    let there = put_all(&mut world.first, [0, 1].as_slice(), Position { x: 1, y: 1 })
+        && put_all(&mut world.second, [1].as_slice(), Velocity { x: 3, y: 4 });
+    let mut view = WriteStorage::new(&world.entities, &mut world.first);
+    there
+        && through_a_view(&mut view, &world.second)
+        && places_of_a_view(&mut view, one)
+        && view.get(one).copied() == Some(Position { x: 9, y: 9 })
+}
+
 #[test]
 fn cursors_of_views(rt: HostRuntime) -> Result<(), Fail> {
-    let mut world = World::<Position, Velocity>::of(rt.alloc(), 2)?;
     let one = World::<Position, Velocity>::entity(1)?;
-    assert!(rt; put_all(&mut world.first, [0, 1].as_slice(), Position { x: 1, y: 1 }));
-    assert!(rt; put_all(&mut world.second, [1].as_slice(), Velocity { x: 3, y: 4 }));
-    let mut view = WriteStorage::new(&world.entities, &mut world.first);
-    assert!(rt; through_a_view(&mut view, &world.second));
-    assert!(rt; places_of_a_view(&mut view, one));
-    assert!(rt; view.get(one).copied() == Some(Position { x: 9, y: 9 }));
+    let mut world = World::<Position, Velocity>::of(rt.alloc(), 2)?;
+    assert!(rt; by_a_view(&mut world, one));
     Ok(())
 }

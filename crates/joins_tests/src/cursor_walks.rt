@@ -2,12 +2,12 @@
 ghost use Rattle.std.specs.Prelude.{◌≡◌};
 ghost use Rattle.joins.specs.CursorOfTwo.{first_name, second_name, rest};
 
-use crate::worlds::{Chosen, Number, Position, Velocity};
+use crate::worlds::{Chosen, Health, Number, Position, Velocity};
 use entities::{EntitiesRes, Entity};
 use hibits::BitSetAll;
 use joins::{
-    Drain, EntryJoin, Join, JoinIter, JoinMut, RestrictedStorage, RestrictedStorageMut, WriteJoin2,
-    maybe,
+    ChangeSet, Drain, EntryJoin, Join, JoinIter, JoinMut, RestrictedStorage, RestrictedStorageMut,
+    WriteJoin2, maybe,
 };
 use std::alloc::{AllocError, Global};
 use storages::MaskedStorage;
@@ -23,6 +23,61 @@ pub fn go_on(positions: &mut MaskedStorage<Position>, velocities: &MaskedStorage
             }
         }
     }
+}
+
+/// Takes its change from each health that has one.
+pub fn subtract(healths: &mut MaskedStorage<Health>, changes: &ChangeSet<i32>) {
+    let mut cursor = healths.join_mut(changes);
+    while let Some(_id) = cursor.next() {
+        if let Some(change) = cursor.beside() {
+            if let Ok(health) = cursor.item() {
+                health.0 = health.0.wrapping_sub(*change);
+            }
+        }
+    }
+}
+
+/// The same of a change set that is given up.
+pub fn subtract_all(healths: &mut MaskedStorage<Health>, changes: ChangeSet<i32>) {
+    let mut cursor = healths.join_mut(changes);
+    while let Some(_id) = cursor.next() {
+        if let Some(change) = cursor.beside() {
+            if let Ok(health) = cursor.item() {
+                health.0 = health.0.wrapping_sub(change);
+            }
+        }
+    }
+}
+
+/// Each change becomes no more than the health beside it.
+pub fn no_more_than(changes: &mut ChangeSet<i32>, healths: &MaskedStorage<Health>) {
+    let mut cursor = changes.join_mut(healths);
+    while let Some(_id) = cursor.next() {
+        if let Some(health) = cursor.beside() {
+            if let Some(change) = cursor.item() {
+                *change = (*change).min(health.0);
+            }
+        }
+    }
+}
+
+/// The sum of the numbers of the living, each of which gets one where it has none.
+pub fn sum_of_entries(
+    entities: &EntitiesRes,
+    numbers: &mut MaskedStorage<Number>,
+    new: Number,
+) -> Result<u32, AllocError> {
+    let mut sum: u32 = 0;
+    let mut cursor = EntryJoin::over(entities, numbers);
+    while let Some(id) = cursor.next() {
+        if let Ok(masked) = cursor.item() {
+            match masked.entry(id).or_insert(new) {
+                Ok(number) => sum = sum.wrapping_add(number.0),
+                Err((e, _)) => return Err(e),
+            }
+        }
+    }
+    Ok(sum)
 }
 
 /// The indices of a drain, of which it takes the component of one out, twice. Answers whether the second time there was none.

@@ -78,6 +78,15 @@ fn midway(values: &Values, entity: Entity) -> Option<(i8, i8, i8)> {
     Some((first, there, second))
 }
 
+// What a walk and its copy give next, after a step.
+fn both_next(values: &Values) -> Option<(i8, i8)> {
+    let mut walk = (&values.ints).join();
+    let _first = walk.next()?;
+    let mut copy = walk.clone().ok()?;
+    let here = walk.next()?.0;
+    Some((here, copy.next()?.0))
+}
+
 // The first entity of a walk over the living.
 fn first_living(values: &Values) -> Option<Entity> {
     (&values.entities).join().next()
@@ -112,7 +121,7 @@ fn getting_specific_entity_with_join(rt: HostRuntime) -> Result<(), Fail> {
 fn looked_midway(values: &mut Values) -> Result<bool, Fail> {
     let first = born(values, 1, true)?;
     let _second = born(values, 2, true)?;
-    Ok(midway(values, first) == Some((1, 1, 2)))
+    Ok(midway(values, first) == Some((1, 1, 2)) && both_next(values) == Some((2, 2)))
 }
 
 #[test]

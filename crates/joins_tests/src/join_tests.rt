@@ -1,7 +1,7 @@
 //! Joins.
 use crate::walks::{beside, contradictions, shared, six};
-use hibits::{BitSet, SetError};
-use joins::{Join, maybe};
+use hibits::{BitSet, BitSetLike, SetError};
+use joins::{BitAnd, Join, maybe};
 use std::alloc::Global;
 use std::test::Fail;
 
@@ -43,7 +43,14 @@ fn six_are_joined_flat(rt: HostRuntime) -> Result<(), Fail> {
     let a = set_of(rt.alloc(), [0, 2, 4, 6].as_slice())?;
     let b = set_of(rt.alloc(), [0, 3, 6, 9].as_slice())?;
     assert_eq!(rt; six(&a, &b), 2);
+    assert!(rt; are_combined(&a, &b));
     Ok(())
+}
+
+// The combined set of six has what both have.
+fn are_combined(a: &BitSet, b: &BitSet) -> bool {
+    let all = (a, b, a, b, a, b).and();
+    all.contains(0) && all.contains(6) && !all.contains(2) && !all.contains(3)
 }
 
 #[test]

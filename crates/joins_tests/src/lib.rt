@@ -14,7 +14,8 @@ mod walks;
 mod worlds;
 
 pub use cursor_walks::{
-    beside_one, counted, drained, drained_at, exchange, go_on, increase, raise_low, shown_and_lent,
+    beside_one, counted, drained, drained_at, exchange, go_on, increase, no_more_than, raise_low,
+    shown_and_lent, subtract, subtract_all, sum_of_entries,
 };
 pub use walks::{beside, contradictions, shared, six};
-pub use worlds::{Chosen, Number, Position, Velocity, World, put_all};
+pub use worlds::{Chosen, Health, Number, Place, Position, Velocity, World, empty, put_all};

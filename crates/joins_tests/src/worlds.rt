@@ -3,8 +3,8 @@ use entities::{EntitiesRes, Entity};
 use std::alloc::Global;
 use std::test::Fail;
 use storages::{
-    Component, DenseVecStorage, FlaggedStorage, MaskedStorage, NullComponent, NullStorage,
-    TryDefault, VecStorage,
+    Component, DefaultVecStorage, DenseVecStorage, FlaggedStorage, MaskedStorage, NullComponent,
+    NullStorage, TryDefault, VecStorage,
 };
 
 /// Where an entity is, or how fast it goes.
@@ -44,6 +44,28 @@ impl Component for Number {
     type Storage = FlaggedStorage<Self, VecStorage<Self>>;
 }
 
+/// What an entity has left.
+#[derive(Clone, Copy, PartialEq, Eq, Debug, Default)]
+pub struct Health(
+    /// The points.
+    pub i32,
+);
+
+impl Component for Health {
+    type Storage = DenseVecStorage<Self>;
+}
+
+/// A place in a row.
+#[derive(Clone, Copy, PartialEq, Eq, Debug, Default)]
+pub struct Place(
+    /// The place.
+    pub u32,
+);
+
+impl Component for Place {
+    type Storage = DefaultVecStorage<Self>;
+}
+
 /// What a chosen entity has.
 #[derive(Clone, Copy, PartialEq, Eq, Debug, Default)]
 pub struct Chosen;
@@ -56,6 +78,11 @@ impl NullComponent for Chosen {
 
 impl Component for Chosen {
     type Storage = NullStorage<Self>;
+}
+
+/// A storage without components.
+pub fn empty<T: Component>(alloc: Global) -> Result<MaskedStorage<T>, Fail> {
+    Ok(MaskedStorage::new(alloc, T::Storage::try_default(alloc)?))
 }
 
 /// Entities, and storages of two components.
@@ -78,8 +105,8 @@ impl<A: Component, B: Component> World<A, B> {
         }
         Ok(World {
             entities,
-            first: MaskedStorage::new(alloc, A::Storage::try_default(alloc)?),
-            second: MaskedStorage::new(alloc, B::Storage::try_default(alloc)?),
+            first: empty(alloc)?,
+            second: empty(alloc)?,
         })
     }
 

@@ -75,6 +75,27 @@ fn odd_numbers_are_replaced_and_told_ascending(rt: HostRuntime) -> Result<(), Fa
     Ok(())
 }
 
+// Whether an update replaced the odd numbers and told so, or was refused and changed nothing.
+fn all_or_nothing(
+    rt: &(impl Threads + Alloc<A = Global> + Sync),
+    storage: &mut MaskedStorage<Told>,
+) -> bool {
+    if update(rt, storage) {
+        three(storage) == Some((10, 2, 30)) && reads(storage, &[Modified(0), Modified(2)])
+    } else {
+        three(storage) == Some((1, 2, 3)) && reads(storage, &[])
+    }
+}
+
+// With `rt try --test --fail-alloc N` each allocation of the update is refused in turn.
+#[test]
+fn an_update_is_done_or_refused_as_a_whole(rt: HostRuntime) -> Result<(), Fail> {
+    let mut storage = filled::<Told>(rt.alloc(), 3, 1)?;
+    assert!(rt; storage.register_reader().is_ok());
+    assert!(rt; all_or_nothing(&rt, &mut storage));
+    Ok(())
+}
+
 #[test]
 fn what_is_made_of_a_paired_storage_is_told_ascending(rt: HostRuntime) -> Result<(), Fail> {
     let mut storage = filled::<Told>(rt.alloc(), 3, 1)?;

@@ -11,12 +11,11 @@ use Rattle.entities.specs.Population.{Population, IsAlive, index_of, lives, born
 use Rattle.entities.specs.Deaths.{has_index, all_dead}
 use Rattle.entities.specs.Merges.{merge, the_marked, living_entity}
 use Rattle.specs.specs.declared.command.Command.{Command}
-use Rattle.specs.specs.declared.command.Command.TheVariants.{Register, Create, CreatePending, Delete, MarkDead, IsAlive as AskAlive, IsLiving as AskLiving, EntityAt, Insert, Get, Remove, Clear, Count as AskCount, Select, Maintain, Reader, Events, DropReader, Emit}
+use Rattle.specs.specs.declared.command.Command.TheVariants.{Register, Create, CreatePending, Delete, DeleteAll, MarkDead, IsAlive as AskAlive, IsLiving as AskLiving, EntityAt, Insert, Get, Remove, Clear, Count as AskCount, Select, Maintain, Reader, Events, DropReader, Emit}
 use Rattle.specs.specs.declared.command.Reply.{Reply}
 use Rattle.specs.specs.declared.command.Reply.TheVariants.{Done, Entity as Told, Bool as Yes, Value, Count, Indices, Maintained as Kept, Reader as NewReader, Events as Given, Refused, InsertRefused}
-use Rattle.specs.specs.declared.command.Refusal.TheVariants.{WrongGeneration as Wrong, IndexLimit, OutOfMemory}
 use Rattle.specs.specs.Gone.{WasGiven, IsGone}
-use Rattle.specs.specs.People.{Deaths}
+use Rattle.specs.specs.People.{Deaths, the_living}
 use Rattle.specs.specs.State.{State, Step, Run}
 
 -- at each index there was a birth, or nobody lives who did not
@@ -111,44 +110,28 @@ gone_merged p q is = rw is (All-map (IsGone (merge p)) (living_entity p) (left p
     (λ a. unmarked (lives p i) (p.marked i) marked a.0)))
 
 keeps_step : {K V : Type 0} (place : V → K) (allocates : K → Bool) (old : State K V) (c : Command K V) (r : Reply V) (new : State K V) (e : Entity) → Step place allocates old c r new → IsGone old.people e → IsGone new.people e
+keeps_step place allocates old command (Refused r) new e s w = unchanged old new e s.1 w
 keeps_step place allocates old (Register slot) Done new e s w = by old new e old.people s.people (same_grows old.people) w
-keeps_step place allocates old (Register slot) (Refused OutOfMemory) new e s w = unchanged old new e s.1 w
 keeps_step place allocates old Create (Told x) new e s w = by old new e _ s.people.born (born_grows old.people (index_of x)) w
-keeps_step place allocates old Create (Refused IndexLimit) new e s w = unchanged old new e s.1 w
-keeps_step place allocates old Create (Refused OutOfMemory) new e s w = unchanged old new e s.1 w
 keeps_step place allocates old CreatePending (Told x) new e s w = by old new e _ s.people.born (pending_grows old.people (index_of x)) w
-keeps_step place allocates old CreatePending (Refused IndexLimit) new e s w = unchanged old new e s.1 w
-keeps_step place allocates old CreatePending (Refused OutOfMemory) new e s w = unchanged old new e s.1 w
 keeps_step place allocates old (Delete es) Done new e s w = by old new e _ s.people.dead (dead_grows es.items old.people) w
-keeps_step place allocates old (Delete es) (Refused (Wrong x)) new e s w = unchanged old new e s.1 w
-keeps_step place allocates old (Delete es) (Refused OutOfMemory) new e s w = unchanged old new e s.1 w
+keeps_step place allocates old DeleteAll Done new e s w = by old new e _ s.people.dead (dead_grows (the_living old.people) old.people) w
 keeps_step place allocates old (MarkDead x) Done new e s w = by old new e (mark old.people (index_of x)) s.people.marked (same_grows old.people) w
-keeps_step place allocates old (MarkDead x) (Refused (Wrong y)) new e s w = unchanged old new e s.1 w
 keeps_step place allocates old (AskAlive x) (Yes b) new e s w = unchanged old new e s.1 w
 keeps_step place allocates old (AskLiving x) (Yes b) new e s w = unchanged old new e s.1 w
 keeps_step place allocates old (EntityAt i) (Told x) new e s w = unchanged old new e s.1 w
 keeps_step place allocates old (Insert x value) (Value before) new e s w = by old new e old.people s.people (same_grows old.people) w
 keeps_step place allocates old (Insert x value) (InsertRefused r back) new e s w = unchanged old new e s.2 w
 keeps_step place allocates old (Get slot x) (Value found) new e s w = unchanged old new e s.1 w
-keeps_step place allocates old (Get slot x) (Refused r) new e s w = unchanged old new e s.1 w
 keeps_step place allocates old (Remove slot x) (Value found) new e s w = by old new e old.people s.people (same_grows old.people) w
-keeps_step place allocates old (Remove slot x) (Refused r) new e s w = unchanged old new e s.1 w
 keeps_step place allocates old (Clear slot) Done new e s w = by old new e old.people s.people (same_grows old.people) w
-keeps_step place allocates old (Clear slot) (Refused r) new e s w = unchanged old new e s.1 w
 keeps_step place allocates old (AskCount slot) (Count n) new e s w = unchanged old new e s.1 w
-keeps_step place allocates old (AskCount slot) (Refused r) new e s w = unchanged old new e s.1 w
 keeps_step place allocates old (Select x) (Indices is) new e s w = unchanged old new e s.1 w
-keeps_step place allocates old (Select x) (Refused r) new e s w = unchanged old new e s.1 w
 keeps_step place allocates old (Maintain limit) (Kept m) new e s w = by old new e _ s.people (merge_grows old.people) w
-keeps_step place allocates old (Maintain limit) (Refused OutOfMemory) new e s w = unchanged old new e s.1 w
 keeps_step place allocates old (Reader slot) (NewReader n) new e s w = by old new e old.people s.people (same_grows old.people) w
-keeps_step place allocates old (Reader slot) (Refused r) new e s w = unchanged old new e s.1 w
 keeps_step place allocates old (Events slot n) (Given es) new e s w = by old new e old.people s.people (same_grows old.people) w
-keeps_step place allocates old (Events slot n) (Refused r) new e s w = unchanged old new e s.1 w
 keeps_step place allocates old (DropReader slot n) Done new e s w = by old new e old.people s.people (same_grows old.people) w
-keeps_step place allocates old (DropReader slot n) (Refused r) new e s w = unchanged old new e s.1 w
 keeps_step place allocates old (Emit slot on) Done new e s w = by old new e old.people s.people (same_grows old.people) w
-keeps_step place allocates old (Emit slot on) (Refused r) new e s w = unchanged old new e s.1 w
 keeps_step place allocates old command reply new e s w = absurd s
 
 pub gone_run : {K V : Type 0} (place : V → K) (allocates : K → Bool) (cs : List (Command K V)) (rs : List (Reply V)) (old new : State K V) (e : Entity) → Run place allocates old cs rs new → IsGone old.people e → IsGone new.people e

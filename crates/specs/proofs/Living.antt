@@ -15,15 +15,14 @@ use Rattle.entities.specs.Merges.{the_marked, merge, living_entity}
 use Rattle.specs.specs.Maps.{Map, put, without_one}
 use Rattle.specs.specs.Column.{Column, without_values}
 use Rattle.specs.specs.declared.command.Command.{Command}
-use Rattle.specs.specs.declared.command.Command.TheVariants.{Register, Create, CreatePending, Delete, MarkDead, IsAlive as AskAlive, IsLiving as AskLiving, EntityAt, Insert, Get, Remove, Clear, Count as AskCount, Select, Maintain, Reader, Events, DropReader, Emit}
+use Rattle.specs.specs.declared.command.Command.TheVariants.{Register, Create, CreatePending, Delete, DeleteAll, MarkDead, IsAlive as AskAlive, IsLiving as AskLiving, EntityAt, Insert, Get, Remove, Clear, Count as AskCount, Select, Maintain, Reader, Events, DropReader, Emit}
 use Rattle.specs.specs.declared.command.Reply.{Reply}
 use Rattle.specs.specs.declared.command.Reply.TheVariants.{Done, Entity as Told, Bool as Yes, Value, Count, Indices, Maintained as Kept, Reader as NewReader, Events as Given, Refused, InsertRefused}
-use Rattle.specs.specs.declared.command.Refusal.TheVariants.{WrongGeneration as Wrong, IndexLimit, OutOfMemory}
-use Rattle.specs.specs.Table.{Table, Becomes, Begins, Removes}
+use Rattle.specs.specs.Table.{Table, Becomes, Begins, Registers, Inserts, Removes, Clears}
 use Rattle.storages.specs.Channel.{Channel}
 use Rattle.specs.specs.Readers.{Rechannels}
-use Rattle.specs.specs.People.{Births, Marks}
-use Rattle.specs.specs.State.{State, OnPeople, Deletes, Step, Run}
+use Rattle.specs.specs.People.{Births, Deaths, Marks, the_living}
+use Rattle.specs.specs.State.{State, OnPeople, OnTable, Deletes, Maintains, Step, Run}
 use Rattle.specs.specs.Reached.{IsNew, OnlyLiving}
 
 -- a table's values are at indices of a set
@@ -223,44 +222,28 @@ mark_kept old new e s w = record {
 }
 
 pub keeps_step : {K V : Type 0} (place : V → K) (allocates : K → Bool) (old : State K V) (c : Command K V) (r : Reply V) (new : State K V) → Step place allocates old c r new → OnlyLiving old → OnlyLiving new
+keeps_step place allocates old command (Refused r) new s w = unchanged old new s.1 w
 keeps_step place allocates old (Register slot) Done new s w = table_only old new s.people w (within_register old.table new.table slot (lives old.people) (old.table slot) refl s.table w.values)
-keeps_step place allocates old (Register slot) (Refused OutOfMemory) new s w = unchanged old new s.1 w
 keeps_step place allocates old Create (Told e) new s w = birth_kept born old new e (λ p i. refl) lives_born still_lives s w
-keeps_step place allocates old Create (Refused IndexLimit) new s w = unchanged old new s.1 w
-keeps_step place allocates old Create (Refused OutOfMemory) new s w = unchanged old new s.1 w
 keeps_step place allocates old CreatePending (Told e) new s w = birth_kept born_pending old new e (λ p i. refl) lives_born_pending still_lives_pending s w
-keeps_step place allocates old CreatePending (Refused IndexLimit) new s w = unchanged old new s.1 w
-keeps_step place allocates old CreatePending (Refused OutOfMemory) new s w = unchanged old new s.1 w
 keeps_step place allocates old (Delete es) Done new s w = deletes_kept es.items old new s w
-keeps_step place allocates old (Delete es) (Refused (Wrong x)) new s w = unchanged old new s.1 w
-keeps_step place allocates old (Delete es) (Refused OutOfMemory) new s w = unchanged old new s.1 w
+keeps_step place allocates old DeleteAll Done new s w = deletes_kept (the_living old.people) old new s w
 keeps_step place allocates old (MarkDead e) Done new s w = mark_kept old new e s w
-keeps_step place allocates old (MarkDead e) (Refused (Wrong x)) new s w = unchanged old new s.1 w
 keeps_step place allocates old (AskAlive e) (Yes b) new s w = unchanged old new s.1 w
 keeps_step place allocates old (AskLiving e) (Yes b) new s w = unchanged old new s.1 w
 keeps_step place allocates old (EntityAt i) (Told e) new s w = unchanged old new s.1 w
 keeps_step place allocates old (Insert e value) (Value before) new s w = table_only old new s.people w (within_becomes old.table new.table (place value) _ (lives old.people) s.table.put w.values (put_within s.table.column.values (index_of e) value (lives old.people) s.table.alive.0 (λ j. w.values (place value) s.table.column j s.table.registered)))
 keeps_step place allocates old (Insert e value) (InsertRefused r back) new s w = unchanged old new s.2 w
 keeps_step place allocates old (Get slot e) (Value found) new s w = unchanged old new s.1 w
-keeps_step place allocates old (Get slot e) (Refused r) new s w = unchanged old new s.1 w
 keeps_step place allocates old (Remove slot e) (Value found) new s w = table_only old new s.people w (removes_within old.people old.table new.table slot e found (lives old.people) s.table w.values)
-keeps_step place allocates old (Remove slot e) (Refused r) new s w = unchanged old new s.1 w
 keeps_step place allocates old (Clear slot) Done new s w = table_only old new s.people w (within_becomes old.table new.table slot _ (lives old.people) s.table.cleared w.values (λ i h. absurd (false≢true h)))
-keeps_step place allocates old (Clear slot) (Refused r) new s w = unchanged old new s.1 w
 keeps_step place allocates old (AskCount slot) (Count n) new s w = unchanged old new s.1 w
-keeps_step place allocates old (AskCount slot) (Refused r) new s w = unchanged old new s.1 w
 keeps_step place allocates old (Select x) (Indices is) new s w = unchanged old new s.1 w
-keeps_step place allocates old (Select x) (Refused r) new s w = unchanged old new s.1 w
 keeps_step place allocates old (Maintain limit) (Kept m) new s w = maintains_kept old new s.people s.table w
-keeps_step place allocates old (Maintain limit) (Refused OutOfMemory) new s w = unchanged old new s.1 w
 keeps_step place allocates old (Reader slot) (NewReader n) new s w = table_only old new s.people w (rechannels_within old.table new.table slot (lives old.people) s.table w.values)
-keeps_step place allocates old (Reader slot) (Refused r) new s w = unchanged old new s.1 w
 keeps_step place allocates old (Events slot n) (Given es) new s w = table_only old new s.people w (rechannels_within old.table new.table slot (lives old.people) s.table w.values)
-keeps_step place allocates old (Events slot n) (Refused r) new s w = unchanged old new s.1 w
 keeps_step place allocates old (DropReader slot n) Done new s w = table_only old new s.people w (rechannels_within old.table new.table slot (lives old.people) s.table w.values)
-keeps_step place allocates old (DropReader slot n) (Refused r) new s w = unchanged old new s.1 w
 keeps_step place allocates old (Emit slot on) Done new s w = table_only old new s.people w (rechannels_within old.table new.table slot (lives old.people) s.table w.values)
-keeps_step place allocates old (Emit slot on) (Refused r) new s w = unchanged old new s.1 w
 keeps_step place allocates old command reply new s w = absurd s
 
 pub keeps_run : {K V : Type 0} (place : V → K) (allocates : K → Bool) (cs : List (Command K V)) (rs : List (Reply V)) (old new : State K V) → Run place allocates old cs rs new → OnlyLiving old → OnlyLiving new

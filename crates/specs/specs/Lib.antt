@@ -17,3 +17,5 @@ pub mod Registering
 pub mod Building
 pub mod Creating
 pub mod Dropping
+pub mod Leading
+pub mod Following

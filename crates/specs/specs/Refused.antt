@@ -9,15 +9,15 @@ use Rattle.specs.specs.declared.core_parts.DeleteError.TheVariants.{WrongGenerat
 use Rattle.specs.specs.declared.command.Reply.{Reply}
 use Rattle.specs.specs.declared.command.Reply.TheVariants.{Entity as Told, Count, Refused}
 use Rattle.specs.specs.declared.command.Refusal.{Refusal}
-use Rattle.specs.specs.declared.command.Refusal.TheVariants.{WrongGeneration as Wrong, IndexLimit, OutOfMemory}
-use Rattle.specs.specs.People.{Births, IsFull, BirthWantsMemory, DeathIsRefused}
+use Rattle.specs.specs.declared.command.Refusal.TheVariants.{WrongGeneration as Wrong, OutOfMemory}
+use Rattle.specs.specs.People.{Births, BirthIsRefused, BirthWantsMemory, DeathIsRefused, IsFull}
 use Rattle.specs.specs.Table.{Table, Counts, IsUnregistered}
 use Rattle.specs.specs.State.{State, OnPeople, DeletionWantsMemory}
 
--- why a birth is refused
-abbrev pub BirthIsRefused : Population → CreateError → Type 0
-BirthIsRefused p NoIndex = IsFull p
-BirthIsRefused p NoRoom = BirthWantsMemory p
+-- why a creation is refused
+abbrev pub CreateIsRefused : Population → CreateError → Type 0
+CreateIsRefused p NoIndex = IsFull p
+CreateIsRefused p NoRoom = BirthWantsMemory p
 
 abbrev pub DeleteIsRefused : {K V : Type 0} → State K V → List Entity → DeleteError → Type 0
 DeleteIsRefused s es (NotDeleted w) = DeathIsRefused s.people es w
@@ -31,8 +31,7 @@ refusal_of NoMemory = OutOfMemory
 -- a birth, at once or pending, with its reply
 abbrev pub BirthStep : {K V : Type 0} → Bool → State K V → Reply V → State K V → Type 0
 BirthStep pending old (Told e) new = OnPeople (λ p p'. Births (born_as pending) p e p') old new
-BirthStep pending old (Refused IndexLimit) new = IsFull old.people × (new ≡ old)
-BirthStep pending old (Refused OutOfMemory) new = BirthWantsMemory old.people × (new ≡ old)
+BirthStep pending old (Refused r) new = BirthIsRefused old.people r × (new ≡ old)
 BirthStep pending old reply new = ⊥
 
 -- how many values a slot has, as a reply

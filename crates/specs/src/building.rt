@@ -7,7 +7,7 @@ ghost use Rattle.specs.specs.Building as building;
 ghost use Rattle.specs.specs.Creating as creating;
 ghost use Rattle.specs.specs.Field.{FieldInsertIsRefused, field_column};
 ghost use Rattle.specs.specs.People.{Births};
-ghost use Rattle.specs.specs.Refused.{BirthIsRefused};
+ghost use Rattle.specs.specs.Refused.{CreateIsRefused};
 ghost use Rattle.specs.specs.State.{core_state, parts_state, OnPeople, OnTable};
 
 use crate::builder::EntityBuilder;
@@ -26,7 +26,7 @@ impl<S: Storages> Core<S> {
         ensures* rests { sem 𝓛 (RestsUnborn S.row self.entry result) }
         ensures same_reference { IfOk result (λ b. (lent_to b).ghost_name ≡ self.entry.ghost_name) }
         ensures ok { IfOk result (λ b. OnPeople (λ p p'. Births born p (built b) p') (core_state S.table self.old) (building.shown S.table b)) }
-        ensures refused { IfErr result (BirthIsRefused (core_state S.table self.old).people) }
+        ensures refused { IfErr result (CreateIsRefused (core_state S.table self.old).people) }
     {
         let entity = self.parts.entities.alloc_mut().allocate()?;
         Ok(EntityBuilder { core: self, entity })

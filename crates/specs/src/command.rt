@@ -30,6 +30,8 @@ pub enum Command<K, V> {
     CreatePending,
     /// The death at once of a list of entities, with their components.
     Delete(Vec<Entity>),
+    /// The death at once of every living entity, pending births among them, with their components.
+    DeleteAll,
     /// Marks an entity, which dies at the next `Maintain`.
     MarkDead(Entity),
     /// Asks whether an entity is alive and not pending.

@@ -1,6 +1,7 @@
 //! A world of entities and component storages, for any struct of storages: a port of the crate `specs`.
 #![tactic(auto)]
 
+mod apply;
 mod builder;
 mod building;
 pub mod by_type;
@@ -9,6 +10,7 @@ mod core_parts;
 mod create_iter;
 mod dropping;
 mod duplicate;
+mod everyone;
 pub mod field;
 mod has;
 mod laws;
@@ -28,7 +30,7 @@ pub use entities::{
     Allocator, CreateError, EntitiesRes, Entity, Error, Generation, Index, WrongGeneration,
 };
 pub use has::{Field, Has, component, slot, value};
-pub use laws::{only_living, stays_dead};
+pub use laws::{events_lead, only_living, quiet_runs, stays_dead};
 pub use slots::Storages;
 pub use storages::{ComponentEvent, ReaderId};
 pub use typed::Unregistered;

@@ -1,5 +1,6 @@
 //! What a world asks of a struct of storages.
 ghost use Rattle.std.specs.Prelude.{◌≡◌, ℕ, Bool, Option, None, IfOk, OnOk, IfErr, OnErr, IsTrue, ◌↔◌, IsOk, IsSome, MatchOption, length};
+ghost use Rattle.std.specs.Bool.{Decides};
 ghost use Rattle.std.specs.Option.{option_map};
 ghost use Rattle.entities.specs.Census.{population};
 ghost use Rattle.storages.specs.Meaning.{HasRoom};
@@ -130,4 +131,7 @@ pub trait Storages {
     fn drop_all(&mut self, es: &[Entity])
         requires { (s : Self.Slot) → HasRoom (room self.old s) (length es.now) }
         ensures { (s : Self.Slot) → table self.new s ≡ option_map (without_values es.now) (table self.old s) };
+
+    /// Equal slots are one.
+    ghost exact: { (a b : Self.Slot) → Decides (Self.Slot.eq a b) (a ≡ b) };
 }

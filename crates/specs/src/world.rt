@@ -9,14 +9,14 @@ ghost use Rattle.specs.specs.Gone.{IsGone};
 ghost use Rattle.specs.specs.People.{NoneMarked};
 ghost use Rattle.specs.specs.Reached.{HasNoValue, IsNew, OnlyLiving};
 ghost use Rattle.specs.specs.Sets.{SelectIsRefused};
-ghost use Rattle.specs.specs.State.{state_of, Deletes, Maintains, Selects, Step, Run};
-ghost use Rattle.specs.specs.Refused.{DeleteIsRefused, BirthStep, CountStep};
+ghost use Rattle.specs.specs.State.{state_of, Deletes, Maintains, Selects, Run};
+ghost use Rattle.specs.specs.Refused.{DeleteIsRefused};
 ghost use Rattle.specs.specs.Lending.{LendsWorldParts};
 
 use crate::command::{Command, Maintained, Refusal, Reply, SetExpr};
 use crate::core_parts::{Core, DeleteError, Parts};
 use crate::slots::Storages;
-use entities::{CreateError, EntitiesRes, Entity};
+use entities::{EntitiesRes, Entity};
 use hibits::Index;
 use std::alloc::{AllocError, Global};
 
@@ -104,124 +104,6 @@ impl<S: Storages> World<S> {
             left: 0,
             stopped: false,
         })
-    }
-
-    /// A birth, at once or pending.
-    fn birth(&mut self, pending: bool) -> Reply<S::Value>
-        ensures { BirthStep pending (state_of S.table self.old) result (state_of S.table self.new) }
-    {
-        let allocator = self.core.parts.entities.alloc_mut();
-        let given = if pending {
-            allocator.allocate_atomic()
-        } else {
-            allocator.allocate()
-        };
-        match given {
-            Ok(e) => Reply::Entity(e),
-            Err(CreateError::IndexLimit) => Reply::Refused(Refusal::IndexLimit),
-            Err(CreateError::OutOfMemory) => Reply::Refused(Refusal::OutOfMemory),
-        }
-    }
-
-    /// Does one command.
-    pub fn apply(&mut self, command: Command<S::Slot, S::Value>) -> Reply<S::Value>
-        ensures { Step S.place S.allocates (state_of S.table self.old) command result (state_of S.table self.new) }
-    {
-        match command {
-            Command::Register(slot) => match self
-                .core
-                .parts
-                .storages
-                .register(self.core.alloc, slot)
-            {
-                Ok(()) => Reply::Done,
-                Err(_) => Reply::Refused(Refusal::OutOfMemory),
-            },
-            Command::Create => self.birth(false),
-            Command::CreatePending => self.birth(true),
-            Command::Delete(es) => match self.delete_entities(es.as_slice()) {
-                Ok(()) => Reply::Done,
-                Err(refused) => Reply::Refused(refused.into()),
-            },
-            Command::MarkDead(e) => match self.core.parts.entities.delete(e) {
-                Ok(()) => Reply::Done,
-                Err(wrong) => Reply::Refused(Refusal::WrongGeneration(wrong)),
-            },
-            Command::IsAlive(e) => Reply::Bool(self.is_alive(e)),
-            Command::IsLiving(e) => Reply::Bool(self.core.parts.entities.is_alive(e)),
-            Command::EntityAt(index) => Reply::Entity(self.core.parts.entities.entity(index)),
-            Command::Insert(e, value) => match self
-                .core
-                .parts
-                .storages
-                .insert(&self.core.parts.entities, e, value)
-            {
-                Ok(before) => Reply::Value(before),
-                Err((refusal, value)) => Reply::InsertRefused(refusal, value),
-            },
-            Command::Get(slot, e) => match self
-                .core
-                .parts
-                .storages
-                .get(&self.core.parts.entities, slot, e)
-            {
-                Ok(found) => Reply::Value(found),
-                Err(refusal) => Reply::Refused(refusal),
-            },
-            Command::Remove(slot, e) => match self
-                .core
-                .parts
-                .storages
-                .remove(&self.core.parts.entities, slot, e)
-            {
-                Ok(found) => Reply::Value(found),
-                Err(refusal) => Reply::Refused(refusal),
-            },
-            Command::Clear(slot) => match self.core.parts.storages.clear(slot) {
-                Ok(()) => Reply::Done,
-                Err(refusal) => Reply::Refused(refusal),
-            },
-            Command::Count(slot) => self.count(slot),
-            Command::Select(set) => match self.select(&set) {
-                Ok(indices) => Reply::Indices(indices),
-                Err(refusal) => Reply::Refused(refusal),
-            },
-            Command::Maintain(limit) => match self.maintain(limit) {
-                Ok(maintained) => Reply::Maintained(maintained),
-                Err(_) => Reply::Refused(Refusal::OutOfMemory),
-            },
-            Command::Reader(slot) => match self.core.parts.storages.register_reader(slot) {
-                Ok(reader) => Reply::Reader(reader),
-                Err(refusal) => Reply::Refused(refusal),
-            },
-            Command::Events(slot, reader) => match self.core.parts.storages.events(slot, &reader) {
-                Ok(events) => Reply::Events(events),
-                Err(refusal) => Reply::Refused(refusal),
-            },
-            Command::DropReader(slot, reader) => match self
-                .core
-                .parts
-                .storages
-                .drop_reader(slot, reader)
-            {
-                Ok(()) => Reply::Done,
-                Err(refusal) => Reply::Refused(refusal),
-            },
-            Command::Emit(slot, on) => match self.core.parts.storages.emit(slot, on) {
-                Ok(()) => Reply::Done,
-                Err(refusal) => Reply::Refused(refusal),
-            },
-        }
-    }
-
-    /// How many values a slot has.
-    fn count(&self, slot: S::Slot) -> Reply<S::Value>
-        ensures { CountStep (state_of S.table self.now).table slot result }
-    {
-        match self.core.parts.storages.mask(slot) {
-            Some(mask) => Reply::Count(mask.count()),
-            None => Reply::Refused(Refusal::Unregistered),
-        }
     }
 
     /// The ascending list of the members of a set, or `Unregistered` where it names a slot without a storage.

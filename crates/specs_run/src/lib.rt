@@ -4,7 +4,10 @@
 mod parse;
 mod printed;
 mod script;
+mod sets;
+mod slot_names;
 mod values;
 mod words;
 
 pub use script::run_script;
+pub use sets::NESTING_LIMIT;

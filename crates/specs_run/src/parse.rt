@@ -1,8 +1,10 @@
 //! The lines of a script.
+use crate::sets::set;
+use crate::slot_names::slot;
 use crate::values::Worded;
 use crate::words::{entity, index, number};
-use slots::{DEF, HP, LINK, MAP, POS, Slot, TAG, TREE, VEL, Value};
-use specs::{Command, Entity, ReaderId, SetExpr};
+use slots::{Slot, Value};
+use specs::{Command, Entity, ReaderId};
 use std::alloc::{AllocError, Global};
 use std::str;
 
@@ -27,6 +29,7 @@ fn plain(words: &[&str]) -> Option<Command<Slot, Value>> {
     match words {
         ["create"] => Some(Command::Create),
         ["create", "pending"] => Some(Command::CreatePending),
+        ["delete-all"] => Some(Command::DeleteAll),
         ["register", s] => Some(Command::Register(slot(s)?)),
         ["mark", e] => Some(Command::MarkDead(entity(e)?)),
         ["alive", e] => Some(Command::IsAlive(entity(e)?)),
@@ -59,34 +62,4 @@ fn entities(alloc: Global, words: &[&str]) -> Result<Option<Vec<Entity>>, AllocE
         }
     }
     Ok(Some(list))
-}
-
-/// A slot, or what two slots share.
-fn set(alloc: Global, words: &[&str]) -> Result<Option<SetExpr<Slot>>, AllocError> {
-    match words {
-        [s] => Ok(slot(s).map(SetExpr::Slot)),
-        ["and", s, t] => match (slot(s), slot(t)) {
-            (Some(s), Some(t)) => {
-                let left = Box::new(alloc, SetExpr::Slot(s))?;
-                let right = Box::new(alloc, SetExpr::Slot(t))?;
-                Ok(Some(SetExpr::And(left, right)))
-            }
-            _ => Ok(None),
-        },
-        _ => Ok(None),
-    }
-}
-
-fn slot(word: &str) -> Option<Slot> {
-    match word {
-        "pos" => Some(POS),
-        "vel" => Some(VEL),
-        "def" => Some(DEF),
-        "map" => Some(MAP),
-        "tree" => Some(TREE),
-        "tag" => Some(TAG),
-        "hp" => Some(HP),
-        "link" => Some(LINK),
-        _ => None,
-    }
 }

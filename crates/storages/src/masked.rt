@@ -105,6 +105,18 @@ impl<T: Component> MaskedStorage<T> {
         &self.inner
     }
 
+    /// The mask and the storage without it, for one who takes the components out. It takes constant time.
+    #[inline(always)]
+    pub fn into_parts(self) -> (BitSet, T::Storage)
+        ensures mask { (q : ℕ) → set.contains result.0.members q ≡ map.contains_key self.map q }
+        ensures present { (q : ℕ) → IsSome (map.get self.map q) → (T.Storage.meaning result.1).at q ≡ map.get self.map q }
+        ensures absent { (q : ℕ) → map.get self.map q ≡ None → (T.Storage.meaning result.1).is_free q ≡ true }
+        ensures room { (T.Storage.meaning result.1).room ≡ self.room }
+    {
+        let MaskedStorage { mask, inner } = self;
+        (mask, inner)
+    }
+
     /// How many indices have a component. It reads the words of the mask.
     pub fn count(&self) -> usize
         ensures { result ≡ length (indices_of self.now) }

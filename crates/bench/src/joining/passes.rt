@@ -1,13 +1,14 @@
 //! Passes over a crowd, and how they are timed.
+ghost use Rattle.std.specs.Prelude.{◌<◌};
 
 use crate::joining::crowd::Crowd;
-use crate::joining::drained;
 use crate::joining::looking::{EntitySum, Entries, ReadSum, Restricted};
 use crate::joining::spots::Spotted;
 use crate::joining::writing::{
     Joined3, JoinedDefault, MaybeSparse, MoveDefault, MoveDense, MoveVec, NotSparse, SparseDefault,
     SparseOnes,
 };
+use crate::joining::{drained, fragments};
 use crate::random::mix;
 use crate::workload::{Plan, Workload, report};
 use anyhow::Result;
@@ -28,15 +29,22 @@ pub trait Pass {
     fn pass(world: &mut Crowd<Self::Position, Self::Velocity>) -> u64;
 }
 
-/// Passes over a world.
-#[derive(Drop)]
-struct Passes<W> {
-    count: u32,
+/// How a pass is measured: every `step`th entity has a number, `joined` entities are passed each time, and there is a pass before that is
+/// not measured, if it is warm. Of ordered ones the answers of the passes count too.
+#[derive(Clone, Copy)]
+struct Shape {
     step: u32,
     joined: u32,
     passes: u64,
     warm: bool,
     ordered: bool,
+}
+
+/// Passes over a world.
+#[derive(Drop)]
+struct Passes<W> {
+    count: u32,
+    shape: Shape,
     kind: PhantomData<W>,
 }
 
@@ -44,12 +52,12 @@ impl<W: Pass> Workload for Passes<W> {
     type State = Crowd<W::Position, W::Velocity>;
 
     fn operations(&self) -> u64 {
-        u64::from(self.joined).saturating_mul(self.passes)
+        u64::from(self.shape.joined).saturating_mul(self.shape.passes)
     }
 
     fn prepare(&self, alloc: Global) -> Result<Self::State> {
-        let mut state = Crowd::populate(alloc, self.count, self.step)?;
-        if self.warm {
+        let mut state = Crowd::populate(alloc, self.count, self.shape.step)?;
+        if self.shape.warm {
             W::pass(&mut state);
         }
         Ok(state)
@@ -57,17 +65,17 @@ impl<W: Pass> Workload for Passes<W> {
 
     fn work(&self, state: &mut Self::State) -> Result<u64> {
         let mut sum: u64 = 0;
-        for _pass in 0..self.passes {
+        for _pass in 0..self.shape.passes {
             sum = mix(sum, W::pass(state));
         }
         Ok(sum)
     }
 
     fn checksum(&self, state: &Self::State, answer: u64) -> u64 {
-        if self.step == 0 {
+        if self.shape.step == 0 {
             return state.sum(self.count);
         }
-        if !self.ordered {
+        if !self.shape.ordered {
             return state.sparse_sum(self.count);
         }
         mix(
@@ -77,218 +85,96 @@ impl<W: Pass> Workload for Passes<W> {
     }
 }
 
+/// Where a kind of passes is reported.
+#[derive(Drop)]
+struct Reporter<'a, R> {
+    rt: &'a R,
+    alloc: Global,
+    plan: &'a Plan,
+    prefix: &'a str,
+}
+
+impl<R: Clock + Print> Reporter<'_, R> {
+    /// Reports on passes of a kind.
+    fn pass<W: Pass>(&self, name: &str, shape: Shape, kind: PhantomData<W>) -> Result<()> {
+        let passes = Passes {
+            count: self.plan.count,
+            shape,
+            kind,
+        };
+        report(self.rt, self.alloc, self.plan, self.prefix, name, &passes)
+    }
+}
+
+// How many of a count have a number, where every `step`th has one.
+fn every(count: u32, step: u32) -> u32
+    requires { 0 < step }
+{
+    (count / step).saturating_add(if count % step == 0 { 0 } else { 1 })
+}
+
+/// All entities, of which none has a number.
+fn full(plan: &Plan) -> Shape {
+    Shape {
+        step: 0,
+        joined: plan.count,
+        passes: plan.passes(),
+        warm: true,
+        ordered: false,
+    }
+}
+
+/// One entity in 64, sixteen times as often.
+fn sparse(plan: &Plan) -> Shape {
+    Shape {
+        step: 64,
+        joined: every(plan.count, 64),
+        passes: plan.passes().saturating_mul(16),
+        warm: false,
+        ordered: false,
+    }
+}
+
+/// So many, where each third has a number.
+fn thirds(plan: &Plan, joined: u32) -> Shape {
+    Shape {
+        step: 3,
+        joined,
+        passes: plan.passes(),
+        warm: true,
+        ordered: true,
+    }
+}
+
 /// Reports on each.
 pub fn run(rt: &(impl Clock + Print), alloc: Global, plan: &Plan, prefix: &str) -> Result<()> {
-    let (count, passes) = (plan.count, plan.passes());
-    let thirds = (count / 3).saturating_add(if count % 3 == 0 { 0 } else { 1 });
-    let sixtyfourths = (count / 64).saturating_add(if count % 64 == 0 { 0 } else { 1 });
-    report(
+    let to = Reporter {
         rt,
         alloc,
         plan,
         prefix,
-        "b_join_vec",
-        &Passes {
-            count,
-            step: 0,
-            joined: count,
-            passes,
-            warm: true,
-            ordered: false,
-            kind: PhantomData::<MoveVec>,
-        },
-    )?;
-    report(
-        rt,
-        alloc,
-        plan,
-        prefix,
-        "b_join_vec+default",
-        &Passes {
-            count,
-            step: 0,
-            joined: count,
-            passes,
-            warm: true,
-            ordered: false,
-            kind: PhantomData::<MoveDefault>,
-        },
-    )?;
-    report(
-        rt,
-        alloc,
-        plan,
-        prefix,
+    };
+    let numbered = every(plan.count, 3);
+    let all = thirds(plan, plan.count);
+    let some = thirds(plan, numbered);
+    let others = thirds(plan, plan.count.saturating_sub(numbered));
+    to.pass("b_join_vec", full(plan), PhantomData::<MoveVec>)?;
+    to.pass("b_join_vec+default", full(plan), PhantomData::<MoveDefault>)?;
+    to.pass(
         "c_join_sparse64+default",
-        &Passes {
-            count,
-            step: 64,
-            joined: sixtyfourths,
-            passes: passes.saturating_mul(16),
-            warm: false,
-            ordered: false,
-            kind: PhantomData::<SparseDefault>,
-        },
+        sparse(plan),
+        PhantomData::<SparseDefault>,
     )?;
-    report(
-        rt,
-        alloc,
-        plan,
-        prefix,
-        "o_join3+default",
-        &Passes {
-            count,
-            step: 3,
-            joined: thirds,
-            passes,
-            warm: true,
-            ordered: true,
-            kind: PhantomData::<JoinedDefault>,
-        },
-    )?;
-    report(
-        rt,
-        alloc,
-        plan,
-        prefix,
-        "b_join_dense",
-        &Passes {
-            count,
-            step: 0,
-            joined: count,
-            passes,
-            warm: true,
-            ordered: false,
-            kind: PhantomData::<MoveDense>,
-        },
-    )?;
-    report(
-        rt,
-        alloc,
-        plan,
-        prefix,
-        "c_join_sparse64",
-        &Passes {
-            count,
-            step: 64,
-            joined: sixtyfourths,
-            passes: passes.saturating_mul(16),
-            warm: false,
-            ordered: false,
-            kind: PhantomData::<SparseOnes>,
-        },
-    )?;
-    report(
-        rt,
-        alloc,
-        plan,
-        prefix,
-        "o_read_sum",
-        &Passes {
-            count,
-            step: 3,
-            joined: count,
-            passes,
-            warm: true,
-            ordered: true,
-            kind: PhantomData::<ReadSum>,
-        },
-    )?;
-    report(
-        rt,
-        alloc,
-        plan,
-        prefix,
-        "o_join_entities",
-        &Passes {
-            count,
-            step: 3,
-            joined: count,
-            passes,
-            warm: true,
-            ordered: true,
-            kind: PhantomData::<EntitySum>,
-        },
-    )?;
-    report(
-        rt,
-        alloc,
-        plan,
-        prefix,
-        "o_join_not",
-        &Passes {
-            count,
-            step: 3,
-            joined: count.saturating_sub(thirds),
-            passes,
-            warm: true,
-            ordered: true,
-            kind: PhantomData::<NotSparse>,
-        },
-    )?;
-    report(
-        rt,
-        alloc,
-        plan,
-        prefix,
-        "o_join3",
-        &Passes {
-            count,
-            step: 3,
-            joined: thirds,
-            passes,
-            warm: true,
-            ordered: true,
-            kind: PhantomData::<Joined3>,
-        },
-    )?;
-    report(
-        rt,
-        alloc,
-        plan,
-        prefix,
-        "o_join_maybe",
-        &Passes {
-            count,
-            step: 3,
-            joined: count,
-            passes,
-            warm: true,
-            ordered: true,
-            kind: PhantomData::<MaybeSparse>,
-        },
-    )?;
-    report(
-        rt,
-        alloc,
-        plan,
-        prefix,
-        "o_join_entries",
-        &Passes {
-            count,
-            step: 3,
-            joined: count,
-            passes,
-            warm: true,
-            ordered: true,
-            kind: PhantomData::<Entries>,
-        },
-    )?;
-    report(
-        rt,
-        alloc,
-        plan,
-        prefix,
-        "o_join_restricted",
-        &Passes {
-            count,
-            step: 3,
-            joined: count,
-            passes,
-            warm: true,
-            ordered: true,
-            kind: PhantomData::<Restricted>,
-        },
-    )?;
-    drained::run(rt, alloc, plan, prefix)
+    to.pass("o_join3+default", some, PhantomData::<JoinedDefault>)?;
+    to.pass("b_join_dense", full(plan), PhantomData::<MoveDense>)?;
+    to.pass("c_join_sparse64", sparse(plan), PhantomData::<SparseOnes>)?;
+    to.pass("o_read_sum", all, PhantomData::<ReadSum>)?;
+    to.pass("o_join_entities", all, PhantomData::<EntitySum>)?;
+    to.pass("o_join_not", others, PhantomData::<NotSparse>)?;
+    to.pass("o_join3", some, PhantomData::<Joined3>)?;
+    to.pass("o_join_maybe", all, PhantomData::<MaybeSparse>)?;
+    to.pass("o_join_entries", all, PhantomData::<Entries>)?;
+    to.pass("o_join_restricted", all, PhantomData::<Restricted>)?;
+    drained::run(rt, alloc, plan, prefix)?;
+    fragments::run(rt, alloc, plan, prefix)
 }

@@ -13,6 +13,10 @@ use storages::{Component, ComponentEvent, MaskedStorage};
 
 /// Walks the indices that a storage and a join share, ascending, and takes the storage's component out where it is asked to. Ports
 /// `specs::storage::Drain`, which takes each out.
+///
+/// Over a view, callers' proofs know exactly what it ends as where the cursor is made over the storage that the view lends:
+/// `let masked = view.masked_mut();`, a cursor over `masked`, and after its last use `let _masked = &*masked;`. Where the cursor is made of the
+/// view itself, they know what each call leaves, and not what the view ends as.
 #[derive(Drop)]
 pub struct Drain<'a, T: Component, J: Join> {
     storage: &'a mut MaskedStorage<T>,

@@ -14,6 +14,10 @@ use storages::{Component, MaskedStorage, NotLent};
 
 /// Walks the indices that live and that a join has, ascending, and lends the storage, whose place for the index may have a component or
 /// none. Ports `specs::storage::Entries`, which can be joined without the entities and then goes over dead indices too.
+///
+/// Over a view, callers' proofs know exactly what it ends as where the cursor is made over the storage that the view lends:
+/// `let masked = view.masked_mut();`, a cursor over `masked`, and after its last use `let _masked = &*masked;`. Where the cursor is made of the
+/// view itself, they know what each call leaves, and not what the view ends as.
 #[derive(Drop)]
 pub struct EntryJoin<'a, 'b, T: Component, J: Join> {
     storage: &'a mut MaskedStorage<T>,

@@ -18,6 +18,10 @@ use storages::{Component, MaskedStorage, NotLent, UnprotectedStorage};
 /// Walks the indices that a storage and a join share, ascending. The component at the current index, and those of living entities, are
 /// shown and lent for writing; none is inserted or removed. Ports the joined `specs::storage::RestrictedStorage` of `restrict_mut`, and the
 /// `PairedStorage` that it gives.
+///
+/// Over a view, callers' proofs know exactly what it ends as where the cursor is made over the storage that the view lends:
+/// `let masked = view.masked_mut();`, a cursor over `masked`, and after its last use `let _masked = &*masked;`. Where the cursor is made of the
+/// view itself, they know what each call leaves, and not what the view ends as.
 #[derive(Drop)]
 pub struct RestrictedStorageMut<'a, 'b, T: Component, J: Join> {
     storage: &'a mut MaskedStorage<T>,

@@ -13,6 +13,10 @@ use hibits::{Index, Layers};
 use storages::{Component, MaskedStorage, NotLent};
 
 /// Walks the indices that a storage and a join share, ascending, and lends the storage's component for writing.
+///
+/// Over a view, callers' proofs know exactly what it ends as where the cursor is made over the storage that the view lends:
+/// `let masked = view.masked_mut();`, a cursor over `masked`, and after its last use `let _masked = &*masked;`. Where the cursor is made of the
+/// view itself, they know what each call leaves, and not what the view ends as.
 #[derive(Drop)]
 pub struct WriteJoin<'a, T: Component, J: Join> {
     storage: &'a mut MaskedStorage<T>,

@@ -14,6 +14,10 @@ use storages::{Component, MaskedStorage, NotLent};
 
 /// Walks the indices that two storages and a join share, ascending, and lends the components of both storages for writing. It stands for
 /// `(&mut a, &mut b, join).join()` of specs.
+///
+/// Over a view, callers' proofs know exactly what it ends as where the cursor is made over the storage that the view lends:
+/// `let masked = view.masked_mut();`, a cursor over `masked`, and after its last use `let _masked = &*masked;`. Where the cursor is made of the
+/// view itself, they know what each call leaves, and not what the views end as.
 #[derive(Drop)]
 pub struct WriteJoin2<'a, 'b, A: Component, B: Component, J: Join> {
     first: &'a mut MaskedStorage<A>,

@@ -1,5 +1,4 @@
-use Rattle.std.proofs.Common.{sym, ◌∙◌}
-use Rattle.joins.proofs.CursorLemmas.{mask_is, parts_are_keys, part_is_key}
+use Rattle.joins.proofs.CursorLemmas.{mask_is, parts_are_keys}
 use Rattle.joins.proofs.cursors.drain.Drain.next.Goals as goal
 
 pub next-requires : goal.next-requires

@@ -1,0 +1,130 @@
+//! Data on all entities, joined with eight storages in turn, each of which has one entity in eight.
+
+use crate::moving::empty;
+use crate::random::mix;
+use crate::workload::{Plan, Workload, report};
+use anyhow::{Result, bail};
+use joins::{Join, JoinMut};
+use std::alloc::Global;
+use std::io::Print;
+use std::time::Clock;
+use storages::{Component, DenseVecStorage, MaskedStorage, VecStorage};
+
+/// On all.
+#[derive(Clone, Copy)]
+struct Data(u64);
+
+impl Component for Data {
+    type Storage = VecStorage<Self>;
+}
+
+/// On one in eight.
+#[derive(Clone, Copy)]
+struct Fragment(u64);
+
+impl Component for Fragment {
+    type Storage = DenseVecStorage<Self>;
+}
+
+/// The data, and the eight storages.
+#[derive(Drop)]
+struct Fragmented {
+    data: MaskedStorage<Data>,
+    fragments: Vec<MaskedStorage<Fragment>>,
+}
+
+/// All are joined with each of the eight.
+#[derive(Drop)]
+struct Fragments {
+    count: u32,
+    passes: u64,
+}
+
+// Data for each index.
+fn data_of(alloc: Global, count: u32) -> Result<MaskedStorage<Data>> {
+    let mut data = empty::<Data>(alloc)?;
+    for id in 0..count {
+        if id < 16_777_216 && data.put(id, Data(u64::from(id))).is_err() {
+            bail!("no data was put");
+        }
+    }
+    Ok(data)
+}
+
+// Fragments for each eighth index, from one on.
+fn fragments_from(alloc: Global, first: u32, count: u32) -> Result<MaskedStorage<Fragment>> {
+    let mut fragments = empty::<Fragment>(alloc)?;
+    for id in 0..count {
+        let fragment = Fragment(u64::from(id) % 13);
+        if id % 8 == first && id < 16_777_216 && fragments.put(id, fragment).is_err() {
+            bail!("no fragment was put");
+        }
+    }
+    Ok(fragments)
+}
+
+// Changes the data beside the fragments of a storage.
+fn join_with(data: &mut MaskedStorage<Data>, fragments: &MaskedStorage<Fragment>, number: u64) {
+    let mut cursor = data.join_mut(fragments);
+    while let Some(_id) = cursor.next() {
+        if let Some(fragment) = cursor.beside() {
+            if let Ok(data) = cursor.item() {
+                let added = fragment.0.wrapping_add(number);
+                data.0 = data.0.wrapping_mul(3).wrapping_add(added);
+            }
+        }
+    }
+}
+
+// A checksum of the data.
+fn checksum_of(data: &MaskedStorage<Data>) -> u64 {
+    let mut sum = 0;
+    let mut all = data.join();
+    while let Some(data) = all.next() {
+        sum = mix(sum, data.0);
+    }
+    sum
+}
+
+impl Workload for Fragments {
+    type State = Fragmented;
+
+    fn operations(&self) -> u64 {
+        u64::from(self.count).saturating_mul(self.passes)
+    }
+
+    fn prepare(&self, alloc: Global) -> Result<Self::State> {
+        let mut fragments = Vec::new(alloc);
+        for first in 0..8u32 {
+            fragments.push(fragments_from(alloc, first, self.count)?)?;
+        }
+        Ok(Fragmented {
+            data: data_of(alloc, self.count)?,
+            fragments,
+        })
+    }
+
+    fn work(&self, state: &mut Self::State) -> Result<u64> {
+        for _pass in 0..self.passes {
+            let mut number: u64 = 0;
+            for fragments in &state.fragments {
+                join_with(&mut state.data, fragments, number);
+                number = number.wrapping_add(1);
+            }
+        }
+        Ok(0)
+    }
+
+    fn checksum(&self, state: &Self::State, _answer: u64) -> u64 {
+        checksum_of(&state.data)
+    }
+}
+
+/// Reports on it.
+pub fn run(rt: &(impl Clock + Print), alloc: Global, plan: &Plan, prefix: &str) -> Result<()> {
+    let fragments = Fragments {
+        count: plan.count,
+        passes: plan.passes(),
+    };
+    report(rt, alloc, plan, prefix, "d_join_frag8", &fragments)
+}

@@ -1,0 +1,117 @@
+//! Positions that go on by velocities, in threads and by a cursor: little work for each.
+
+use crate::joining::crowd::Crowd;
+use crate::joining::spots::{VecPosition, VecVelocity, bits_of};
+use crate::random::mix;
+use crate::workload::{Best, Plan};
+use anyhow::Result;
+use joins::{Join, JoinMut};
+use joins_parallel::par_update;
+use std::alloc::{Alloc, Global};
+use std::io::Print;
+use std::thread::Threads;
+use std::time::{Clock, Instant};
+use storages::MaskedStorage;
+
+/// The sum of the positions to the right, which wraps.
+fn sum_of(positions: &MaskedStorage<VecPosition>) -> u64 {
+    let mut sum: u64 = 0;
+    let mut all = positions.join();
+    while let Some(position) = all.next() {
+        sum = sum.wrapping_add(bits_of(position.0.x));
+    }
+    sum
+}
+
+/// Moves each in threads.
+fn move_in_threads(
+    rt: &(impl Threads + Alloc<A = Global> + Sync),
+    positions: &mut MaskedStorage<VecPosition>,
+    velocities: &MaskedStorage<VecVelocity>,
+) -> Result<u64> {
+    let moved = |position: &VecPosition, velocity: &VecVelocity| -> Option<VecPosition> {
+        let mut spot = position.0;
+        spot.add(&velocity.0);
+        Some(VecPosition(spot))
+    };
+    par_update(rt, positions, velocities, moved)?;
+    Ok(sum_of(positions))
+}
+
+/// Moves each by a cursor.
+fn move_by_cursor(
+    positions: &mut MaskedStorage<VecPosition>,
+    velocities: &MaskedStorage<VecVelocity>,
+) -> u64 {
+    let mut sum: u64 = 0;
+    let mut cursor = positions.join_mut(velocities);
+    while let Some(_id) = cursor.next() {
+        if let Some(velocity) = cursor.beside() {
+            if let Ok(position) = cursor.item() {
+                position.0.add(&velocity.0);
+                sum = sum.wrapping_add(bits_of(position.0.x));
+            }
+        }
+    }
+    sum
+}
+
+/// Moves all, so often, and sums what each time makes.
+fn move_all(
+    rt: &(impl Threads + Alloc<A = Global> + Sync),
+    state: &mut Crowd<VecPosition, VecVelocity>,
+    passes: u64,
+    in_threads: bool,
+) -> Result<u64> {
+    let mut sum: u64 = 0;
+    for _pass in 0..passes {
+        let moved = if in_threads {
+            move_in_threads(rt, &mut state.positions, &state.velocities)?
+        } else {
+            move_by_cursor(&mut state.positions, &state.velocities)
+        };
+        sum = sum.wrapping_add(moved);
+    }
+    Ok(sum)
+}
+
+/// Reports on light updates. A line's name says for how many processors it is: the others are to be kept from the program.
+pub fn run(
+    rt: &(impl Threads + Alloc<A = Global> + Sync + Clock + Print),
+    plan: &Plan,
+    prefix: &str,
+) -> Result<()> {
+    for name in [
+        "j_par_light_seq",
+        "j_par_light_t1",
+        "j_par_light_t2",
+        "j_par_light_t4",
+    ] {
+        if name.starts_with(prefix) {
+            report(rt, plan, name)?;
+        }
+    }
+    Ok(())
+}
+
+/// Reports on one line.
+fn report(
+    rt: &(impl Threads + Alloc<A = Global> + Sync + Clock + Print),
+    plan: &Plan,
+    name: &str,
+) -> Result<()> {
+    let in_threads = name != "j_par_light_seq";
+    let mut best = Best::new(name);
+    for run in 0..plan.runs() {
+        let mut state = Crowd::<VecPosition, VecVelocity>::populate(rt.alloc(), plan.count, 0)?;
+        let start = Instant::now(rt)?;
+        let answer = move_all(rt, &mut state, plan.passes(), in_threads)?;
+        let nanoseconds = u64::try_from(start.elapsed(rt)?.as_nanos())?;
+        best.take(run, nanoseconds, mix(answer, state.sum(plan.count)))?;
+    }
+    best.print(
+        rt,
+        plan,
+        u64::from(plan.count).saturating_mul(plan.passes()),
+    )
+}

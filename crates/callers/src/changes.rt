@@ -1,0 +1,28 @@
+//! Change sets, joined and given up.
+ghost use Rattle.std.specs.Prelude.{◌≡◌, ◌&&◌, ℕ, Some, true, IfSome};
+ghost use Rattle.std.specs.FinMap as map;
+ghost use Rattle.std.specs.FinSet as set;
+ghost use Rattle.hibits.specs.Left.{left};
+ghost use Rattle.joins.specs.Each.{each_becomes};
+
+use hibits::BitSet;
+use joins::{ChangeSet, Join};
+
+/// Each change of an index that a set has is the same, and nothing else changed.
+pub fn all_changes_are(changes: &mut ChangeSet<u32>, other: &BitSet, value: u32)
+    ensures { changes.new ≡ each_becomes (λ _ _. value) (left (λ i. map.contains_key changes.old i && set.contains other.now.members i) 0) changes.old }
+{
+    let mut cursor = changes.join_mut(other);
+    while let Some(_id) = cursor.next() {
+        if let Some(place) = cursor.item() {
+            *place = value;
+        }
+    }
+}
+
+/// What a change set gives when it is given up are its changes.
+pub fn first_change(changes: ChangeSet<u32>) -> Option<u32>
+    ensures { IfSome result (λ x. (i : ℕ) × (map.get changes i ≡ Some x)) }
+{
+    changes.join().next()
+}

@@ -1,0 +1,181 @@
+-- A reader who follows a slot gets what leads from its values before a run to those after.
+use Rattle.std.proofs.Common.{◌≡◌, ◌≢◌, ◌<◌, ℕ, Bool, true, false, ◌&&◌, ◌||◌, eqb, cond, List, [], ◌∷◌, ◌++◌, refl, sym, ap, ◌∙◌, subst, Option, Some, None, is_some, inl, inr, append_assoc, pos}
+use Rattle.std.specs.Prelude.{IsSome, MatchOption, ◌⊎◌}
+use Rattle.std.specs.Cmp.{signed_Decides}
+use Rattle.std.specs.Option.{option_map}
+use Rattle.std.specs.Ordering.{int_eq}
+use mathlib.Core.Path.{fun_ext}
+use Rattle.std.proofs.lemmas.Bool.{false≢true, cases_Bool, cases_eq, both_ways}
+use Rattle.std.proofs.lemmas.List.Folds.{list_any-append}
+use Rattle.hibits.specs.declared.limits.TheConstants.{INDEX_LIMIT}
+use Rattle.entities.specs.declared.entity.Entity.{Entity}
+use Rattle.entities.specs.Population.{Population, index_of, generation_of, lives, IsAlive}
+use Rattle.entities.specs.Merges.{the_marked}
+use Rattle.storages.specs.declared.event.ComponentEvent.{ComponentEvent}
+use Rattle.storages.specs.Channel.{Channel}
+use Rattle.storages.specs.Tracking.{without_reader, switched}
+use Rattle.storages.specs.Unread.{unread_of, dropped}
+use Rattle.specs.specs.declared.command.Command.{Command}
+use Rattle.specs.specs.declared.command.Command.TheVariants.{Register, Create, CreatePending, Delete, DeleteAll, MarkDead, IsAlive as AskAlive, IsLiving as AskLiving, EntityAt, Insert, Get, Remove, Clear, Count as AskCount, Select, Maintain, Reader, Events, DropReader, Emit}
+use Rattle.specs.specs.declared.command.Reply.{Reply}
+use Rattle.specs.specs.declared.command.Reply.TheVariants.{Done, Entity as Told, Bool as Yes, Value, Count, Indices, Maintained as Kept, Reader as NewReader, Events as Given, Refused, InsertRefused}
+use Rattle.specs.specs.Column.{Column, without_values}
+use Rattle.specs.specs.Table.{Table, Becomes, Begins, Registers, Removes}
+use Rattle.specs.specs.Readers.{Rechannels, with_channel}
+use Rattle.specs.specs.People.{the_living}
+use Rattle.specs.specs.Reached.{OnlyLiving}
+use Rattle.specs.specs.State.{State, Step, Run}
+use Rattle.specs.specs.Leading.{index_at, replay, is_named}
+use Rattle.specs.specs.Following.{values, unread, IsListening, IsFollowed, Advances, Follows, Replays, given_by, given, Throughout, IsQuiet, AreQuiet, Tells}
+use Rattle.specs.proofs.Living.{keeps_step}
+use Rattle.specs.proofs.Leading.{leads_more, replay-append, or_false}
+use Rattle.specs.proofs.Telling.{unread_gone}
+use Rattle.specs.proofs.Advancing.{IsBelow, Keeps, stays, puts, takes, loses, empties, registers, drops, switches, reads}
+
+-- an entity lives or not
+alive_or_not : (p : Population) (e : Entity) → IsAlive p e ⊎ (IsAlive p e → ⊥)
+alive_or_not p e = elim (cases_Bool (lives p (index_of e))) [
+  | inl on ↦ elim (cases_Bool (int_eq (generation_of e) (pos (p.births (index_of e))))) [
+    | inl same ↦ inl (on, (signed_Decides (generation_of e) (pos (p.births (index_of e)))).0 same)
+    | inr other ↦ inr (λ a. both_ways _ other ((signed_Decides (generation_of e) (pos (p.births (index_of e)))).1 a.1))
+  ]
+  | inr off ↦ inr (λ a. both_ways _ off a.0)
+]
+
+some_below : {V : Type 0} (o : Option (Column V)) → ((c : Column V) (i : ℕ) → o ≡ Some c → IsSome (c.values i) → i < INDEX_LIMIT) → IsBelow o
+some_below None below i h = absurd (false≢true h)
+some_below (Some c) below i h = below c i refl h
+
+living_below : {K V : Type 0} (slot : K) (s : State K V) → OnlyLiving s → IsBelow (s.table slot)
+living_below slot s w = some_below (s.table slot) (λ c i is has. w.below i (w.born i (w.values slot c i is has)))
+
+-- a slot is this one or not
+is_or_not : {K : Type 0} (slot : K) (here : K → Bool) → Tells here slot → (s : K) → (s ≡ slot) ⊎ (s ≢ slot)
+is_or_not slot here tells s = elim (cases_Bool (here s)) [ inl on ↦ inl ((tells s).0 on) | inr off ↦ inr (λ e. both_ways _ off ((tells s).1 e)) ]
+
+module _ {K V : Type 0} (slot : K) (n : ℕ) (here : K → Bool) (tells : Tells here slot) where
+  -- what the reader of the slot has from one table to the next
+  abbrev KeepsAt : Table K V → Table K V → List ComponentEvent → Type 0
+  KeepsAt old new given = Keeps n (old slot) (new slot) given
+
+  same_slot : (old new : Table K V) → new slot ≡ old slot → IsListening n (old slot) → KeepsAt old new []
+  same_slot old new same l = subst (λ (o : Option (Column V)). Keeps n (old slot) o []) (sym same) (stays n (old slot) l)
+
+  same_table : (old new : Table K V) → new ≡ old → IsListening n (old slot) → KeepsAt old new []
+  same_table old new same l = same_slot old new (ap (λ (t : Table K V). t slot) same) l
+
+  -- one slot's column changed
+  one_slot : (s : K) (old new : Table K V) (c c' : Column V) (es : List ComponentEvent) → old s ≡ Some c → Becomes old s c' new → IsListening n (old slot)
+      → (s ≡ slot → IsListening n (Some c) → Keeps n (Some c) (Some c') es) → (s ≢ slot → es ≡ []) → KeepsAt old new es
+  one_slot s old new c c' es was b l change none = elim (is_or_not slot here tells s) [
+    | inl same ↦
+        let before : old slot ≡ Some c = subst (λ t. old t ≡ Some c) same was in
+        let after : new slot ≡ Some c' = subst (λ t. new t ≡ Some c') same b.here in
+        subst (λ (o : Option (Column V)). Keeps n o (new slot) es) (sym before) (subst (λ (o : Option (Column V)). Keeps n (Some c) o es) (sym after) (change same (subst (IsListening n) before l)))
+    | inr other ↦ subst (λ (gs : List ComponentEvent). KeepsAt old new gs) (sym (none other)) (same_slot old new (b.others slot (λ q. other (sym q))) l)
+  ]
+
+  -- and the reader was given nothing
+  one_quiet : (s : K) (old new : Table K V) (c c' : Column V) → old s ≡ Some c → Becomes old s c' new → IsListening n (old slot) → (s ≡ slot → IsListening n (Some c) → Keeps n (Some c) (Some c') []) → KeepsAt old new []
+  one_quiet s old new c c' was b l change = one_slot s old new c c' [] was b l change (λ _. refl)
+
+  starts : (s : K) (old new : Table K V) (o : Option (Column V)) → o ≡ old s → MatchOption o (Begins old s new) (λ _. new ≡ old) → IsListening n (old slot) → KeepsAt old new []
+  starts s old new None e r l = elim (is_or_not slot here tells s) [
+    | inl same ↦ absurd (subst (λ (o : Option (Column V)). IsListening n o) (sym (subst (λ t. None ≡ old t) same e)) l)
+    | inr other ↦ same_slot old new (r.becomes.others slot (λ q. other (sym q))) l
+  ]
+  starts s old new (Some c) e r l = same_table old new r l
+
+  removes : (p : Population) (s : K) (e : Entity) (found : Option V) (old new : Table K V) → Removes p old s e found new → IsListening n (old slot) → KeepsAt old new []
+  removes p s e found old new r l = elim (alive_or_not p e) [
+    | inl a ↦ one_quiet s old new r.column _ r.registered (r.alive a).1 l (λ same. takes n r.column (index_of e))
+    | inr d ↦ same_table old new (r.dead d).1 l
+  ]
+
+  deaths : (es : List Entity) (old new : State K V) → new.table slot ≡ option_map (without_values es) (old.table slot) → IsListening n (old.table slot) → KeepsAt old.table new.table []
+  deaths es old new is l = subst (λ (o : Option (Column V)). Keeps n (old.table slot) o []) (sym is) (loses n es (old.table slot) l)
+
+  pub keeps_following : (place : V → K) (allocates : K → Bool) (old : State K V) (c : Command K V) (r : Reply V) (new : State K V) → Step place allocates old c r new → IsQuiet slot n c → IsFollowed slot n old → Keeps n (old.table slot) (new.table slot) (given_by here n c r)
+  keeps_following place allocates old command (Refused r) new s q l = same_table old.table new.table (ap (λ (t : State K V). t.table) s.1) l
+  keeps_following place allocates old (Register slot') Done new s q l = starts slot' old.table new.table (old.table slot') refl s.table l
+  keeps_following place allocates old Create (Told e) new s q l = same_table old.table new.table s.table l
+  keeps_following place allocates old CreatePending (Told e) new s q l = same_table old.table new.table s.table l
+  keeps_following place allocates old (Delete es) Done new s q l = deaths es.items old new (s.table slot) l
+  keeps_following place allocates old DeleteAll Done new s q l = deaths (the_living old.people) old new (s.table slot) l
+  keeps_following place allocates old (MarkDead e) Done new s q l = same_table old.table new.table s.table l
+  keeps_following place allocates old (AskAlive e) (Yes b) new s q l = same_table old.table new.table (ap (λ (t : State K V). t.table) s.1) l
+  keeps_following place allocates old (AskLiving e) (Yes b) new s q l = same_table old.table new.table (ap (λ (t : State K V). t.table) s.1) l
+  keeps_following place allocates old (EntityAt i) (Told e) new s q l = same_table old.table new.table (ap (λ (t : State K V). t.table) s.1) l
+  keeps_following place allocates old (Insert e value) (Value before) new s q l = one_quiet (place value) old.table new.table s.table.column _ s.table.registered s.table.put l (λ same. puts n s.table.column (index_of e) value)
+  keeps_following place allocates old (Insert e value) (InsertRefused r back) new s q l = same_table old.table new.table (ap (λ (t : State K V). t.table) s.2) l
+  keeps_following place allocates old (Get k e) (Value found) new s q l = same_table old.table new.table (ap (λ (t : State K V). t.table) s.1) l
+  keeps_following place allocates old (Remove k e) (Value found) new s q l = removes old.people k e found old.table new.table s.table l
+  keeps_following place allocates old (Clear k) Done new s q l = one_quiet k old.table new.table s.table.column _ s.table.registered s.table.cleared l (λ same. empties n s.table.column)
+  keeps_following place allocates old (AskCount k) (Count m) new s q l = same_table old.table new.table (ap (λ (t : State K V). t.table) s.1) l
+  keeps_following place allocates old (Select x) (Indices is) new s q l = same_table old.table new.table (ap (λ (t : State K V). t.table) s.1) l
+  keeps_following place allocates old (Maintain limit) (Kept m) new s q l = deaths (the_marked old.people) old new (s.table slot) l
+  keeps_following place allocates old (Reader k) (NewReader m) new s q l = one_quiet k old.table new.table s.table.column _ s.table.registered s.table.becomes l (λ same. registers n s.table.column)
+  keeps_following place allocates old (Events k m) (Given es) new s q l = one_slot k old.table new.table s.table.column _ _ s.table.registered s.table.becomes l
+      (λ same. rw ((tells k).1 same) (reads n s.table.column m es.items s.table.said))
+      (λ other. rw (off k other) refl)
+    where
+      off : (k : K) → k ≢ slot → here k ≡ false
+      off k other = elim (cases_Bool (here k)) [ inl on ↦ absurd (other ((tells k).0 on)) | inr f ↦ f ]
+  keeps_following place allocates old (DropReader k m) Done new s q l = one_quiet k old.table new.table s.table.column _ s.table.registered s.table.becomes l (λ same. drops n s.table.column m (q same))
+  keeps_following place allocates old (Emit k on) Done new s q l = one_quiet k old.table new.table s.table.column _ s.table.registered s.table.becomes l (λ same. switches n s.table.column on (q same))
+  keeps_following place allocates old command reply new s q l = absurd s
+
+  -- the events are on after it, and the reader is registered, so it switched none off and dropped another
+  pub follows_step : (place : V → K) (allocates : K → Bool) (old : State K V) (c : Command K V) (r : Reply V) (new : State K V) → Step place allocates old c r new → OnlyLiving old → IsFollowed slot n old → IsFollowed slot n new → Follows slot n old new (given_by here n c r)
+  follows_step place allocates old command (Refused r) new s w l after = (same_table old.table new.table (ap (λ (t : State K V). t.table) s.1) l).advances (living_below slot old w)
+  follows_step place allocates old (DropReader k m) Done new s w l after = (keeps_following place allocates old (DropReader k m) Done new s (λ same own. dropped_is_gone k m s.table.column s.table.column.channel new.table (subst (λ (t : K). new.table t ≡ Some (with_channel s.table.column (without_reader m s.table.column.channel))) same s.table.becomes.here) own after) l).advances (living_below slot old w)
+    where
+      dropped_is_gone : (k : K) (m : ℕ) (c : Column V) (channel : Channel) (t : Table K V) → t slot ≡ Some (with_channel c (without_reader m channel)) → m ≡ n → IsListening n (t slot) → ⊥
+      dropped_is_gone k m c channel t is own listens =
+          let l : IsListening n (Some (with_channel c (without_reader m channel))) = subst (IsListening n) is listens in
+          false≢true (subst (λ (o : Option (List ComponentEvent)). is_some o ≡ true) (subst (λ j. unread_of n (dropped j channel.readers) ≡ None) (sym own) (unread_gone n channel.readers)) l.1)
+  follows_step place allocates old (DropReader k m) reply new s w l after = absurd s
+  follows_step place allocates old (Emit k on) Done new s w l after = (keeps_following place allocates old (Emit k on) Done new s (λ same. (subst (IsListening n) (subst (λ (t : K). new.table t ≡ Some (with_channel s.table.column (switched on s.table.column.channel))) same s.table.becomes.here) after).0) l).advances (living_below slot old w)
+  follows_step place allocates old (Emit k on) reply new s w l after = absurd s
+  follows_step place allocates old c r new s w l after = (keeps_following place allocates old c r new s tt l).advances (living_below slot old w)
+
+  at_first : (place : V → K) (allocates : K → Bool) (cs : List (Command K V)) (rs : List (Reply V)) (old new : State K V) (run : Run place allocates old cs rs new) → Throughout place allocates (IsFollowed slot n) old cs rs new run → IsFollowed slot n old
+  at_first place allocates [] [] old new run t = t
+  at_first place allocates [] (r ∷ rs) old new run t = absurd t
+  at_first place allocates (c ∷ cs) [] old new run t = absurd t
+  at_first place allocates (c ∷ cs) (r ∷ rs) old new run t = t.0
+
+  -- what follows one part of a run and then the other follows both
+  follows_more : (a b c : State K V) (g h : List ComponentEvent) → Follows slot n a b g → Follows slot n b c h → Follows slot n a c (g ++ h)
+  follows_more a b c g h f k = record {
+    events = f.events ++ k.events;
+    leads = leads_more (values a slot) (values b slot) (values c slot) f.events k.events f.leads k.leads;
+    told =
+        append_assoc g h (unread c slot n) ∙ ap (λ xs. g ++ xs) k.told ∙ sym (append_assoc g (unread b slot n) k.events)
+        ∙ ap (λ xs. xs ++ k.events) f.told ∙ append_assoc (unread a slot n) f.events k.events;
+  }
+
+  pub follows_run : (place : V → K) (allocates : K → Bool) (cs : List (Command K V)) (rs : List (Reply V)) (old new : State K V) (run : Run place allocates old cs rs new) → Throughout place allocates (IsFollowed slot n) old cs rs new run → OnlyLiving old → Follows slot n old new (given here n cs rs)
+  follows_run place allocates [] [] old new run t w = (same_table old.table new.table (ap (λ (s : State K V). s.table) run) t).advances (living_below slot old w)
+  follows_run place allocates [] (r ∷ rs) old new run t w = absurd run
+  follows_run place allocates (c ∷ cs) [] old new run t w = absurd run
+  follows_run place allocates (c ∷ cs) (r ∷ rs) old new run t w =
+      let mid : State K V = run.0 in
+      follows_more old mid new (given_by here n c r) (given here n cs rs)
+      (follows_step place allocates old c r mid run.1 w t.0 (at_first place allocates cs rs mid new run.2 t.1))
+      (follows_run place allocates cs rs mid new run.2 t.1 (keeps_step place allocates old c r mid run.1 w))
+
+  pub followed_run : (place : V → K) (allocates : K → Bool) (cs : List (Command K V)) (rs : List (Reply V)) (old new : State K V) (run : Run place allocates old cs rs new) → AreQuiet slot n cs → IsFollowed slot n old → Throughout place allocates (IsFollowed slot n) old cs rs new run
+  followed_run place allocates [] [] old new run q l = l
+  followed_run place allocates [] (r ∷ rs) old new run q l = absurd run
+  followed_run place allocates (c ∷ cs) [] old new run q l = absurd run
+  followed_run place allocates (c ∷ cs) (r ∷ rs) old new run q l =
+      (l, followed_run place allocates cs rs run.0 new run.2 q.1 (keeps_following place allocates old c r run.0 run.1 q.0 l).listening)
+
+  pub replays : (old new : State K V) (given : List ComponentEvent) → Follows slot n old new given → Replays slot n old new given
+  replays old new given f = record {
+    mask = λ set before i.
+        ap (λ es. replay es set i) f.told ∙ ap (λ (p : ℕ → Bool). p i) (replay-append (unread old slot n) f.events set)
+        ∙ ap (λ (p : ℕ → Bool). replay f.events p i) (fun_ext before) ∙ sym (f.leads.mask i);
+    named = λ i off. f.leads.kept i (or_false _ _ (sym (list_any-append (λ e. eqb (index_at e) i) (unread old slot n) f.events) ∙ sym (ap (is_named i) f.told) ∙ off)).1;
+  }

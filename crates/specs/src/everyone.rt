@@ -1,0 +1,82 @@
+//! The death of everyone.
+ghost use Rattle.std.specs.Prelude.{◌≡◌, ℕ, true, false, map, IfOk, IsOk, OnOk, OnErr};
+ghost use Rattle.std.specs.List.{All};
+ghost use Rattle.hibits.specs.Left.{left};
+ghost use Rattle.entities.specs.Census.{population};
+ghost use Rattle.entities.specs.Merges.{living_entity};
+ghost use Rattle.entities.specs.Population.{lives};
+ghost use Rattle.specs.specs.Gone.{IsGone};
+ghost use Rattle.specs.specs.People.{NobodyLives, the_living};
+ghost use Rattle.specs.specs.Reached.{OnlyLiving};
+ghost use Rattle.specs.specs.State.{core_state, state_of, Deletes};
+
+use crate::core_parts::{Core, Parts};
+use crate::slots::Storages;
+use crate::world::World;
+use entities::{EntitiesRes, Entity};
+use hibits::{Layers, Walk};
+use std::alloc::{AllocError, Global};
+
+impl<S: Storages> Core<S> {
+    /// The death at once of every living entity, pending births among them, with their components. It takes memory for the list of them, and
+    /// for events. Ports `WorldExt::delete_all`.
+    pub fn delete_all(&mut self) -> Result<(), AllocError>
+        ensures ok { OnOk result (Deletes (the_living (core_state S.table self.old).people) (core_state S.table self.old) (core_state S.table self.new)) }
+        ensures nobody { OnOk result (OnlyLiving (core_state S.table self.old) → NobodyLives (core_state S.table self.new).people) }
+        ensures gone { OnOk result (All (IsGone (core_state S.table self.new).people) (the_living (core_state S.table self.old).people)) }
+        ensures idle { NobodyLives (core_state S.table self.old).people → IsOk result }
+        ensures err { OnErr result (core_state S.table self.new ≡ core_state S.table self.old) }
+    {
+        let list = self.living()?;
+        let Parts { entities, storages } = &mut self.parts;
+        storages.reserve_drop(list.len())?;
+        match entities.alloc_mut().kill(list.as_slice()) {
+            Ok(()) => {
+                storages.drop_all(list.as_slice());
+                Ok(())
+            }
+            Err(_) => unreachable!(),
+        }
+    }
+
+    /// The living entities, pending births among them, ascending.
+    fn living(&self) -> Result<Vec<Entity>, AllocError>
+        ensures all { IfOk result (λ list. list.items ≡ the_living (core_state S.table self.now).people) }
+        ensures none { NobodyLives (core_state S.table self.now).people → IsOk result }
+    {
+        let entities = &self.parts.entities;
+        list_of(self.alloc, entities, &entities.living())
+    }
+}
+
+/// The living entities of a mask, ascending.
+fn list_of<M: Layers>(
+    alloc: Global,
+    entities: &EntitiesRes,
+    mask: &M,
+) -> Result<Vec<Entity>, AllocError>
+    requires { (i : ℕ) → M.has mask.now 0 i ≡ true → lives (population entities.now) i ≡ true }
+    ensures items { IfOk result (λ list. list.items ≡ map (living_entity (population entities.now)) (left (M.has mask.now 0) 0)) }
+    ensures none { ((i : ℕ) → M.has mask.now 0 i ≡ false) → IsOk result }
+{
+    let mut list = Vec::new(alloc);
+    let mut walk = Walk::new(mask);
+    while let Some(i) = walk.next(mask) {
+        list.push(entities.entity(i))?;
+    }
+    Ok(list)
+}
+
+impl<S: Storages> World<S> {
+    /// The death at once of every living entity, pending births among them, with their components. It takes memory for the list of them, and
+    /// for events. Ports `WorldExt::delete_all`.
+    pub fn delete_all(&mut self) -> Result<(), AllocError>
+        ensures ok { OnOk result (Deletes (the_living (state_of S.table self.old).people) (state_of S.table self.old) (state_of S.table self.new)) }
+        ensures nobody { OnOk result (OnlyLiving (state_of S.table self.old) → NobodyLives (state_of S.table self.new).people) }
+        ensures gone { OnOk result (All (IsGone (state_of S.table self.new).people) (the_living (state_of S.table self.old).people)) }
+        ensures idle { NobodyLives (state_of S.table self.old).people → IsOk result }
+        ensures err { OnErr result (state_of S.table self.new ≡ state_of S.table self.old) }
+    {
+        self.core.delete_all()
+    }
+}

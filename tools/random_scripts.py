@@ -1,0 +1,339 @@
+#!/usr/bin/env python3
+"""Runs random scripts by ./specs-run, and judges each reply by a plain model of sets, dictionaries and lists.
+
+    python3 tools/random_scripts.py [COUNT] [SEED]      COUNT: how many scripts (10000); SEED: that of the first (1)
+
+Script k is made from seed SEED + k. A birth may take any free index, so the model follows the entity that the program printed, if the rule
+allows it; every other reply is the only one that the model knows. The first reply that differs is printed, with its script and its seed, and
+the status is 1."""
+import os
+import random
+import subprocess
+import sys
+
+TOP = os.path.dirname(os.path.dirname(os.path.abspath(__file__)))
+LIMIT = 1 << 24
+LAST_GENERATION = (1 << 31) - 1
+NUMBERS = ["pos", "vel", "def", "map", "tree", "hp"]
+SLOTS = NUMBERS + ["tag", "link"]
+TRACKED = {"hp"}
+UNREADABLE = ["frob", "create ", " create", "delete", "delete 0", "insert pos 0:1", "insert tag 0:1 5", "select", "select and pos",
+              "select pos pos", "emit hp", "maintain -1", "reader", "entity 4294967296", "alive 0:0", "get id 0:1", "delete-all 0:1"]
+
+
+class Slot:
+    def __init__(self, tracked):
+        self.values, self.tracked, self.emission, self.registered, self.readers = {}, tracked, tracked, 0, {}
+
+    def tell(self, event, index):
+        if self.emission:
+            for unread in self.readers.values():
+                unread.append(f"{event}({index})")
+
+
+class Members:
+    """A set of indices, or the indices below the limit that are not of a set."""
+
+    def __init__(self, indices, inverted=False):
+        self.indices, self.inverted = frozenset(indices), inverted
+
+    def has(self, index):
+        return (index in self.indices) != self.inverted
+
+    def joined(self, other, test):
+        inverted = test(self.inverted, other.inverted)
+        named = self.indices | other.indices
+        return Members([i for i in named if test(self.has(i), other.has(i)) != inverted], inverted)
+
+
+class World:
+    def __init__(self):
+        self.births, self.merged, self.pending, self.marked, self.slots = {}, set(), set(), set(), {}
+
+    def living(self):
+        return self.merged | self.pending
+
+    def is_alive(self, e):
+        return e[0] in self.living() and e[1] == self.births[e[0]]
+
+    def current(self, i):
+        born = self.births.get(i, 0)
+        return born if i in self.living() else -born if born else 1
+
+    def reported(self, i):
+        born = self.births.get(i, 0) - (i in self.pending)
+        return 1 if born == 0 else born if i in self.merged else -born
+
+    def is_born(self, e):
+        """Whether the entity may be the next that is born."""
+        free = [i for i, n in self.births.items() if i not in self.living() and n < LAST_GENERATION]
+        unused = next(i for i in range(LIMIT) if i not in self.births)
+        return e[0] in (free or [unused]) and e[1] == self.births.get(e[0], 0) + 1
+
+    def refused(self, entities):
+        """The first that may not die, as the program tells it."""
+        for k, e in enumerate(entities):
+            if not self.is_alive(e) or e in entities[:k]:
+                return wrong("delete", e, self.reported(e[0]))
+        return None
+
+    def bury(self, indices):
+        for slot in self.slots.values():
+            for i in indices:
+                if i in slot.values:
+                    del slot.values[i]
+                    slot.tell("Removed", i)
+        for group in (self.merged, self.pending, self.marked):
+            group.difference_update(indices)
+
+    def members(self, words):
+        """The set that the words begin with, and the words behind it; a set that names an unregistered slot is None."""
+        word, rest = words[0], words[1:]
+        if word == "living":
+            return Members(self.living()), rest
+        if word == "not":
+            inner, rest = self.members(rest)
+            return inner and Members(inner.indices, not inner.inverted), rest
+        if word in ("and", "or", "xor"):
+            left, rest = self.members(rest)
+            right, rest = self.members(rest)
+            test = {"and": lambda a, b: a and b, "or": lambda a, b: a or b, "xor": lambda a, b: a != b}[word]
+            return left and right and left.joined(right, test), rest
+        return self.slots.get(word) and Members(self.slots[word].values), rest
+
+    def create(self, *how, printed):
+        e = entity(printed)
+        if not e or not self.is_born(e):
+            return "an entity that may be born"
+        self.births[e[0]] = e[1]
+        (self.pending if how else self.merged).add(e[0])
+        return printed
+
+    def delete(self, *words):
+        entities = [entity(w) for w in words]
+        refused = self.refused(entities)
+        if refused:
+            return refused
+        self.bury([e[0] for e in entities])
+        return "ok"
+
+    def delete_all(self):
+        self.bury(sorted(self.living()))
+        return "ok"
+
+    def mark(self, word):
+        e = entity(word)
+        if not self.is_alive(e):
+            return wrong("delete", e, self.reported(e[0]))
+        self.marked.add(e[0])
+        return "ok"
+
+    def maintain(self, _limit):
+        dead = [f"{i}:{self.births[i]}" for i in sorted(self.marked)]
+        indices = sorted(self.marked)
+        self.merged |= self.pending
+        self.pending.clear()
+        self.bury(indices)
+        return f"deleted [{', '.join(dead)}] ran 0 refused 0 left 0"
+
+    def alive(self, word):
+        e = entity(word)
+        return "true" if self.is_alive(e) and e[0] in self.merged else "false"
+
+    def living_line(self, word):
+        return "true" if self.is_alive(entity(word)) else "false"
+
+    def entity(self, index):
+        return f"{index}:{self.current(int(index))}"
+
+    def register(self, name):
+        self.slots.setdefault(name, Slot(name in TRACKED))
+        return "ok"
+
+    def insert(self, name, word, value):
+        slot, e = self.slots.get(name), entity(word)
+        if slot is None:
+            return "error: unregistered"
+        if not self.is_alive(e):
+            return wrong("insert component for entity", e, self.current(e[0]))
+        before = slot.values.get(e[0], "none")
+        slot.tell("Modified" if e[0] in slot.values else "Inserted", e[0])
+        slot.values[e[0]] = value
+        return before
+
+    def get(self, name, word):
+        slot, e = self.slots.get(name), entity(word)
+        if slot is None:
+            return "error: unregistered"
+        return slot.values.get(e[0], "none") if self.is_alive(e) else "none"
+
+    def remove(self, name, word):
+        slot, e = self.slots.get(name), entity(word)
+        found = self.get(name, word)
+        if slot and self.is_alive(e) and e[0] in slot.values:
+            del slot.values[e[0]]
+            slot.tell("Removed", e[0])
+        return found
+
+    def clear(self, name):
+        slot = self.slots.get(name)
+        if slot is None:
+            return "error: unregistered"
+        for i in sorted(slot.values):
+            slot.tell("Removed", i)
+        slot.values.clear()
+        return "ok"
+
+    def count(self, name):
+        slot = self.slots.get(name)
+        return "error: unregistered" if slot is None else str(len(slot.values))
+
+    def select(self, *words):
+        members, _ = self.members(list(words))
+        return f"[{', '.join(map(str, sorted(members.indices)))}]" if members else "error: unregistered"
+
+    def channel(self, name):
+        slot = self.slots.get(name)
+        return (slot, None) if slot and slot.tracked else (None, "error: untracked" if slot else "error: unregistered")
+
+    def reader(self, name):
+        slot, refused = self.channel(name)
+        if refused:
+            return refused
+        slot.readers[slot.registered] = []
+        slot.registered += 1
+        return f"reader {slot.registered - 1}"
+
+    def events(self, name, number):
+        slot, refused = self.channel(name)
+        if refused:
+            return refused
+        if int(number) not in slot.readers:
+            return "error: unknown reader"
+        unread, slot.readers[int(number)] = slot.readers[int(number)], []
+        return f"[{', '.join(unread)}]"
+
+    def emit(self, name, switch):
+        slot, refused = self.channel(name)
+        if refused:
+            return refused
+        slot.emission = switch == "on"
+        return "ok"
+
+
+def entity(word):
+    index, _, generation = word.partition(":")
+    try:
+        return int(index), int(generation)
+    except ValueError:
+        return None
+
+
+def wrong(action, e, actual):
+    return (f"error: Tried to {action} entity Entity({e[0]}, Generation({e[1]})), but the generation is no longer valid; "
+            f"it should be Generation({actual})")
+
+
+class Script:
+    """Lines, of which each is made as if the program had taken the least free index at each birth."""
+
+    def __init__(self, seed):
+        self.random, self.world, self.lines = random.Random(seed), World(), []
+        for _ in range(self.random.randrange(60)):
+            self.add(self.line())
+        self.unreadable = self.random.randrange(8) == 0
+        if self.unreadable:
+            self.lines.append(self.random.choice(UNREADABLE))
+
+    def add(self, line):
+        self.lines.append(line)
+        if line.startswith("create"):
+            free = [i for i in self.world.births if i not in self.world.living()]
+            i = min(free) if free else len(self.world.births)
+            judge(self.world, line, f"{i}:{self.world.births.get(i, 0) + 1}")
+        elif line:
+            judge(self.world, line, "")
+
+    def an_entity(self):
+        known = self.world.births
+        if known and self.random.randrange(12):
+            i = self.random.choice(sorted(known))
+            return f"{i}:{known[i] if self.random.randrange(5) else self.random.choice([1, 2, -1, known[i] + 1])}"
+        return f"{self.random.choice([0, 1, 7, LIMIT - 1, LIMIT, (1 << 32) - 1])}:{self.random.choice([1, 2, -1, LAST_GENERATION])}"
+
+    def a_value(self, slot):
+        if slot == "tag":
+            return "tag"
+        if slot == "link":
+            return self.an_entity()
+        return str(self.random.choice([0, 5, -7, 63, -(1 << 63), (1 << 63) - 1, self.random.randrange(1000)]))
+
+    def a_set(self, depth):
+        kind = self.random.randrange(9 if depth else 4)
+        if kind < 4:
+            return "living" if kind == 0 else self.a_slot()
+        if kind == 4:
+            return "not " + self.a_set(depth - 1)
+        return f"{self.random.choice(['and', 'or', 'xor'])} {self.a_set(depth - 1)} {self.a_set(depth - 1)}"
+
+    def a_selection(self):
+        line = self.a_set(4)
+        members, _ = self.world.members(line.split())
+        return f"select and living {line}" if members and members.inverted else f"select {line}"
+
+    def a_slot(self):
+        return self.random.choice(["hp", "hp", self.random.choice(SLOTS)])
+
+    def line(self):
+        slot, e, r = self.a_slot(), self.an_entity(), self.random
+        return r.choice(["create", "create", "create pending", f"register {slot}", f"register {slot}", f"insert {slot} {e} {self.a_value(slot)}",
+                         f"insert {slot} {e} {self.a_value(slot)}", f"insert {slot} {e} {self.a_value(slot)}", f"get {slot} {e}", f"remove {slot} {e}",
+                         f"clear {slot}", f"count {slot}", f"mark {e}", f"alive {e}", f"living {e}", f"maintain {r.choice([0, 3, (1 << 64) - 1])}",
+                         f"entity {r.choice([0, 1, 2, 3, LIMIT, (1 << 32) - 1])}", "delete " + " ".join([e] + [self.an_entity() for _ in range(r.randrange(3))]),
+                         "delete-all" if r.randrange(4) == 0 else "", self.a_selection(), self.a_selection(), f"reader {slot}", f"events {slot} {r.randrange(3)}",
+                         f"events {slot} 0", f"emit {slot} {r.choice(['on', 'on', 'off'])}"])
+
+
+def judge(world, line, printed):
+    words = line.split(" ")
+    if words[0] == "create":
+        return world.create(*words[1:], printed=printed)
+    name = {"living": "living_line", "delete-all": "delete_all"}.get(words[0], words[0])
+    return getattr(world, name)(*words[1:])
+
+
+def disagreement(script, ran):
+    """What is wrong with a run, if anything is."""
+    world, replies, number = World(), ran.stdout.split("\n")[:-1], 0
+    readable = script.lines[:-1] if script.unreadable else script.lines
+    for line in filter(None, readable):
+        printed = replies[number] if number < len(replies) else "(nothing)"
+        wanted = judge(world, line, printed)
+        if wanted != printed:
+            return f"line {line!r}: wanted {wanted!r}, printed {printed!r}"
+        number += 1
+    faults = f"line {len(script.lines)}: cannot read\n" if script.unreadable else ""
+    if len(replies) != number or ran.stderr != faults or ran.returncode != (2 if script.unreadable else 0):
+        return f"{len(replies) - number} replies more than lines, status {ran.returncode}, told {ran.stderr!r}"
+    return None
+
+
+def main():
+    count = int(sys.argv[1]) if len(sys.argv) > 1 else 10000
+    seed = int(sys.argv[2]) if len(sys.argv) > 2 else 1
+    lines = 0
+    for k in range(count):
+        script = Script(seed + k)
+        lines += len(script.lines)
+        text = "".join(line + "\n" for line in script.lines)
+        ran = subprocess.run([os.path.join(TOP, "specs-run")], input=text, capture_output=True, text=True, check=False)
+        fault = disagreement(script, ran)
+        if fault:
+            print(f"{text}seed {seed + k}: {fault}")
+            return 1
+    print(f"{count} scripts agreed ({lines} lines, seeds {seed} to {seed + count - 1})")
+    return 0
+
+
+if __name__ == "__main__":
+    sys.exit(main())
