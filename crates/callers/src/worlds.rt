@@ -70,3 +70,12 @@ pub fn removed_unheard<S: Storages>(
         Err(_) => unreachable!(),
     }
 }
+
+/// Once everyone died nobody is alive.
+pub fn is_alive_at_the_end<S: Storages>(world: &mut World<S>, e: Entity) -> Result<bool, AllocError>
+    requires { OnlyLiving (state_of S.table world.old) }
+    ensures { IfOk result (λ alive. alive ≡ true → ⊥) }
+{
+    world.delete_all()?;
+    Ok(world.is_alive(e))
+}

@@ -1,10 +1,11 @@
 //! The world.
-ghost use Rattle.std.specs.Prelude.{◌≡◌, ◌∷◌, [], IsTrue, ◌↔◌, IfOk, IfErr, IsOk, OnOk, OnErr};
+ghost use Rattle.std.specs.Prelude.{◌≡◌, ℕ, ◌∷◌, [], IsTrue, ◌↔◌, IfOk, IfErr, IsOk, OnOk, OnErr};
 ghost use Rattle.std.specs.Borrow.{sem};
 ghost use Rattle.std.specs.List.{All};
 ghost use Rattle.entities.specs.Census.{population};
 ghost use Rattle.entities.specs.declared.entity.Entity.{Entity as AnEntity};
 ghost use Rattle.entities.specs.Population.{no_one, IsMerged};
+ghost use Rattle.specs.specs.Following.{AreQuiet, IsFollowed, Follows, given};
 ghost use Rattle.specs.specs.Gone.{IsGone};
 ghost use Rattle.specs.specs.People.{NoneMarked};
 ghost use Rattle.specs.specs.Reached.{HasNoValue, IsNew, OnlyLiving};
@@ -125,6 +126,7 @@ impl<S: Storages> World<S> {
         // The laws of runs, as this run kept them.
         ensures living { OnlyLiving (state_of S.table self.old) → OnlyLiving (state_of S.table self.new) }
         ensures gone { (e : AnEntity) → IsGone (state_of S.table self.old).people e → IsGone (state_of S.table self.new).people e }
+        ensures events { IfOk result (λ replies. (slot : S.Slot) (n : ℕ) → AreQuiet slot n commands.items → OnlyLiving (state_of S.table self.old) → IsFollowed slot n (state_of S.table self.old) → Follows slot n (state_of S.table self.old) (state_of S.table self.new) (given (λ s. S.Slot.eq s slot) n commands.items replies.items)) }
     {
         let mut replies = Vec::with_capacity(self.core.alloc, commands.len())?;
         for command in commands {

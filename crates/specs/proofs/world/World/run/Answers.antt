@@ -3,6 +3,7 @@ use Rattle.std.proofs.lemmas.List.{length_push, nil_from_length}
 use Rattle.std.specs.Vec.{vec_len, vec_capacity}
 use Rattle.std.specs.Vec.Iter.{into_iter_items}
 use Rattle.specs.specs.State.{state_of}
+use Rattle.specs.proofs.Following.{follows_run, followed_run}
 use Rattle.specs.proofs.Gone.{gone_run}
 use Rattle.specs.proofs.Living.{keeps_run}
 use Rattle.specs.proofs.Runs.{run_more, taken_front}
@@ -39,3 +40,9 @@ returns-clause-living g c = keeps_run g.S.Storages.place g.S.Storages.allocates 
 
 pub returns-clause-gone : goal.returns-clause-gone
 returns-clause-gone g c = λ e. gone_run g.S.Storages.place g.S.Storages.allocates c.args.commands.items _ _ _ e (returns-clause-run g c)
+
+pub returns-clause-events : goal.returns-clause-events
+returns-clause-events g c = λ slot n quiet living followed.
+    let run = returns-clause-run g c in
+    follows_run slot n (λ s. g.S.Slot.PartialEq.eq s slot) (λ s. g.met.S.Storages.exact s slot) g.S.Storages.place g.S.Storages.allocates c.args.commands.items _ _ _ run
+    (followed_run slot n (λ s. g.S.Slot.PartialEq.eq s slot) (λ s. g.met.S.Storages.exact s slot) g.S.Storages.place g.S.Storages.allocates c.args.commands.items _ _ _ run quiet followed) living
