@@ -17,7 +17,8 @@ impl<S> Deref for World<S> {
     }
 }
 
-/// What is done to the core is done to the world's.
+/// What is done to the core is done to the world's. A caller whose own contract says what a view or a builder of the world did makes it in a
+/// function of `&mut Core<S>`, and passes `&mut **world`.
 impl<S> DerefMut for World<S> {
     ghost use Rattle.specs.specs.Lending.{LendsCore};
 
