@@ -7,7 +7,11 @@
 # SPECS_BASELINE names the folder with the Rust sources and their assemble.sh; BASELINE_BUILD the folder to build them in.
 set -euo pipefail
 here=$(cd "$(dirname "$0")/.." && pwd)
-baseline=$(cd "$here" && cd "${SPECS_BASELINE:-../shared/baseline}" && pwd)
+baseline=$(cd "$here" && cd "${SPECS_BASELINE:-../shared/baseline}" 2>/dev/null && pwd) || baseline=
+[ -f "$baseline/assemble.sh" ] || {
+  echo "bench/compare.sh: it needs the same workloads over specs 0.17.0 in Rust: set SPECS_BASELINE to a folder whose assemble.sh DEST builds DEST/target/release/bench" >&2
+  exit 1
+}
 build=${BASELINE_BUILD:-${TMPDIR:-/tmp}/specs-baseline-$(id -u)}
 count=${1:-100000} iterations=${2:-15} rounds=${3:-5}
 prefixes=("${@:4}")

@@ -171,6 +171,9 @@ def try_crate(crate, edits, how):
 
 def main(words):
     how = next((it for it in words if it.startswith("--")), "")
+    if how not in ("", "--alone", "--explain"):
+        print(__doc__)
+        return 2
     wanted = [it for it in words if not it.startswith("--")]
     found = {}
     for crate in sorted(os.listdir("crates")):

@@ -7,9 +7,11 @@ mod channels;
 mod components;
 mod cursors;
 mod entries;
+mod jobs;
 mod joined;
 mod own_world;
 mod phases;
+mod placed;
 mod sets;
 mod typed;
 mod worlds;
@@ -25,12 +27,14 @@ pub use cursors::{
     first_taken, next_pair_has,
 };
 pub use entries::{ninety_at, taken, three_and_found};
+pub use jobs::{Again, Late, Spread, queue};
 pub use joined::{all_healed, all_points, counted, in_both, points_at, same_again, words_for_one};
 pub use own_world::{
     Frozen, Game, Leader, Load, Parts, Place, Speed, load_slot, loaded, moved_and_found, new_game,
     put_and_found,
 };
 pub use phases::{marked_at_closing, sees_its_own, two_births};
+pub use placed::all_overwritten;
 pub use sets::{
     added_and_found, first_is_member, none_to_walk, one, others_stay, removed_and_gone,
 };

@@ -78,10 +78,7 @@ pub fn load_slot() -> <Parts as Storages>::Slot
 }
 
 /// A command, with a type for a slot.
-pub fn loaded(
-    e: Entity,
-    load: Load,
-) -> Command<<Parts as Storages>::Slot, <Parts as Storages>::Value>
+pub fn loaded(e: Entity, load: Load) -> Command<Parts>
     ensures { result ≡ Insert e (Rest (First load)) }
 {
     Command::Insert(e, value::<_, Parts, _>(load))

@@ -6,17 +6,20 @@ ghost use Rattle.specs.specs.Reached.{OnlyLiving};
 ghost use Rattle.specs.specs.State.{state_of};
 
 use composed::Empty;
-use slots::{POS, Position, Slot, Slots, Value};
+use slots::{POS, Position, Slots};
 use specs::{
     Command, DeleteError, EntitiesRes, Entity, Refusal, Reply, Storages, World, component,
 };
 use std::alloc::{AllocError, Global};
 
 /// Whatever a new world is asked to do, each component belongs to a living entity.
-pub fn lived(alloc: Global, commands: Vec<Command<Slot, Value>>) -> Result<World<Slots>, AllocError>
-    ensures { IfOk result (λ world. OnlyLiving (state_of ⟦<Slots as Storages>⟧.table world)) }
+pub fn lived<S: Empty + Drop>(
+    alloc: Global,
+    commands: Vec<Command<S>>,
+) -> Result<World<S>, AllocError>
+    ensures { IfOk result (λ world. OnlyLiving (state_of S.table world)) }
 {
-    let mut world = World::new(alloc, Slots::empty());
+    let mut world = World::new(alloc, S::empty());
     let _replies = world.run(commands)?;
     Ok(world)
 }

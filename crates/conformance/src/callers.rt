@@ -18,7 +18,7 @@ pub fn is_gone(world: &World<Small>, e: Entity) -> bool
 /// whose birth is pending, if it was given one and the mark was made.
 pub fn born_in_a_phase(alloc: Global, world: &mut World<Small>, doomed: Entity) -> Option<Entity> {
     let mut given = None;
-    if let Ok((shared, mut passes)) = world.parts().entities.open(alloc, 1, 1) {
+    if let Ok((shared, mut passes)) = world.parts().core.parts().entities.open(alloc, 1, 1) {
         if let Some(mut pass) = passes.pop() {
             let born = shared.create(&mut pass).ok();
             if shared.delete(&mut pass, doomed).is_ok() {

@@ -7,6 +7,10 @@ mod composed_slots;
 #[cfg(test)]
 mod hostile_scripts;
 #[cfg(test)]
+mod job_scripts;
+#[cfg(test)]
+mod jobs;
+#[cfg(test)]
 mod runs;
 #[cfg(test)]
 mod scripts;

@@ -138,7 +138,7 @@ fn a_refused_component_comes_back_and_its_entity_is_marked(rt: HostRuntime) -> R
 
 #[test]
 fn a_type_without_a_storage_is_unregistered(rt: HostRuntime) {
-    let mut world = World::new(rt.alloc(), Slots::empty());
+    let mut world: World<Slots> = World::new(rt.alloc(), Slots::empty());
     assert!(rt; matches!(&world.read_storage::<Position, _>(), Err(Unregistered)));
     assert!(rt; matches!(&world.write_storage::<Position, _>(), Err(Unregistered)));
 }

@@ -1,5 +1,5 @@
 //! Tests of specs on mixed births and deaths, by their names there.
-use crate::small::{POS, Slot, Small, Value};
+use crate::small::{POS, Small};
 use composed::Empty;
 use slots::Position;
 use specs::{Command, Entity, Reply, SetExpr, World, component, value};
@@ -25,7 +25,7 @@ impl Nursery {
     }
 
     /// A birth, at once or pending. It answers whether the entity was never given before.
-    fn bear(&mut self, birth: Command<Slot, Value>) -> bool {
+    fn bear(&mut self, birth: Command<Small>) -> bool {
         match self.world.apply(birth) {
             Reply::Entity(e) => {
                 matches!(self.given.insert(e), Ok(true)) && self.living.push(e).is_ok()
@@ -70,7 +70,7 @@ impl Nursery {
     fn mark_all(&mut self) -> bool {
         let Nursery { world, living, .. } = self;
         for e in living.as_slice() {
-            if world.parts().entities.delete(*e).is_err() {
+            if world.parts().core.parts().entities.delete(*e).is_err() {
                 return false;
             }
         }
@@ -129,7 +129,7 @@ fn position(world: &mut World<Small>, e: Entity) -> Option<i64> {
 }
 
 /// A birth with a position. It answers whether nothing was refused.
-fn bear_at(world: &mut World<Small>, birth: Command<Slot, Value>, number: i64) -> bool {
+fn bear_at(world: &mut World<Small>, birth: Command<Small>, number: i64) -> bool {
     match world.apply(birth) {
         Reply::Entity(e) => {
             let insert = Command::Insert(e, value::<_, Small, _>(Position(number)));
@@ -161,7 +161,7 @@ fn lowest(alloc: Global, world: &mut World<Small>) -> Result<Vec<Entity>, Fail> 
 fn mark_last(world: &mut World<Small>, mut list: Vec<Entity>, count: u32) -> bool {
     for _ in 0..count {
         if let Some(e) = list.pop() {
-            if world.parts().entities.delete(e).is_err() {
+            if world.parts().core.parts().entities.delete(e).is_err() {
                 return false;
             }
         }

@@ -36,7 +36,7 @@ fn a_deleted_index_is_born_again(rt: HostRuntime) -> Result<(), Fail> {
 }
 
 /// Six commands, of which the last is refused.
-fn six(alloc: Global) -> Result<Vec<Command<Slot, Value>>, Fail> {
+fn six(alloc: Global) -> Result<Vec<Command<Small>>, Fail> {
     let e = entity(0, 1)?;
     Ok(vec![in alloc;
         Command::Register(POS),
@@ -69,7 +69,7 @@ fn a_run_answers_each_command(rt: HostRuntime) -> Result<(), Fail> {
 
 #[test]
 fn a_run_of_nothing_has_no_reply(rt: HostRuntime) {
-    let mut world = World::new(rt.alloc(), Small::empty());
+    let mut world: World<Small> = World::new(rt.alloc(), Small::empty());
     let replies = world.run(Vec::new(rt.alloc()));
     assert!(rt; matches!(&replies, Ok(list) if list.is_empty()));
 }
@@ -206,12 +206,26 @@ fn maintains(world: &mut World<Small>, dead: &[Entity]) -> bool {
 }
 
 fn ends_at_maintain<R: Abort>(rt: &R, world: &mut World<Small>) -> Result<(), Fail> {
-    let e = world.parts().entities.create().ok().ok_or("a birth")?;
+    let e = world
+        .parts()
+        .core
+        .parts()
+        .entities
+        .create()
+        .ok()
+        .ok_or("a birth")?;
     assert!(rt; world.entities().is_alive(e) && !world.is_alive(e));
-    assert_eq!(rt; world.parts().entities.delete(e), Ok(()));
+    assert_eq!(rt; world.parts().core.parts().entities.delete(e), Ok(()));
     assert!(rt; maintains(world, &[e]));
     assert!(rt; !world.entities().is_alive(e));
-    let again = world.parts().entities.create().ok().ok_or("a birth")?;
+    let again = world
+        .parts()
+        .core
+        .parts()
+        .entities
+        .create()
+        .ok()
+        .ok_or("a birth")?;
     assert_eq!(rt; again, entity(0, 2)?);
     assert!(rt; maintains(world, &[]));
     assert!(rt; world.is_alive(again));

@@ -1,3 +1,4 @@
 mod Cuts
 mod Each
 mod Replacing
+mod InPlace

@@ -1,6 +1,6 @@
 //! Change sets.
 use crate::cursor_walks::{no_more_than, subtract, subtract_all};
-use crate::worlds::{Health, empty};
+use crate::worlds::{Chosen, Health, World, comes_true, first_at};
 use entities::Entity;
 use joins::{ChangeError, ChangeSet};
 use std::alloc::{AllocError, Global};
@@ -47,56 +47,51 @@ fn changes(alloc: Global, list: &[(Entity, i32)]) -> Option<ChangeSet<i32>> {
     }
 }
 
-// The entity of an index that was born once.
-fn first_at(index: u32) -> Option<Entity> {
-    Entity::from_parts(index, 1)
-}
-
 // The changes of three healths: 32 of the first, and 12 and 13 of the second.
 fn three_changes(alloc: Global) -> Result<ChangeSet<i32>, Fail> {
-    let a = first_at(0).ok_or("no entity")?;
-    let b = first_at(1).ok_or("no entity")?;
+    let a = first_at(0)?;
+    let b = first_at(1)?;
     Ok(changes(alloc, [(a, 32), (b, 12), (b, 13)].as_slice()).ok_or("refused")?)
 }
 
 // The changes are subtracted, and stay.
-fn subtracts(alloc: Global, healths: &mut MaskedStorage<Health>) -> Result<bool, Fail> {
-    let set = three_changes(alloc)?;
-    let there = fill(healths);
-    subtract(healths, &set);
-    Ok(there && left(healths) == Some((68, 175, 300)) && set.mask().count() == 2)
+fn subtracts(world: &mut World<Health, Chosen>) -> Result<bool, Fail> {
+    let set = three_changes(world.alloc)?;
+    let there = fill(&mut world.first);
+    subtract(&mut world.first, &set);
+    Ok(there && left(&world.first) == Some((68, 175, 300)) && set.mask().count() == 2)
 }
 
 #[test]
 fn changes_are_subtracted_from_healths(rt: HostRuntime) -> Result<(), Fail> {
-    assert!(rt; subtracts(rt.alloc(), &mut empty(rt.alloc())?)?);
+    assert!(rt; comes_true(rt.alloc(), 0, subtracts)?);
     Ok(())
 }
 
 // The changes are subtracted, and given up.
-fn subtracts_all(alloc: Global, healths: &mut MaskedStorage<Health>) -> Result<bool, Fail> {
-    let there = fill(healths);
-    subtract_all(healths, three_changes(alloc)?);
-    Ok(there && left(healths) == Some((68, 175, 300)))
+fn subtracts_all(world: &mut World<Health, Chosen>) -> Result<bool, Fail> {
+    let there = fill(&mut world.first);
+    subtract_all(&mut world.first, three_changes(world.alloc)?);
+    Ok(there && left(&world.first) == Some((68, 175, 300)))
 }
 
 #[test]
 fn a_change_set_that_is_given_up_gives_its_changes(rt: HostRuntime) -> Result<(), Fail> {
-    assert!(rt; subtracts_all(rt.alloc(), &mut empty(rt.alloc())?)?);
+    assert!(rt; comes_true(rt.alloc(), 0, subtracts_all)?);
     Ok(())
 }
 
 // The changes by a cursor: of two the second is more than the health beside it.
-fn are_bounded(set: &mut ChangeSet<i32>, healths: &mut MaskedStorage<Health>) -> bool {
-    let there = healths.put(0, Health(100)).is_ok() && healths.put(1, Health(20)).is_ok();
-    no_more_than(set, healths);
-    there && set.get(0).copied() == Some(32) && set.get(1).copied() == Some(20)
+fn are_bounded(world: &mut World<Health, Chosen>) -> Result<bool, Fail> {
+    let mut set = three_changes(world.alloc)?;
+    let there = world.first.put(0, Health(100)).is_ok() && world.first.put(1, Health(20)).is_ok();
+    no_more_than(&mut set, &world.first);
+    Ok(there && set.get(0).copied() == Some(32) && set.get(1).copied() == Some(20))
 }
 
 #[test]
 fn a_cursor_lends_the_changes(rt: HostRuntime) -> Result<(), Fail> {
-    let mut set = three_changes(rt.alloc())?;
-    assert!(rt; are_bounded(&mut set, &mut empty(rt.alloc())?));
+    assert!(rt; comes_true(rt.alloc(), 0, are_bounded)?);
     Ok(())
 }
 
@@ -109,7 +104,7 @@ fn refuses_a_sum(set: &mut ChangeSet<i32>, e: Entity) -> bool {
 
 #[test]
 fn a_sum_that_does_not_fit_is_refused(rt: HostRuntime) -> Result<(), Fail> {
-    let e = first_at(7).ok_or("no entity")?;
+    let e = first_at(7)?;
     let mut set = ChangeSet::new(rt.alloc());
     assert!(rt; refuses_a_sum(&mut set, e));
     Ok(())
@@ -125,8 +120,8 @@ fn stops(alloc: Global, set: &mut ChangeSet<i32>, a: Entity, b: Entity) -> bool 
 
 #[test]
 fn what_came_before_a_refused_value_stays(rt: HostRuntime) -> Result<(), Fail> {
-    let a = first_at(0).ok_or("no entity")?;
-    let b = first_at(1).ok_or("no entity")?;
+    let a = first_at(0)?;
+    let b = first_at(1)?;
     let mut set = ChangeSet::new(rt.alloc());
     assert!(rt; stops(rt.alloc(), &mut set, a, b));
     assert!(rt; at(&set, a) == Some(2147483647) && at(&set, b) == Some(5));
@@ -145,7 +140,7 @@ fn looks_at_indices(set: &mut ChangeSet<i32>, old: Entity, new: Entity, far: Ent
 fn the_index_alone_counts(rt: HostRuntime) -> Result<(), Fail> {
     let old = Entity::from_parts(3, 1).ok_or("no entity")?;
     let new = Entity::from_parts(3, 2).ok_or("no entity")?;
-    let far = first_at(16777216).ok_or("no entity")?;
+    let far = first_at(16777216)?;
     let mut set = ChangeSet::new(rt.alloc());
     assert!(rt; looks_at_indices(&mut set, old, new, far));
     set.clear();

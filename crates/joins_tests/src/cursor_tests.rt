@@ -3,11 +3,12 @@ use crate::cursor_walks::{
     beside_one, counted, drained, drained_at, exchange, go_on, increase, raise_low, shown_and_lent,
     sum_of_entries,
 };
-use crate::worlds::{Chosen, Number, Place, Position, Velocity, World, empty, put_all};
+use crate::worlds::{
+    Chosen, Number, Place, Position, Velocity, World, comes_true, first_at, put_all,
+};
 use entities::Entity;
 use hibits::BitSetAll;
 use joins::{JoinIter, JoinLiving, JoinMut, Restrict, WriteJoin};
-use std::alloc::Global;
 use std::test::Fail;
 use storages::ComponentEvent::{Inserted, Modified, Removed};
 use storages::{
@@ -26,45 +27,49 @@ fn positions_of(
 }
 
 // Two positions of which one has a velocity go on.
-fn goes_on(world: &mut World<Position, Velocity>) -> bool {
+fn goes_on(world: &mut World<Position, Velocity>) -> Result<bool, Fail> {
     let there = put_all(&mut world.first, [0, 1].as_slice(), Position { x: 0, y: 0 })
         && put_all(&mut world.second, [0].as_slice(), Velocity { x: 5, y: 2 });
     go_on(&mut world.first, &world.second);
-    there
-        && positions_of(&world.first)
-            == (
-                Some(Position { x: 5, y: 2 }),
-                Some(Position { x: 0, y: 0 }),
-                None,
-            )
+    Ok(
+        there
+            && positions_of(&world.first)
+                == (
+                    Some(Position { x: 5, y: 2 }),
+                    Some(Position { x: 0, y: 0 }),
+                    None,
+                ),
+    )
 }
 
 #[test]
 fn positions_go_on_where_there_is_a_velocity(rt: HostRuntime) -> Result<(), Fail> {
-    let mut world = World::<Position, Velocity>::of(rt.alloc(), 2)?;
-    assert!(rt; goes_on(&mut world));
+    assert!(rt; comes_true(rt.alloc(), 2, goes_on)?);
     Ok(())
 }
 
 // Ten components, of which none stands beside its absence.
-fn is_never_absent<T: Component + Copy + Default + Drop>(storage: &mut MaskedStorage<T>) -> bool {
-    put_all(
-        storage,
+fn is_never_absent<T: Component + Copy + Default + Drop>(
+    world: &mut World<T, Chosen>,
+) -> Result<bool, Fail> {
+    let there = put_all(
+        &mut world.first,
         [0, 1, 2, 3, 4, 5, 6, 7, 8, 9].as_slice(),
         T::default(),
-    ) && counted(&*storage) == 10
-        && counted((&*storage, AntiStorage(storage.mask()))) == 0
+    );
+    let storage = &world.first;
+    Ok(there && counted(storage) == 10 && counted((storage, AntiStorage(storage.mask()))) == 0)
 }
 
 #[test]
 fn vec_test_anti(rt: HostRuntime) -> Result<(), Fail> {
-    assert!(rt; is_never_absent::<Position>(&mut empty(rt.alloc())?));
+    assert!(rt; comes_true(rt.alloc(), 0, is_never_absent::<Position>)?);
     Ok(())
 }
 
 #[test]
 fn default_vec_test_anti(rt: HostRuntime) -> Result<(), Fail> {
-    assert!(rt; is_never_absent::<Place>(&mut empty(rt.alloc())?));
+    assert!(rt; comes_true(rt.alloc(), 0, is_never_absent::<Place>)?);
     Ok(())
 }
 
@@ -74,29 +79,29 @@ fn three_there(positions: &mut MaskedStorage<Position>) -> bool {
 }
 
 // Of three positions one is taken, once.
-fn one_is_taken(alloc: Global, positions: &mut MaskedStorage<Position>) -> Result<bool, Fail> {
-    let there = three_there(positions);
-    let (list, once) = drained_at(alloc, positions, 2)?;
+fn one_is_taken(world: &mut World<Position, Velocity>) -> Result<bool, Fail> {
+    let there = three_there(&mut world.first);
+    let (list, once) = drained_at(world.alloc, &mut world.first, 2)?;
     Ok(
         there
             && once
             && list.as_slice() == [1, 2, 4].as_slice()
-            && positions.contains(1)
-            && !positions.contains(2)
-            && positions.contains(4),
+            && world.first.contains(1)
+            && !world.first.contains(2)
+            && world.first.contains(4),
     )
 }
 
 #[test]
 fn a_drain_takes_what_it_is_asked_for(rt: HostRuntime) -> Result<(), Fail> {
-    assert!(rt; one_is_taken(rt.alloc(), &mut empty(rt.alloc())?)?);
+    assert!(rt; comes_true(rt.alloc(), 0, one_is_taken)?);
     Ok(())
 }
 
 // Three positions are taken beside their entities.
-fn all_are_taken(alloc: Global, world: &mut World<Position, Velocity>) -> Result<bool, Fail> {
+fn all_are_taken(world: &mut World<Position, Velocity>) -> Result<bool, Fail> {
     let there = three_there(&mut world.first);
-    let list = drained(alloc, &mut world.first, &world.entities)?;
+    let list = drained(world.alloc, &mut world.first, &world.entities)?;
     Ok(there && are(&list, [(1, 1), (2, 1), (4, 1)].as_slice()) && counted(&world.first) == 0)
 }
 
@@ -111,8 +116,7 @@ fn are(list: &[Entity], wanted: &[(u32, i32)]) -> bool {
 
 #[test]
 fn basic_drain(rt: HostRuntime) -> Result<(), Fail> {
-    let mut world = World::<Position, Velocity>::of(rt.alloc(), 5)?;
-    assert!(rt; all_are_taken(rt.alloc(), &mut world)?);
+    assert!(rt; comes_true(rt.alloc(), 5, all_are_taken)?);
     Ok(())
 }
 
@@ -135,7 +139,7 @@ fn numbers_of(
 
 // Of four entities the last dies; all but the first are chosen, and the second has a number.
 fn chosen_are_there(world: &mut World<Number, Chosen>) -> Result<bool, Fail> {
-    let dead = World::<Number, Chosen>::entity(3)?;
+    let dead = first_at(3)?;
     Ok(
         world.entities.alloc_mut().kill(&[dead]).is_ok()
             && put_all(&mut world.first, [1].as_slice(), Number(8))
@@ -155,8 +159,7 @@ fn chosen_are_counted(world: &mut World<Number, Chosen>) -> Result<bool, Fail> {
 
 #[test]
 fn entries_are_those_of_the_living(rt: HostRuntime) -> Result<(), Fail> {
-    let mut world = World::<Number, Chosen>::of(rt.alloc(), 4)?;
-    assert!(rt; chosen_are_counted(&mut world)?);
+    assert!(rt; comes_true(rt.alloc(), 4, chosen_are_counted)?);
     Ok(())
 }
 
@@ -172,48 +175,42 @@ fn numbers_are_summed(world: &mut World<Number, Chosen>) -> Result<bool, Fail> {
 
 #[test]
 fn entries(rt: HostRuntime) -> Result<(), Fail> {
-    let mut world = World::<Number, Chosen>::of(rt.alloc(), 30)?;
-    assert!(rt; numbers_are_summed(&mut world)?);
+    assert!(rt; comes_true(rt.alloc(), 30, numbers_are_summed)?);
     Ok(())
 }
 
 // Three positions are shown, and lent the same.
-fn are_shown_and_lent(alloc: Global, world: &mut World<Position, Velocity>) -> Result<bool, Fail> {
+fn are_shown_and_lent(world: &mut World<Position, Velocity>) -> Result<bool, Fail> {
     let there = put_all(
         &mut world.first,
         [0, 3].as_slice(),
         Position { x: 10, y: 0 },
     ) && put_all(&mut world.first, [2].as_slice(), Position { x: 12, y: 0 });
-    let list = shown_and_lent(alloc, &world.entities, &mut world.first)?.ok_or("another")?;
+    let list = shown_and_lent(world.alloc, &world.entities, &mut world.first)?.ok_or("another")?;
     Ok(there && list.as_slice() == [10, 12, 10].as_slice())
 }
 
 #[test]
 fn restricted_storage(rt: HostRuntime) -> Result<(), Fail> {
-    let mut world = World::<Position, Velocity>::of(rt.alloc(), 4)?;
-    assert!(rt; are_shown_and_lent(rt.alloc(), &mut world)?);
+    assert!(rt; comes_true(rt.alloc(), 4, are_shown_and_lent)?);
     Ok(())
 }
 
 // What is shown of the entity of an index beside two positions.
-fn shown_beside(
-    alloc: Global,
-    world: &World<Position, Velocity>,
-    index: u32,
-) -> Result<Vec<(i32, i32)>, Fail> {
-    let one = World::<Position, Velocity>::entity(index)?;
-    Ok(beside_one(alloc, &world.entities, &world.first, one)?)
+fn shown_beside(world: &World<Position, Velocity>, index: u32) -> Result<Vec<(i32, i32)>, Fail> {
+    let one = first_at(index)?;
+    Ok(beside_one(world.alloc, &world.entities, &world.first, one)?)
 }
 
 // Another is shown where it has a position.
-fn others_are_shown(alloc: Global, world: &mut World<Position, Velocity>) -> Result<bool, Fail> {
+fn others_are_shown(world: &mut World<Position, Velocity>) -> Result<bool, Fail> {
     let there = put_all(
         &mut world.first,
         [0, 3].as_slice(),
         Position { x: 10, y: 0 },
     );
-    let some = shown_beside(alloc, world, 3)?;
-    let none = shown_beside(alloc, world, 1)?;
+    let some = shown_beside(world, 3)?;
+    let none = shown_beside(world, 1)?;
     Ok(
         there
             && some.as_slice() == [(10, 10), (10, 10)].as_slice()
@@ -223,16 +220,12 @@ fn others_are_shown(alloc: Global, world: &mut World<Position, Velocity>) -> Res
 
 #[test]
 fn a_restricted_storage_shows_others(rt: HostRuntime) -> Result<(), Fail> {
-    let mut world = World::<Position, Velocity>::of(rt.alloc(), 4)?;
-    assert!(rt; others_are_shown(rt.alloc(), &mut world)?);
+    assert!(rt; comes_true(rt.alloc(), 4, others_are_shown)?);
     Ok(())
 }
 
 // Of three positions and two velocities those of the third are exchanged.
-fn are_exchanged(
-    world: &mut World<Position, Velocity>,
-    chosen: &mut MaskedStorage<Chosen>,
-) -> bool {
+fn are_exchanged(world: &mut World<Position, Velocity>) -> Result<bool, Fail> {
     let there = put_all(
         &mut world.first,
         [0, 1, 2].as_slice(),
@@ -241,23 +234,24 @@ fn are_exchanged(
         &mut world.second,
         [0, 2].as_slice(),
         Velocity { x: 3, y: 4 },
-    ) && put_all(chosen, [1, 2].as_slice(), Chosen);
-    exchange(&mut world.first, &mut world.second, chosen);
-    there
-        && positions_of(&world.first)
-            == (
-                Some(Position { x: 1, y: 2 }),
-                Some(Position { x: 1, y: 2 }),
-                Some(Position { x: 3, y: 4 }),
-            )
-        && world.second.get(0).copied() == Some(Velocity { x: 3, y: 4 })
-        && world.second.get(2).copied() == Some(Velocity { x: 1, y: 2 })
+    ) && put_all(&mut world.chosen, [1, 2].as_slice(), Chosen);
+    exchange(&mut world.first, &mut world.second, &world.chosen);
+    Ok(
+        there
+            && positions_of(&world.first)
+                == (
+                    Some(Position { x: 1, y: 2 }),
+                    Some(Position { x: 1, y: 2 }),
+                    Some(Position { x: 3, y: 4 }),
+                )
+            && world.second.get(0).copied() == Some(Velocity { x: 3, y: 4 })
+            && world.second.get(2).copied() == Some(Velocity { x: 1, y: 2 }),
+    )
 }
 
 #[test]
 fn two_storages_are_exchanged(rt: HostRuntime) -> Result<(), Fail> {
-    let mut world = World::<Position, Velocity>::of(rt.alloc(), 3)?;
-    assert!(rt; are_exchanged(&mut world, &mut empty(rt.alloc())?));
+    assert!(rt; comes_true(rt.alloc(), 3, are_exchanged)?);
     Ok(())
 }
 
@@ -277,20 +271,21 @@ fn stands_nowhere(cursor: &mut WriteJoin<'_, Position, &MaskedStorage<Velocity>>
 }
 
 // A cursor over two, of which both have the second alone.
-fn lends_only_where_it_stands(world: &mut World<Position, Velocity>) -> bool {
-    put_all(&mut world.first, [0, 1].as_slice(), Position { x: 1, y: 2 })
-        && put_all(
-            &mut world.second,
-            [1, 2].as_slice(),
-            Velocity { x: 3, y: 4 },
-        )
-        && stands_nowhere(&mut world.first.join_mut(&world.second))
+fn lends_only_where_it_stands(world: &mut World<Position, Velocity>) -> Result<bool, Fail> {
+    Ok(
+        put_all(&mut world.first, [0, 1].as_slice(), Position { x: 1, y: 2 })
+            && put_all(
+                &mut world.second,
+                [1, 2].as_slice(),
+                Velocity { x: 3, y: 4 },
+            )
+            && stands_nowhere(&mut world.first.join_mut(&world.second)),
+    )
 }
 
 #[test]
 fn a_cursor_lends_nothing_where_it_does_not_stand(rt: HostRuntime) -> Result<(), Fail> {
-    let mut world = World::<Position, Velocity>::of(rt.alloc(), 3)?;
-    assert!(rt; lends_only_where_it_stands(&mut world));
+    assert!(rt; comes_true(rt.alloc(), 3, lends_only_where_it_stands)?);
     Ok(())
 }
 
@@ -310,18 +305,20 @@ fn three_numbers(numbers: &mut MaskedStorage<Number>) -> bool {
 }
 
 // The low ones of three numbers are raised, and told.
-fn low_ones_are_told(world: &mut World<Number, Chosen>) -> bool {
+fn low_ones_are_told(world: &mut World<Number, Chosen>) -> Result<bool, Fail> {
     let there = three_numbers(&mut world.first) && world.first.register_reader().is_ok();
     raise_low(&world.entities, &mut world.first, 5);
-    there
-        && reads(&mut world.first, [Modified(0), Modified(2)].as_slice())
-        && numbers_of(&world.first) == (Some(Number(2)), Some(Number(6)), Some(Number(3)), None)
+    Ok(
+        there
+            && reads(&mut world.first, [Modified(0), Modified(2)].as_slice())
+            && numbers_of(&world.first)
+                == (Some(Number(2)), Some(Number(6)), Some(Number(3)), None),
+    )
 }
 
 #[test]
 fn a_restricted_storage_tells_what_was_written(rt: HostRuntime) -> Result<(), Fail> {
-    let mut world = World::<Number, Chosen>::of(rt.alloc(), 4)?;
-    assert!(rt; low_ones_are_told(&mut world));
+    assert!(rt; comes_true(rt.alloc(), 4, low_ones_are_told)?);
     Ok(())
 }
 
@@ -352,8 +349,7 @@ fn all_are_told(world: &mut World<Number, Chosen>) -> Result<bool, Fail> {
 
 #[test]
 fn cursors_tell_their_events(rt: HostRuntime) -> Result<(), Fail> {
-    let mut world = World::<Number, Chosen>::of(rt.alloc(), 4)?;
-    assert!(rt; all_are_told(&mut world)?);
+    assert!(rt; comes_true(rt.alloc(), 4, all_are_told)?);
     Ok(())
 }
 
@@ -390,20 +386,21 @@ fn places_of_a_view(view: &mut WriteStorage<'_, Position>, one: Entity) -> bool 
 }
 
 // The cursors of a view of two positions, of which the second has a velocity.
-fn by_a_view(world: &mut World<Position, Velocity>, one: Entity) -> bool {
+fn by_a_view(world: &mut World<Position, Velocity>) -> Result<bool, Fail> {
+    let one = first_at(1)?;
     let there = put_all(&mut world.first, [0, 1].as_slice(), Position { x: 1, y: 1 })
         && put_all(&mut world.second, [1].as_slice(), Velocity { x: 3, y: 4 });
     let mut view = WriteStorage::new(&world.entities, &mut world.first);
-    there
-        && through_a_view(&mut view, &world.second)
-        && places_of_a_view(&mut view, one)
-        && view.get(one).copied() == Some(Position { x: 9, y: 9 })
+    Ok(
+        there
+            && through_a_view(&mut view, &world.second)
+            && places_of_a_view(&mut view, one)
+            && view.get(one).copied() == Some(Position { x: 9, y: 9 }),
+    )
 }
 
 #[test]
 fn cursors_of_views(rt: HostRuntime) -> Result<(), Fail> {
-    let one = World::<Position, Velocity>::entity(1)?;
-    let mut world = World::<Position, Velocity>::of(rt.alloc(), 2)?;
-    assert!(rt; by_a_view(&mut world, one));
+    assert!(rt; comes_true(rt.alloc(), 2, by_a_view)?);
     Ok(())
 }

@@ -1,12 +1,12 @@
 //! What a join gives at an entity, wherever its walk is.
-use entities::{EntitiesRes, Entity};
+use crate::worlds::{World, comes_true};
+use entities::Entity;
 use joins::Join;
-use std::alloc::Global;
 use std::test::Fail;
-use storages::{Component, DenseVecStorage, MaskedStorage, ReadStorage, TryDefault, VecStorage};
+use storages::{Component, DenseVecStorage, ReadStorage, VecStorage};
 
 // A small number.
-#[derive(Clone, Copy, PartialEq, Eq, Debug)]
+#[derive(Clone, Copy, PartialEq, Eq)]
 struct CompInt(i8);
 
 impl Component for CompInt {
@@ -14,7 +14,7 @@ impl Component for CompInt {
 }
 
 // A truth.
-#[derive(Clone, Copy, PartialEq, Eq, Debug)]
+#[derive(Clone, Copy, PartialEq, Eq)]
 struct CompBool(bool);
 
 impl Component for CompBool {
@@ -22,28 +22,14 @@ impl Component for CompBool {
 }
 
 // Entities, with numbers and truths.
-#[derive(Drop)]
-struct Values {
-    entities: EntitiesRes,
-    ints: MaskedStorage<CompInt>,
-    bools: MaskedStorage<CompBool>,
-}
-
-// None yet.
-fn nothing(alloc: Global) -> Result<Values, Fail> {
-    Ok(Values {
-        entities: EntitiesRes::new(alloc),
-        ints: MaskedStorage::new(alloc, VecStorage::try_default(alloc)?),
-        bools: MaskedStorage::new(alloc, DenseVecStorage::try_default(alloc)?),
-    })
-}
+type Values = World<CompInt, CompBool>;
 
 // A new entity with both.
 fn born(values: &mut Values, int: i8, truth: bool) -> Result<Entity, Fail> {
     let entity = values.entities.create().ok().ok_or("no entity")?;
     let id = entity.id();
-    if values.ints.put(id, CompInt(int)).is_err()
-        || values.bools.put(id, CompBool(truth)).is_err()
+    if values.first.put(id, CompInt(int)).is_err()
+        || values.second.put(id, CompBool(truth)).is_err()
     {
         return Err(Fail::new("refused"));
     }
@@ -52,7 +38,7 @@ fn born(values: &mut Values, int: i8, truth: bool) -> Result<Entity, Fail> {
 
 // What a join of both gives at an entity.
 fn at(values: &Values, entity: Entity) -> Option<(i8, bool)> {
-    match (&values.ints, &values.bools)
+    match (&values.first, &values.second)
         .join()
         .get(entity, &values.entities)
     {
@@ -63,7 +49,7 @@ fn at(values: &Values, entity: Entity) -> Option<(i8, bool)> {
 
 // What it gives at an index.
 fn at_index(values: &Values, index: u32) -> Option<(i8, bool)> {
-    match (&values.ints, &values.bools).join().get_unchecked(index) {
+    match (&values.first, &values.second).join().get_unchecked(index) {
         Some((int, truth)) => Some((int.0, truth.0)),
         None => None,
     }
@@ -71,7 +57,7 @@ fn at_index(values: &Values, index: u32) -> Option<(i8, bool)> {
 
 // What a walk gives first, and then at an entity, and then as the next.
 fn midway(values: &Values, entity: Entity) -> Option<(i8, i8, i8)> {
-    let mut walk = (&values.ints).join();
+    let mut walk = (&values.first).join();
     let first = walk.next()?.0;
     let there = walk.get(entity, &values.entities)?.0;
     let second = walk.next()?.0;
@@ -80,7 +66,7 @@ fn midway(values: &Values, entity: Entity) -> Option<(i8, i8, i8)> {
 
 // What a walk and its copy give next, after a step.
 fn both_next(values: &Values) -> Option<(i8, i8)> {
-    let mut walk = (&values.ints).join();
+    let mut walk = (&values.first).join();
     let _first = walk.next()?;
     let mut copy = walk.clone().ok()?;
     let here = walk.next()?.0;
@@ -96,7 +82,7 @@ fn first_living(values: &Values) -> Option<Entity> {
 fn given_by_generation(values: &mut Values) -> Result<bool, Fail> {
     let entity = born(values, 1, true)?;
     let found = first_living(values) == Some(entity) && at(values, entity) == Some((1, true));
-    let taken = values.bools.remove(entity.id()).is_ok() && at(values, entity).is_none();
+    let taken = values.second.remove(entity.id()).is_ok() && at(values, entity).is_none();
     let died = values.entities.alloc_mut().kill(&[entity]).is_ok();
     let next = born(values, 2, false)?;
     Ok(
@@ -112,8 +98,7 @@ fn given_by_generation(values: &mut Values) -> Result<bool, Fail> {
 
 #[test]
 fn getting_specific_entity_with_join(rt: HostRuntime) -> Result<(), Fail> {
-    let mut values = nothing(rt.alloc())?;
-    assert!(rt; given_by_generation(&mut values)?);
+    assert!(rt; comes_true(rt.alloc(), 0, given_by_generation)?);
     Ok(())
 }
 
@@ -126,14 +111,13 @@ fn looked_midway(values: &mut Values) -> Result<bool, Fail> {
 
 #[test]
 fn a_walk_goes_on_after_a_look(rt: HostRuntime) -> Result<(), Fail> {
-    let mut values = nothing(rt.alloc())?;
-    assert!(rt; looked_midway(&mut values)?);
+    assert!(rt; comes_true(rt.alloc(), 0, looked_midway)?);
     Ok(())
 }
 
 // How many words a walk over both has read after one step.
 fn reads_of(values: &Values) -> u64 {
-    let mut walk = (&values.ints, &values.bools).join();
+    let mut walk = (&values.first, &values.second).join();
     let _ = walk.next();
     walk.reads()
 }
@@ -143,7 +127,7 @@ fn two_have_both(values: &mut Values) -> Result<bool, Fail> {
     let _first = born(values, 1, false)?;
     let _second = born(values, 2, true)?;
     let third = born(values, 3, true)?;
-    let taken = values.bools.remove(third.id()).is_ok();
+    let taken = values.second.remove(third.id()).is_ok();
     Ok(
         taken
             && at_index(values, 0) == Some((1, false))
@@ -156,14 +140,13 @@ fn two_have_both(values: &mut Values) -> Result<bool, Fail> {
 
 #[test]
 fn join_two_components(rt: HostRuntime) -> Result<(), Fail> {
-    let mut values = nothing(rt.alloc())?;
-    assert!(rt; two_have_both(&mut values)?);
+    assert!(rt; comes_true(rt.alloc(), 0, two_have_both)?);
     Ok(())
 }
 
 // What a walk over the living and both gives first, and whether that is all.
 fn first_of_three(values: &Values) -> Option<(Entity, i8, bool, bool)> {
-    let mut walk = (&values.entities, &values.ints, &values.bools).join();
+    let mut walk = (&values.entities, &values.first, &values.second).join();
     let (entity, int, truth) = walk.next()?;
     Some((entity, int.0, truth.0, walk.next().is_none()))
 }
@@ -172,15 +155,14 @@ fn first_of_three(values: &Values) -> Option<(Entity, i8, bool, bool)> {
 fn joined_from_none_to_one(values: &mut Values) -> Result<bool, Fail> {
     let none = first_of_three(values).is_none();
     let first = born(values, 1, true)?;
-    let taken = values.bools.remove(first.id()).is_ok() && first_of_three(values).is_none();
+    let taken = values.second.remove(first.id()).is_ok() && first_of_three(values).is_none();
     let second = born(values, 2, false)?;
     Ok(none && taken && first_of_three(values) == Some((second, 2, false, true)))
 }
 
 #[test]
 fn a_join_gives_entities_beside_their_components(rt: HostRuntime) -> Result<(), Fail> {
-    let mut values = nothing(rt.alloc())?;
-    assert!(rt; joined_from_none_to_one(&mut values)?);
+    assert!(rt; comes_true(rt.alloc(), 0, joined_from_none_to_one)?);
     Ok(())
 }
 
@@ -189,13 +171,12 @@ fn beside_its_absence(values: &mut Values) -> Result<bool, Fail> {
     for _ in 0..10u32 {
         let _entity = born(values, 1, true)?;
     }
-    let view = ReadStorage::new(&values.entities, &values.ints);
+    let view = ReadStorage::new(&values.entities, &values.first);
     Ok((&view, !&view).join().next().is_none())
 }
 
 #[test]
 fn a_storage_and_its_absence_share_nothing(rt: HostRuntime) -> Result<(), Fail> {
-    let mut values = nothing(rt.alloc())?;
-    assert!(rt; beside_its_absence(&mut values)?);
+    assert!(rt; comes_true(rt.alloc(), 0, beside_its_absence)?);
     Ok(())
 }

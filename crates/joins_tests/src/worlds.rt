@@ -8,7 +8,7 @@ use storages::{
 };
 
 /// Where an entity is, or how fast it goes.
-#[derive(Clone, Copy, PartialEq, Eq, Debug, Default)]
+#[derive(Clone, Copy, PartialEq, Eq, Default)]
 pub struct Position {
     /// To the right.
     pub x: i32,
@@ -21,7 +21,7 @@ impl Component for Position {
 }
 
 /// How fast an entity goes.
-#[derive(Clone, Copy, PartialEq, Eq, Debug, Default)]
+#[derive(Clone, Copy, PartialEq, Eq, Default)]
 pub struct Velocity {
     /// To the right.
     pub x: i32,
@@ -34,7 +34,7 @@ impl Component for Velocity {
 }
 
 /// A number whose changes are told.
-#[derive(Clone, Copy, PartialEq, Eq, Debug, Default)]
+#[derive(Clone, Copy, PartialEq, Eq, Default)]
 pub struct Number(
     /// The number.
     pub u32,
@@ -45,7 +45,7 @@ impl Component for Number {
 }
 
 /// What an entity has left.
-#[derive(Clone, Copy, PartialEq, Eq, Debug, Default)]
+#[derive(Clone, Copy, PartialEq, Eq, Default)]
 pub struct Health(
     /// The points.
     pub i32,
@@ -56,7 +56,7 @@ impl Component for Health {
 }
 
 /// A place in a row.
-#[derive(Clone, Copy, PartialEq, Eq, Debug, Default)]
+#[derive(Clone, Copy, PartialEq, Eq, Default)]
 pub struct Place(
     /// The place.
     pub u32,
@@ -67,7 +67,7 @@ impl Component for Place {
 }
 
 /// What a chosen entity has.
-#[derive(Clone, Copy, PartialEq, Eq, Debug, Default)]
+#[derive(Clone, Copy, PartialEq, Eq, Default)]
 pub struct Chosen;
 
 impl NullComponent for Chosen {
@@ -81,39 +81,63 @@ impl Component for Chosen {
 }
 
 /// A storage without components.
-pub fn empty<T: Component>(alloc: Global) -> Result<MaskedStorage<T>, Fail> {
+fn empty<T: Component>(alloc: Global) -> Result<MaskedStorage<T>, Fail> {
     Ok(MaskedStorage::new(alloc, T::Storage::try_default(alloc)?))
 }
 
 /// Entities, and storages of two components.
 #[derive(Drop)]
 pub struct World<A: Component, B: Component> {
+    /// Where lists get their memory.
+    pub alloc: Global,
     /// The entities.
     pub entities: EntitiesRes,
     /// A storage.
     pub first: MaskedStorage<A>,
     /// Another.
     pub second: MaskedStorage<B>,
+    /// Those that are chosen.
+    pub chosen: MaskedStorage<Chosen>,
 }
 
-impl<A: Component, B: Component> World<A, B> {
+/// A world that a story can be told of.
+pub trait Told: Sized {
     /// So many living entities, from index 0 on, and no component.
-    pub fn of(alloc: Global, count: u32) -> Result<Self, Fail> {
+    fn with_entities(alloc: Global, count: u32) -> Result<Self, Fail>;
+}
+
+impl<A: Component, B: Component> Told for World<A, B> {
+    fn with_entities(alloc: Global, count: u32) -> Result<Self, Fail> {
         let mut entities = EntitiesRes::new(alloc);
         for _ in 0..count {
             entities.create().ok().ok_or("no entity")?;
         }
         Ok(World {
+            alloc,
             entities,
             first: empty(alloc)?,
             second: empty(alloc)?,
+            chosen: empty(alloc)?,
         })
     }
+}
 
-    /// The entity of an index that was born once.
-    pub fn entity(index: u32) -> Result<Entity, Fail> {
-        Ok(Entity::from_parts(index, 1).ok_or("no entity")?)
-    }
+/// Whether a story of a world of so many living entities, from index 0 on, comes true. The world is a local here alone, where its type is
+/// not known: a function that owns storages is slow to prove.
+pub fn comes_true<W: Told + Drop, F: FnOnce(&mut W) -> Result<bool, Fail>>(
+    alloc: Global,
+    count: u32,
+    story: F,
+) -> Result<bool, Fail>
+    requires { F.IsAlwaysCallable story }
+{
+    let mut world = W::with_entities(alloc, count)?;
+    story(&mut world)
+}
+
+/// The entity of an index that was born once.
+pub fn first_at(index: u32) -> Result<Entity, Fail> {
+    Ok(Entity::from_parts(index, 1).ok_or("no entity")?)
 }
 
 /// Puts a component at each of some indices, and says whether that succeeded.

@@ -6,6 +6,8 @@ mod components;
 #[cfg(test)]
 mod meeting_tests;
 #[cfg(test)]
+mod place_tests;
+#[cfg(test)]
 mod update_tests;
 #[cfg(test)]
 mod upstream_tests;

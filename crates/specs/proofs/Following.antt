@@ -16,7 +16,7 @@ use Rattle.storages.specs.Channel.{Channel}
 use Rattle.storages.specs.Tracking.{without_reader, switched}
 use Rattle.storages.specs.Unread.{unread_of, dropped}
 use Rattle.specs.specs.declared.command.Command.{Command}
-use Rattle.specs.specs.declared.command.Command.TheVariants.{Register, Create, CreatePending, Delete, DeleteAll, MarkDead, IsAlive as AskAlive, IsLiving as AskLiving, EntityAt, Insert, Get, Remove, Clear, Count as AskCount, Select, Maintain, Reader, Events, DropReader, Emit}
+use Rattle.specs.specs.declared.command.Command.TheVariants.{Register, Create, CreatePending, Delete, DeleteAll, MarkDead, IsAlive as AskAlive, IsLiving as AskLiving, EntityAt, Insert, Get, Remove, Clear, Count as AskCount, Select, Queue, Maintain, Reader, Events, DropReader, Emit}
 use Rattle.specs.specs.declared.command.Reply.{Reply}
 use Rattle.specs.specs.declared.command.Reply.TheVariants.{Done, Entity as Told, Bool as Yes, Value, Count, Indices, Maintained as Kept, Reader as NewReader, Events as Given, Refused, InsertRefused}
 use Rattle.specs.specs.Column.{Column, without_values}
@@ -24,10 +24,18 @@ use Rattle.specs.specs.Table.{Table, Becomes, Begins, Registers, Removes}
 use Rattle.specs.specs.Readers.{Rechannels, with_channel}
 use Rattle.specs.specs.People.{the_living}
 use Rattle.specs.specs.Reached.{OnlyLiving}
-use Rattle.specs.specs.State.{State, Step, Run}
+use Rattle.specs.specs.State.{State, OnTable, merged}
+use Rattle.specs.specs.Steps.{WorldState, CoreStep, Maintains, Step, Run}
+use Rattle.specs.specs.Table.{Inserts}
+use Rattle.specs.specs.declared.command.Maintained.{Maintained}
+use Rattle.specs.specs.declared.job.Job.{Job}
+use Rattle.specs.specs.declared.job.Job.TheVariants.{InsertAll, Own}
+use Rattle.specs.specs.Evolving.{Evolves, ValuesLive}
+use Rattle.specs.specs.Jobs.{RunsJobs}
+use Rattle.specs.proofs.Carrying.{carried, each_more}
+use Rattle.specs.proofs.Lasting.{grown, merged_kept, inserted_living, removed_living, living_step}
 use Rattle.specs.specs.Leading.{index_at, replay, is_named}
-use Rattle.specs.specs.Following.{values, unread, IsListening, IsFollowed, Advances, Follows, Replays, given_by, given, Throughout, IsQuiet, AreQuiet, Tells}
-use Rattle.specs.proofs.Living.{keeps_step}
+use Rattle.specs.specs.Following.{values, unread, IsListening, IsFollowed, Advances, Follows, Replays, given_by, given, Each, Throughout, JobSpares, AllSpare, Spared, IsWatched, IsQuiet, AreQuiet, Tells}
 use Rattle.specs.proofs.Leading.{leads_more, replay-append, or_false}
 use Rattle.specs.proofs.Telling.{unread_gone}
 use Rattle.specs.proofs.Advancing.{IsBelow, Keeps, stays, puts, takes, loses, empties, registers, drops, switches, reads}
@@ -95,55 +103,49 @@ module _ {K V : Type 0} (slot : K) (n : ℕ) (here : K → Bool) (tells : Tells 
   deaths : (es : List Entity) (old new : State K V) → new.table slot ≡ option_map (without_values es) (old.table slot) → IsListening n (old.table slot) → KeepsAt old.table new.table []
   deaths es old new is l = subst (λ (o : Option (Column V)). Keeps n (old.table slot) o []) (sym is) (loses n es (old.table slot) l)
 
-  pub keeps_following : (place : V → K) (allocates : K → Bool) (old : State K V) (c : Command K V) (r : Reply V) (new : State K V) → Step place allocates old c r new → IsQuiet slot n c → IsFollowed slot n old → Keeps n (old.table slot) (new.table slot) (given_by here n c r)
-  keeps_following place allocates old command (Refused r) new s q l = same_table old.table new.table (ap (λ (t : State K V). t.table) s.1) l
-  keeps_following place allocates old (Register slot') Done new s q l = starts slot' old.table new.table (old.table slot') refl s.table l
-  keeps_following place allocates old Create (Told e) new s q l = same_table old.table new.table s.table l
-  keeps_following place allocates old CreatePending (Told e) new s q l = same_table old.table new.table s.table l
-  keeps_following place allocates old (Delete es) Done new s q l = deaths es.items old new (s.table slot) l
-  keeps_following place allocates old DeleteAll Done new s q l = deaths (the_living old.people) old new (s.table slot) l
-  keeps_following place allocates old (MarkDead e) Done new s q l = same_table old.table new.table s.table l
-  keeps_following place allocates old (AskAlive e) (Yes b) new s q l = same_table old.table new.table (ap (λ (t : State K V). t.table) s.1) l
-  keeps_following place allocates old (AskLiving e) (Yes b) new s q l = same_table old.table new.table (ap (λ (t : State K V). t.table) s.1) l
-  keeps_following place allocates old (EntityAt i) (Told e) new s q l = same_table old.table new.table (ap (λ (t : State K V). t.table) s.1) l
-  keeps_following place allocates old (Insert e value) (Value before) new s q l = one_quiet (place value) old.table new.table s.table.column _ s.table.registered s.table.put l (λ same. puts n s.table.column (index_of e) value)
-  keeps_following place allocates old (Insert e value) (InsertRefused r back) new s q l = same_table old.table new.table (ap (λ (t : State K V). t.table) s.2) l
-  keeps_following place allocates old (Get k e) (Value found) new s q l = same_table old.table new.table (ap (λ (t : State K V). t.table) s.1) l
-  keeps_following place allocates old (Remove k e) (Value found) new s q l = removes old.people k e found old.table new.table s.table l
-  keeps_following place allocates old (Clear k) Done new s q l = one_quiet k old.table new.table s.table.column _ s.table.registered s.table.cleared l (λ same. empties n s.table.column)
-  keeps_following place allocates old (AskCount k) (Count m) new s q l = same_table old.table new.table (ap (λ (t : State K V). t.table) s.1) l
-  keeps_following place allocates old (Select x) (Indices is) new s q l = same_table old.table new.table (ap (λ (t : State K V). t.table) s.1) l
-  keeps_following place allocates old (Maintain limit) (Kept m) new s q l = deaths (the_marked old.people) old new (s.table slot) l
-  keeps_following place allocates old (Reader k) (NewReader m) new s q l = one_quiet k old.table new.table s.table.column _ s.table.registered s.table.becomes l (λ same. registers n s.table.column)
-  keeps_following place allocates old (Events k m) (Given es) new s q l = one_slot k old.table new.table s.table.column _ _ s.table.registered s.table.becomes l
+  pub keeps_following : {S J : Type 0} (spares : J → K → ℕ → Type 0) (place : V → K) (allocates : K → Bool) (old : State K V) (c : Command S J K V) (r : Reply V) (new : State K V) → CoreStep place allocates old c r new → IsQuiet spares slot n c → IsFollowed slot n old → Keeps n (old.table slot) (new.table slot) (given_by here n c r)
+  keeps_following spares place allocates old command (Refused r) new s q l = same_table old.table new.table (ap (λ (t : State K V). t.table) s.1) l
+  keeps_following spares place allocates old (Register slot') Done new s q l = starts slot' old.table new.table (old.table slot') refl s.table l
+  keeps_following spares place allocates old Create (Told e) new s q l = same_table old.table new.table s.table l
+  keeps_following spares place allocates old CreatePending (Told e) new s q l = same_table old.table new.table s.table l
+  keeps_following spares place allocates old (Delete es) Done new s q l = deaths es.items old new (s.table slot) l
+  keeps_following spares place allocates old DeleteAll Done new s q l = deaths (the_living old.people) old new (s.table slot) l
+  keeps_following spares place allocates old (MarkDead e) Done new s q l = same_table old.table new.table s.table l
+  keeps_following spares place allocates old (AskAlive e) (Yes b) new s q l = same_table old.table new.table (ap (λ (t : State K V). t.table) s.1) l
+  keeps_following spares place allocates old (AskLiving e) (Yes b) new s q l = same_table old.table new.table (ap (λ (t : State K V). t.table) s.1) l
+  keeps_following spares place allocates old (EntityAt i) (Told e) new s q l = same_table old.table new.table (ap (λ (t : State K V). t.table) s.1) l
+  keeps_following spares place allocates old (Insert e value) (Value before) new s q l = one_quiet (place value) old.table new.table s.table.column _ s.table.registered s.table.put l (λ same. puts n s.table.column (index_of e) value)
+  keeps_following spares place allocates old (Insert e value) (InsertRefused r back) new s q l = same_table old.table new.table (ap (λ (t : State K V). t.table) s.2) l
+  keeps_following spares place allocates old (Get k e) (Value found) new s q l = same_table old.table new.table (ap (λ (t : State K V). t.table) s.1) l
+  keeps_following spares place allocates old (Remove k e) (Value found) new s q l = removes old.people k e found old.table new.table s.table l
+  keeps_following spares place allocates old (Clear k) Done new s q l = one_quiet k old.table new.table s.table.column _ s.table.registered s.table.cleared l (λ same. empties n s.table.column)
+  keeps_following spares place allocates old (AskCount k) (Count m) new s q l = same_table old.table new.table (ap (λ (t : State K V). t.table) s.1) l
+  keeps_following spares place allocates old (Select x) (Indices is) new s q l = same_table old.table new.table (ap (λ (t : State K V). t.table) s.1) l
+  keeps_following spares place allocates old (Reader k) (NewReader m) new s q l = one_quiet k old.table new.table s.table.column _ s.table.registered s.table.becomes l (λ same. registers n s.table.column)
+  keeps_following spares place allocates old (Events k m) (Given es) new s q l = one_slot k old.table new.table s.table.column _ _ s.table.registered s.table.becomes l
       (λ same. rw ((tells k).1 same) (reads n s.table.column m es.items s.table.said))
       (λ other. rw (off k other) refl)
     where
       off : (k : K) → k ≢ slot → here k ≡ false
       off k other = elim (cases_Bool (here k)) [ inl on ↦ absurd (other ((tells k).0 on)) | inr f ↦ f ]
-  keeps_following place allocates old (DropReader k m) Done new s q l = one_quiet k old.table new.table s.table.column _ s.table.registered s.table.becomes l (λ same. drops n s.table.column m (q same))
-  keeps_following place allocates old (Emit k on) Done new s q l = one_quiet k old.table new.table s.table.column _ s.table.registered s.table.becomes l (λ same. switches n s.table.column on (q same))
-  keeps_following place allocates old command reply new s q l = absurd s
+  keeps_following spares place allocates old (DropReader k m) Done new s q l = one_quiet k old.table new.table s.table.column _ s.table.registered s.table.becomes l (λ same. drops n s.table.column m (q same))
+  keeps_following spares place allocates old (Emit k on) Done new s q l = one_quiet k old.table new.table s.table.column _ s.table.registered s.table.becomes l (λ same. switches n s.table.column on (q same))
+  keeps_following spares place allocates old command reply new s q l = absurd s
 
   -- the events are on after it, and the reader is registered, so it switched none off and dropped another
-  pub follows_step : (place : V → K) (allocates : K → Bool) (old : State K V) (c : Command K V) (r : Reply V) (new : State K V) → Step place allocates old c r new → OnlyLiving old → IsFollowed slot n old → IsFollowed slot n new → Follows slot n old new (given_by here n c r)
-  follows_step place allocates old command (Refused r) new s w l after = (same_table old.table new.table (ap (λ (t : State K V). t.table) s.1) l).advances (living_below slot old w)
-  follows_step place allocates old (DropReader k m) Done new s w l after = (keeps_following place allocates old (DropReader k m) Done new s (λ same own. dropped_is_gone k m s.table.column s.table.column.channel new.table (subst (λ (t : K). new.table t ≡ Some (with_channel s.table.column (without_reader m s.table.column.channel))) same s.table.becomes.here) own after) l).advances (living_below slot old w)
+  follows_step : {S J : Type 0} (spares : J → K → ℕ → Type 0) (place : V → K) (allocates : K → Bool) (old : State K V) (c : Command S J K V) (r : Reply V) (new : State K V) → CoreStep place allocates old c r new → OnlyLiving old → IsFollowed slot n old → IsFollowed slot n new → Follows slot n old new (given_by here n c r)
+  follows_step spares place allocates old command (Refused r) new s w l after = (same_table old.table new.table (ap (λ (t : State K V). t.table) s.1) l).advances (living_below slot old w)
+  follows_step spares place allocates old (DropReader k m) Done new s w l after = (keeps_following {S = ℕ} spares place allocates old (DropReader k m) Done new s (λ same own. dropped_is_gone k m s.table.column s.table.column.channel new.table (subst (λ (t : K). new.table t ≡ Some (with_channel s.table.column (without_reader m s.table.column.channel))) same s.table.becomes.here) own after) l).advances (living_below slot old w)
     where
       dropped_is_gone : (k : K) (m : ℕ) (c : Column V) (channel : Channel) (t : Table K V) → t slot ≡ Some (with_channel c (without_reader m channel)) → m ≡ n → IsListening n (t slot) → ⊥
       dropped_is_gone k m c channel t is own listens =
           let l : IsListening n (Some (with_channel c (without_reader m channel))) = subst (IsListening n) is listens in
           false≢true (subst (λ (o : Option (List ComponentEvent)). is_some o ≡ true) (subst (λ j. unread_of n (dropped j channel.readers) ≡ None) (sym own) (unread_gone n channel.readers)) l.1)
-  follows_step place allocates old (DropReader k m) reply new s w l after = absurd s
-  follows_step place allocates old (Emit k on) Done new s w l after = (keeps_following place allocates old (Emit k on) Done new s (λ same. (subst (IsListening n) (subst (λ (t : K). new.table t ≡ Some (with_channel s.table.column (switched on s.table.column.channel))) same s.table.becomes.here) after).0) l).advances (living_below slot old w)
-  follows_step place allocates old (Emit k on) reply new s w l after = absurd s
-  follows_step place allocates old c r new s w l after = (keeps_following place allocates old c r new s tt l).advances (living_below slot old w)
-
-  at_first : (place : V → K) (allocates : K → Bool) (cs : List (Command K V)) (rs : List (Reply V)) (old new : State K V) (run : Run place allocates old cs rs new) → Throughout place allocates (IsFollowed slot n) old cs rs new run → IsFollowed slot n old
-  at_first place allocates [] [] old new run t = t
-  at_first place allocates [] (r ∷ rs) old new run t = absurd t
-  at_first place allocates (c ∷ cs) [] old new run t = absurd t
-  at_first place allocates (c ∷ cs) (r ∷ rs) old new run t = t.0
+  follows_step spares place allocates old (DropReader k m) reply new s w l after = absurd s
+  follows_step spares place allocates old (Emit k on) Done new s w l after = (keeps_following {S = ℕ} spares place allocates old (Emit k on) Done new s (λ same. (subst (IsListening n) (subst (λ (t : K). new.table t ≡ Some (with_channel s.table.column (switched on s.table.column.channel))) same s.table.becomes.here) after).0) l).advances (living_below slot old w)
+  follows_step spares place allocates old (Emit k on) reply new s w l after = absurd s
+  follows_step spares place allocates old (Queue job) r new s w l after = absurd s
+  follows_step spares place allocates old c r new s w l after = (keeps_following spares place allocates old c r new s tt l).advances (living_below slot old w)
 
   -- what follows one part of a run and then the other follows both
   follows_more : (a b c : State K V) (g h : List ComponentEvent) → Follows slot n a b g → Follows slot n b c h → Follows slot n a c (g ++ h)
@@ -155,22 +157,91 @@ module _ {K V : Type 0} (slot : K) (n : ℕ) (here : K → Bool) (tells : Tells 
         ∙ ap (λ xs. xs ++ k.events) f.told ∙ append_assoc (unread a slot n) f.events k.events;
   }
 
-  pub follows_run : (place : V → K) (allocates : K → Bool) (cs : List (Command K V)) (rs : List (Reply V)) (old new : State K V) (run : Run place allocates old cs rs new) → Throughout place allocates (IsFollowed slot n) old cs rs new run → OnlyLiving old → Follows slot n old new (given here n cs rs)
-  follows_run place allocates [] [] old new run t w = (same_table old.table new.table (ap (λ (s : State K V). s.table) run) t).advances (living_below slot old w)
-  follows_run place allocates [] (r ∷ rs) old new run t w = absurd run
-  follows_run place allocates (c ∷ cs) [] old new run t w = absurd run
-  follows_run place allocates (c ∷ cs) (r ∷ rs) old new run t w =
-      let mid : State K V = run.0 in
-      follows_more old mid new (given_by here n c r) (given here n cs rs)
-      (follows_step place allocates old c r mid run.1 w t.0 (at_first place allocates cs rs mid new run.2 t.1))
-      (follows_run place allocates cs rs mid new run.2 t.1 (keeps_step place allocates old c r mid run.1 w))
+  -- what the insertion and the removal of a job leave the reader
+  inserted_keeps : (place : V → K) (old new : State K V) (e : Entity) (value : V) (before : Option V) → OnTable (λ t t'. Inserts place old.people t e value before t') old new → IsFollowed slot n old → KeepsAt old.table new.table []
+  inserted_keeps place old new e value before s l = keeps_following {S = ℕ} {J = ℕ} (λ _ _ _. Unit {0}) place (λ _. false) old (Insert e value) (Value before) new s tt l
 
-  pub followed_run : (place : V → K) (allocates : K → Bool) (cs : List (Command K V)) (rs : List (Reply V)) (old new : State K V) (run : Run place allocates old cs rs new) → AreQuiet slot n cs → IsFollowed slot n old → Throughout place allocates (IsFollowed slot n) old cs rs new run
-  followed_run place allocates [] [] old new run q l = l
-  followed_run place allocates [] (r ∷ rs) old new run q l = absurd run
-  followed_run place allocates (c ∷ cs) [] old new run q l = absurd run
-  followed_run place allocates (c ∷ cs) (r ∷ rs) old new run q l =
-      (l, followed_run place allocates cs rs run.0 new run.2 q.1 (keeps_following place allocates old c r run.0 run.1 q.0 l).listening)
+  removed_keeps : (place : V → K) (old new : State K V) (k : K) (e : Entity) (found : Option V) → OnTable (λ t t'. Removes old.people t k e found t') old new → IsFollowed slot n old → KeepsAt old.table new.table []
+  removed_keeps place old new k e found s l = keeps_following {S = ℕ} {J = ℕ} (λ _ _ _. Unit {0}) place (λ _. false) old (Remove k e) (Value found) new s tt l
+
+  -- a state in the middle of a run of jobs, to which what followed leads from the first one
+  record GoesOn (first s : State K V) : Type 0 where
+    living : OnlyLiving s
+    followed : IsFollowed slot n s
+    follows : Follows slot n first s []
+
+  goes_on : (first old new : State K V) → GoesOn first old → OnlyLiving new → KeepsAt old.table new.table [] → GoesOn first new
+  goes_on first old new h living k = record { living = living; followed = k.listening; follows = follows_more first old new [] [] h.follows (k.advances (living_below slot old h.living)) }
+
+  module _ {S J : Type 0} (place : V → K) (allocates : K → Bool) (does : J → State K V → List (Job S J K V) → State K V → Type 0) (spares : J → K → ℕ → Type 0)
+      (law : (j : J) (slot : K) (n : ℕ) (old new : State K V) (more : List (Job S J K V)) → does j old more new → spares j slot n → IsFollowed slot n old → Spared spares slot n old more new) where
+    -- jobs that spare a reader let it follow the slot
+    followed_jobs : (stopped : Bool) (limit count counted : ℕ) (old new : State K V) (jobs left : List (Job S J K V)) → RunsJobs place does stopped limit count counted old jobs new left → AllSpare spares slot n jobs → IsFollowed slot n old → IsFollowed slot n new × AllSpare spares slot n left
+    followed_jobs = carried place does (IsFollowed slot n) (JobSpares spares slot n)
+        (λ old new e value before s l. (inserted_keeps place old new e value before s l).listening)
+        (λ old new k e found s l. (removed_keeps place old new k e found s l).listening)
+        (λ j old new more q s l. ((law j slot n old new more s q l).followed, (law j slot n old new more s q l).added))
+        (λ pairs rest q. tt)
+
+    watched_step : (old : WorldState S J K V) (c : Command S J K V) (r : Reply V) (new : WorldState S J K V) → Step place allocates does old c r new → IsQuiet spares slot n c → IsWatched spares slot n old → IsWatched spares slot n new
+    watched_step old (Queue job) Done new s q h = record {
+      followed = subst (IsFollowed slot n) (sym s.core) h.followed;
+      spared = subst (AllSpare spares slot n) (sym s.jobs) (each_more (JobSpares spares slot n) old.jobs (job ∷ []) h.spared (q, tt));
+    }
+    watched_step old (Maintain limit) (Kept m) new s q h =
+        let after = followed_jobs m.stopped limit m.ran m.refused (merged old.core) new.core old.jobs new.jobs s.jobs h.spared (deaths (the_marked old.core.people) old.core (merged old.core) refl h.followed).listening in
+        record { followed = after.0; spared = after.1 }
+    watched_step old c r new s q h = record {
+      followed = (keeps_following spares place allocates old.core c r new.core s.core q h.followed).listening;
+      spared = subst (AllSpare spares slot n) (sym s.jobs) h.spared;
+    }
+
+    pub followed_run : (cs : List (Command S J K V)) (rs : List (Reply V)) (old new : WorldState S J K V) (run : Run place allocates does old cs rs new) → AreQuiet spares slot n cs → IsWatched spares slot n old → Throughout place allocates does (IsWatched spares slot n) old cs rs new run
+    followed_run [] [] old new run q h = h
+    followed_run [] (r ∷ rs) old new run q h = absurd run
+    followed_run (c ∷ cs) [] old new run q h = absurd run
+    followed_run (c ∷ cs) (r ∷ rs) old new run q h = (h, followed_run cs rs run.0 new run.2 q.1 (watched_step old c r run.0 run.1 q.0 h))
+
+    at_first : (cs : List (Command S J K V)) (rs : List (Reply V)) (old new : WorldState S J K V) (run : Run place allocates does old cs rs new) → Throughout place allocates does (IsWatched spares slot n) old cs rs new run → IsWatched spares slot n old
+    at_first [] [] old new run t = t
+    at_first [] (r ∷ rs) old new run t = absurd t
+    at_first (c ∷ cs) [] old new run t = absurd t
+    at_first (c ∷ cs) (r ∷ rs) old new run t = t.0
+
+    module _ (grows : (j : J) (old new : State K V) (more : List (Job S J K V)) → does j old more new → Evolves old.people new.people)
+        (lives_on : (j : J) (old new : State K V) (more : List (Job S J K V)) → does j old more new → OnlyLiving old → ValuesLive new) where
+      maintain_follows : (old new : WorldState S J K V) (limit : ℕ) (m : Maintained) → Maintains place does old limit m new → OnlyLiving old.core → IsWatched spares slot n old → Follows slot n old.core new.core []
+      maintain_follows old new limit m s w h =
+          let dying = deaths (the_marked old.core.people) old.core (merged old.core) refl h.followed in
+          (carried place does (GoesOn old.core) (JobSpares spares slot n)
+          (λ a b e value before s h. goes_on old.core a b h (inserted_living place a b e value before s h.living) (inserted_keeps place a b e value before s h.followed))
+          (λ a b k e found s h. goes_on old.core a b h (removed_living place a b k e found s h.living) (removed_keeps place a b k e found s h.followed))
+          (λ j a b more q s h. (own_goes_on old.core j a b more q s h, (law j slot n a b more s q h.followed).added))
+          (λ pairs rest q. tt)
+          m.stopped limit m.ran m.refused (merged old.core) new.core old.jobs new.jobs s.jobs h.spared
+          (record { living = merged_kept old.core w; followed = dying.listening; follows = dying.advances (living_below slot old.core w) })).0.follows
+        where
+          own_goes_on : (first : State K V) (j : J) (a b : State K V) (more : List (Job S J K V)) → spares j slot n → does j a more b → GoesOn first a → GoesOn first b
+          own_goes_on first j a b more q s h = record {
+            living = grown a b (grows j a b more s) h.living (lives_on j a b more s h.living);
+            followed = (law j slot n a b more s q h.followed).followed;
+            follows = follows_more first a b [] [] h.follows ((law j slot n a b more s q h.followed).follows h.living);
+          }
+
+      world_follows : (old : WorldState S J K V) (c : Command S J K V) (r : Reply V) (new : WorldState S J K V) → Step place allocates does old c r new → OnlyLiving old.core → IsWatched spares slot n old → IsWatched spares slot n new → Follows slot n old.core new.core (given_by here n c r)
+      world_follows old (Queue job) Done new s w h after = (same_table old.core.table new.core.table (ap (λ (t : State K V). t.table) s.core) h.followed).advances (living_below slot old.core w)
+      world_follows old (Maintain limit) (Kept m) new s w h after = maintain_follows old new limit m s w h
+      world_follows old c r new s w h after = follows_step spares place allocates old.core c r new.core s.core w h.followed after.followed
+
+      pub follows_run : (cs : List (Command S J K V)) (rs : List (Reply V)) (old new : WorldState S J K V) (run : Run place allocates does old cs rs new) → Throughout place allocates does (IsWatched spares slot n) old cs rs new run → OnlyLiving old.core → Follows slot n old.core new.core (given here n cs rs)
+      follows_run [] [] old new run t w = (same_table old.core.table new.core.table (ap (λ (s : WorldState S J K V). s.core.table) run) t.followed).advances (living_below slot old.core w)
+      follows_run [] (r ∷ rs) old new run t w = absurd run
+      follows_run (c ∷ cs) [] old new run t w = absurd run
+      follows_run (c ∷ cs) (r ∷ rs) old new run t w =
+          let mid : WorldState S J K V = run.0 in
+          follows_more old.core mid.core new.core (given_by here n c r) (given here n cs rs)
+          (world_follows old c r mid run.1 w t.0 (at_first cs rs mid new run.2 t.1))
+          (follows_run cs rs mid new run.2 t.1 (living_step place allocates does grows lives_on old c r mid run.1 w))
 
   pub replays : (old new : State K V) (given : List ComponentEvent) → Follows slot n old new given → Replays slot n old new given
   replays old new given f = record {

@@ -1,5 +1,5 @@
 -- What died stays dead.
-use Rattle.std.proofs.Common.{◌≡◌, ℕ, pos, ◌<◌, Bool, true, false, not, ◌&&◌, ◌||◌, ◌==◌, List, [], ◌∷◌, refl, sym, ap, ◌∙◌, subst, inl, inr, arith}
+use Rattle.std.proofs.Common.{◌≡◌, ℕ, zero, suc, pos, ◌<◌, Bool, true, false, not, ◌&&◌, ◌||◌, ◌==◌, List, [], ◌∷◌, refl, sym, ap, ◌∙◌, subst, inl, inr, arith}
 use Rattle.std.specs.Prelude.{◌⊎◌, nat_abs, slice_index_or}
 use Rattle.std.specs.List.{All}
 use Rattle.std.proofs.lemmas.Bool.{cases_eq, eq-eqb, ne_eqb, false≢true}
@@ -11,12 +11,14 @@ use Rattle.entities.specs.Population.{Population, IsAlive, index_of, lives, born
 use Rattle.entities.specs.Deaths.{has_index, all_dead}
 use Rattle.entities.specs.Merges.{merge, the_marked, living_entity}
 use Rattle.specs.specs.declared.command.Command.{Command}
-use Rattle.specs.specs.declared.command.Command.TheVariants.{Register, Create, CreatePending, Delete, DeleteAll, MarkDead, IsAlive as AskAlive, IsLiving as AskLiving, EntityAt, Insert, Get, Remove, Clear, Count as AskCount, Select, Maintain, Reader, Events, DropReader, Emit}
+use Rattle.specs.specs.declared.command.Command.TheVariants.{Register, Create, CreatePending, Delete, DeleteAll, MarkDead, IsAlive as AskAlive, IsLiving as AskLiving, EntityAt, Insert, Get, Remove, Clear, Count as AskCount, Select, Reader, Events, DropReader, Emit}
 use Rattle.specs.specs.declared.command.Reply.{Reply}
-use Rattle.specs.specs.declared.command.Reply.TheVariants.{Done, Entity as Told, Bool as Yes, Value, Count, Indices, Maintained as Kept, Reader as NewReader, Events as Given, Refused, InsertRefused}
+use Rattle.specs.specs.declared.command.Reply.TheVariants.{Done, Entity as Told, Bool as Yes, Value, Count, Indices, Reader as NewReader, Events as Given, Refused, InsertRefused}
+use Rattle.specs.specs.Evolving.{OnePeopleStep, PeopleSteps}
 use Rattle.specs.specs.Gone.{WasGiven, IsGone}
 use Rattle.specs.specs.People.{Deaths, the_living}
-use Rattle.specs.specs.State.{State, Step, Run}
+use Rattle.specs.specs.State.{State}
+use Rattle.specs.specs.Steps.{CoreStep}
 
 -- at each index there was a birth, or nobody lives who did not
 abbrev Grows : Population → Population → Type 0
@@ -69,8 +71,27 @@ merge_grows p j = inr (refl, first (lives p j) (p.marked j))
 same_grows : (p : Population) → Grows p p
 same_grows p j = inr (refl, λ h. h)
 
+grown_to : (p q r : Population) (e : Entity) → r ≡ q → Grows p q → IsGone p e → IsGone r e
+grown_to p q r e is grows was = subst (λ (x : Population). IsGone x e) (sym is) (gone_kept p q e grows was)
+
 by : {K V : Type 0} (old new : State K V) (e : Entity) (q : Population) → new.people ≡ q → Grows old.people q → IsGone old.people e → IsGone new.people e
-by old new e q is grows was = subst (λ (r : Population). IsGone r e) (sym is) (gone_kept old.people q e grows was)
+by old new e q is grows was = grown_to old.people q new.people e is grows was
+
+-- what a population's own steps leave
+one_step : (p q : Population) (e : Entity) → OnePeopleStep p q → IsGone p e → IsGone q e
+one_step p q e (inl s) = grown_to p (born p (index_of s.0)) q e s.1.born (born_grows p (index_of s.0))
+one_step p q e (inr (inl s)) = grown_to p (born_pending p (index_of s.0)) q e s.1.born (pending_grows p (index_of s.0))
+one_step p q e (inr (inr (inl s))) = grown_to p (all_dead s.0 p) q e s.1.dead (dead_grows s.0 p)
+one_step p q e (inr (inr (inr (inl s)))) = grown_to p (mark p (index_of s.0)) q e s.1.marked (same_grows p)
+one_step p q e (inr (inr (inr (inr is)))) = grown_to p (merge p) q e is (merge_grows p)
+
+pub gone_evolved : (n : ℕ) (p q : Population) (e : Entity) → PeopleSteps n p q → IsGone p e → IsGone q e
+gone_evolved zero p q e same was = subst (λ (r : Population). IsGone r e) (sym same) was
+gone_evolved (suc n) p q e s was = gone_evolved n s.0 q e s.2 (one_step p s.0 e s.1 was)
+
+-- what a merge leaves
+pub gone_after_merge : (p : Population) (e : Entity) → IsGone p e → IsGone (merge p) e
+gone_after_merge p e was = gone_kept p (merge p) e (merge_grows p) was
 
 unchanged : {K V : Type 0} (old new : State K V) (e : Entity) → new ≡ old → IsGone old.people e → IsGone new.people e
 unchanged old new e same was = subst (λ (r : State _ _). IsGone r.people e) (sym same) was
@@ -109,7 +130,7 @@ gone_merged p q is = rw is (All-map (IsGone (merge p)) (living_entity p) (left p
     gone (merge p) (living_entity p i) (record { number = p.births i; generation = refl; reached = omega arith })
     (λ a. unmarked (lives p i) (p.marked i) marked a.0)))
 
-keeps_step : {K V : Type 0} (place : V → K) (allocates : K → Bool) (old : State K V) (c : Command K V) (r : Reply V) (new : State K V) (e : Entity) → Step place allocates old c r new → IsGone old.people e → IsGone new.people e
+pub keeps_step : {S J K V : Type 0} (place : V → K) (allocates : K → Bool) (old : State K V) (c : Command S J K V) (r : Reply V) (new : State K V) (e : Entity) → CoreStep place allocates old c r new → IsGone old.people e → IsGone new.people e
 keeps_step place allocates old command (Refused r) new e s w = unchanged old new e s.1 w
 keeps_step place allocates old (Register slot) Done new e s w = by old new e old.people s.people (same_grows old.people) w
 keeps_step place allocates old Create (Told x) new e s w = by old new e _ s.people.born (born_grows old.people (index_of x)) w
@@ -127,15 +148,8 @@ keeps_step place allocates old (Remove slot x) (Value found) new e s w = by old 
 keeps_step place allocates old (Clear slot) Done new e s w = by old new e old.people s.people (same_grows old.people) w
 keeps_step place allocates old (AskCount slot) (Count n) new e s w = unchanged old new e s.1 w
 keeps_step place allocates old (Select x) (Indices is) new e s w = unchanged old new e s.1 w
-keeps_step place allocates old (Maintain limit) (Kept m) new e s w = by old new e _ s.people (merge_grows old.people) w
 keeps_step place allocates old (Reader slot) (NewReader n) new e s w = by old new e old.people s.people (same_grows old.people) w
 keeps_step place allocates old (Events slot n) (Given es) new e s w = by old new e old.people s.people (same_grows old.people) w
 keeps_step place allocates old (DropReader slot n) Done new e s w = by old new e old.people s.people (same_grows old.people) w
 keeps_step place allocates old (Emit slot on) Done new e s w = by old new e old.people s.people (same_grows old.people) w
 keeps_step place allocates old command reply new e s w = absurd s
-
-pub gone_run : {K V : Type 0} (place : V → K) (allocates : K → Bool) (cs : List (Command K V)) (rs : List (Reply V)) (old new : State K V) (e : Entity) → Run place allocates old cs rs new → IsGone old.people e → IsGone new.people e
-gone_run place allocates [] [] old new e run w = unchanged old new e run w
-gone_run place allocates [] (r ∷ rs) old new e run w = absurd run
-gone_run place allocates (c ∷ cs) [] old new e run w = absurd run
-gone_run place allocates (c ∷ cs) (r ∷ rs) old new e run w = gone_run place allocates cs rs run.0 new e run.2 (keeps_step place allocates old c r run.0 e run.1 w)

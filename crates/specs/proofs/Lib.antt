@@ -1,6 +1,9 @@
 mod Counting
+pub mod Inserted
+pub mod Further
+pub mod Carrying
+pub mod Lasting
 pub mod Runs
-pub mod Living
 pub mod Gone
 pub mod Values
 pub mod Shown

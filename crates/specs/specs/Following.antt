@@ -4,13 +4,22 @@ use Rattle.std.specs.Bool.{Decides}
 use Rattle.storages.specs.declared.event.ComponentEvent.{ComponentEvent}
 use Rattle.storages.specs.Unread.{unread_of}
 use Rattle.specs.specs.declared.command.Command.{Command}
-use Rattle.specs.specs.declared.command.Command.TheVariants.{Events, DropReader, Emit}
+use Rattle.specs.specs.declared.command.Command.TheVariants.{Queue, Events, DropReader, Emit}
 use Rattle.specs.specs.declared.command.Reply.{Reply}
 use Rattle.specs.specs.declared.command.Reply.TheVariants.{Events as Given}
 use Rattle.specs.specs.Maps.{Map, no_value, has_value}
 use Rattle.specs.specs.Column.{Column}
 use Rattle.specs.specs.Leading.{Leads, replay, is_named}
-use Rattle.specs.specs.State.{State, Run}
+use Rattle.specs.specs.declared.job.Job.{Job}
+use Rattle.specs.specs.declared.job.Job.TheVariants.{Own}
+use Rattle.specs.specs.Reached.{OnlyLiving}
+use Rattle.specs.specs.State.{State}
+use Rattle.specs.specs.Steps.{WorldState, Run}
+
+-- something holds of each of a list
+abbrev pub Each : {X : Type 0} → (X → Type 0) → List X → Type 0
+Each Q [] = Unit {0}
+Each Q (x ∷ xs) = Q x × Each Q xs
 
 -- the list, or nothing
 abbrev pub or_none : Option (List ComponentEvent) → List ComponentEvent
@@ -63,38 +72,61 @@ module _ {K V : Type 0} where
     pub mask : (set : ℕ → Bool) → ((i : ℕ) → replay (unread old slot n) set i ≡ has_value (values old slot) i) → (i : ℕ) → replay (given ++ unread new slot n) set i ≡ has_value (values new slot) i
     pub named : (i : ℕ) → is_named i (given ++ unread new slot n) ≡ false → values new slot i ≡ values old slot i
 
+module _ {S J K V : Type 0} where
   -- the events of a reply, where they are what the reader asked for; `here` tells the slot
-  abbrev pub if_asked : (K → Bool) → ℕ → Command K V → List ComponentEvent → List ComponentEvent
+  abbrev pub if_asked : (K → Bool) → ℕ → Command S J K V → List ComponentEvent → List ComponentEvent
   if_asked here n (Events slot m) es = cond (here slot && (m == n)) es []
   if_asked here n command es = []
 
   -- what one reply gives a reader
-  abbrev pub given_by : (K → Bool) → ℕ → Command K V → Reply V → List ComponentEvent
+  abbrev pub given_by : (K → Bool) → ℕ → Command S J K V → Reply V → List ComponentEvent
   given_by here n command (Given es) = if_asked here n command es.items
   given_by here n command reply = []
 
   -- what the replies give a reader
-  abbrev pub given : (K → Bool) → ℕ → List (Command K V) → List (Reply V) → List ComponentEvent
+  abbrev pub given : (K → Bool) → ℕ → List (Command S J K V) → List (Reply V) → List ComponentEvent
   given here n [] replies = []
   given here n (c ∷ cs) [] = []
   given here n (c ∷ cs) (r ∷ rs) = given_by here n c r ++ given here n cs rs
 
   -- something holds of each state of a run, the first and the last too
-  abbrev pub Throughout : (place : V → K) (allocates : K → Bool) (P : State K V → Type 0) (old : State K V) (cs : List (Command K V)) (rs : List (Reply V)) (new : State K V) → Run place allocates old cs rs new → Type 0
-  Throughout place allocates P old [] [] new run = P old
-  Throughout place allocates P old (c ∷ cs) (r ∷ rs) new run = P old × Throughout place allocates P run.0 cs rs new run.2
-  Throughout place allocates P old [] (r ∷ rs) new run = ⊥
-  Throughout place allocates P old (c ∷ cs) [] new run = ⊥
+  abbrev pub Throughout : (place : V → K) (allocates : K → Bool) (does : J → State K V → List (Job S J K V) → State K V → Type 0) (P : WorldState S J K V → Type 0) (old : WorldState S J K V) (cs : List (Command S J K V)) (rs : List (Reply V)) (new : WorldState S J K V) → Run place allocates does old cs rs new → Type 0
+  Throughout place allocates does P old [] [] new run = P old
+  Throughout place allocates does P old (c ∷ cs) (r ∷ rs) new run = P old × Throughout place allocates does P run.0 cs rs new run.2
+  Throughout place allocates does P old [] (r ∷ rs) new run = ⊥
+  Throughout place allocates does P old (c ∷ cs) [] new run = ⊥
 
-  -- the command neither ends the reader nor turns the slot's events off
-  abbrev pub IsQuiet : K → ℕ → Command K V → Type 0
-  IsQuiet slot n (DropReader s m) = s ≡ slot → m ≡ n → ⊥
-  IsQuiet slot n (Emit s on) = s ≡ slot → on ≡ true
-  IsQuiet slot n command = Unit {0}
+  -- A job that neither reads nor ends the reader, leaves the slot's events on, writes none by hand, and queues such jobs alone: each but one of
+  -- the user's, of which `spares` tells it.
+  abbrev pub JobSpares : (J → K → ℕ → Type 0) → K → ℕ → Job S J K V → Type 0
+  JobSpares spares slot n (Own j) = spares j slot n
+  JobSpares spares slot n job = Unit {0}
 
-  abbrev pub AreQuiet : K → ℕ → List (Command K V) → Type 0
-  AreQuiet slot n [] = Unit {0}
-  AreQuiet slot n (c ∷ cs) = IsQuiet slot n c × AreQuiet slot n cs
+  abbrev pub AllSpare : (J → K → ℕ → Type 0) → K → ℕ → List (Job S J K V) → Type 0
+  AllSpare spares slot n jobs = Each (JobSpares spares slot n) jobs
+
+  -- What a job that spares the reader of a slot leaves: events that lead from the values before to those after, which the reader has not read,
+  -- and a reader that follows the slot still. The further jobs spare it too.
+  pub record Spared (spares : J → K → ℕ → Type 0) (slot : K) (n : ℕ) (old : State K V) (more : List (Job S J K V)) (new : State K V) : Type 0 where
+    pub follows : OnlyLiving old → Follows slot n old new []
+    pub followed : IsFollowed slot n new
+    pub added : AllSpare spares slot n more
+
+  -- the reader follows the slot, and each job that waits spares it
+  pub record IsWatched (spares : J → K → ℕ → Type 0) (slot : K) (n : ℕ) (s : WorldState S J K V) : Type 0 where
+    pub followed : IsFollowed slot n s.core
+    pub spared : AllSpare spares slot n s.jobs
+
+  -- the command neither ends the reader nor turns the slot's events off, and a job that it queues spares the reader
+  abbrev pub IsQuiet : (J → K → ℕ → Type 0) → K → ℕ → Command S J K V → Type 0
+  IsQuiet spares slot n (DropReader s m) = s ≡ slot → m ≡ n → ⊥
+  IsQuiet spares slot n (Emit s on) = s ≡ slot → on ≡ true
+  IsQuiet spares slot n (Queue job) = JobSpares spares slot n job
+  IsQuiet spares slot n command = Unit {0}
+
+  abbrev pub AreQuiet : (J → K → ℕ → Type 0) → K → ℕ → List (Command S J K V) → Type 0
+  AreQuiet spares slot n [] = Unit {0}
+  AreQuiet spares slot n (c ∷ cs) = IsQuiet spares slot n c × AreQuiet spares slot n cs
 
 -- a test that holds of the slot alone
 abbrev pub Tells : {K : Type 0} → (K → Bool) → K → Type 0

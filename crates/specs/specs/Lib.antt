@@ -5,6 +5,10 @@ pub mod Table
 pub mod Sets
 pub mod People
 pub mod State
+pub mod Queue
+pub mod Evolving
+pub mod Jobs
+pub mod Steps
 pub mod Reached
 pub mod Gone
 pub mod Refused
@@ -19,3 +23,5 @@ pub mod Creating
 pub mod Dropping
 pub mod Leading
 pub mod Following
+pub mod Living
+pub mod Lawful

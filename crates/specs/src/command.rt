@@ -1,4 +1,7 @@
-//! Commands and their replies, over slots `K` and values `V`.
+//! Commands and their replies.
+use crate::job::Job;
+use crate::no_job::NoJob;
+use crate::slots::Storages;
 use entities::{Entity, Index, WrongGeneration};
 use storages::{ComponentEvent, ReaderId};
 
@@ -19,11 +22,11 @@ pub enum SetExpr<K> {
     Not(Box<SetExpr<K>>),
 }
 
-/// What a world is asked to do.
-#[derive(Debug, Drop)]
-pub enum Command<K, V> {
+/// What a world over the storages `S`, with jobs `J` of the user's, is asked to do.
+#[derive(Drop)]
+pub enum Command<S: Storages, J = NoJob> {
     /// Makes an empty storage for a slot that has none.
-    Register(K),
+    Register(S::Slot),
     /// A birth at once.
     Create,
     /// A birth that is pending until `Maintain`.
@@ -41,33 +44,35 @@ pub enum Command<K, V> {
     /// Asks for the entity of an index, as it is or as it would first be born.
     EntityAt(Index),
     /// Puts a value at an entity that is alive, in the value's slot.
-    Insert(Entity, V),
+    Insert(Entity, S::Value),
     /// Asks for a copy of the value of an entity in a slot.
-    Get(K, Entity),
+    Get(S::Slot, Entity),
     /// Takes the value of an entity out of a slot.
-    Remove(K, Entity),
+    Remove(S::Slot, Entity),
     /// Removes every value of a slot.
-    Clear(K),
+    Clear(S::Slot),
     /// Asks how many values a slot has.
-    Count(K),
+    Count(S::Slot),
     /// Asks for the ascending list of the members of a set.
-    Select(SetExpr<K>),
-    /// Takes up pending births, and lets the marked die with their components. At most so many queued jobs run.
+    Select(SetExpr<S::Slot>),
+    /// Queues a job, which the next `Maintain` does in its turn.
+    Queue(Job<S, J>),
+    /// Takes up pending births, lets the marked die with their components, and then does at most so many of the queued jobs.
     Maintain(u64),
     /// Registers a reader of a slot's events.
-    Reader(K),
+    Reader(S::Slot),
     /// Asks for the events of a slot that a reader has not read, which it has read then.
-    Events(K, ReaderId),
+    Events(S::Slot, ReaderId),
     /// Ends a reader of a slot's events.
-    DropReader(K, ReaderId),
+    DropReader(S::Slot, ReaderId),
     /// Turns the events of a slot on or off.
-    Emit(K, bool),
+    Emit(S::Slot, bool),
 }
 
 /// The answer to a command.
 #[derive(Debug, Drop)]
 pub enum Reply<V> {
-    /// A registration, a deletion, a mark, a clearing, the end of a reader or a switch of events was done.
+    /// A registration, a deletion, a mark, a clearing, the end of a reader or a switch of events was done, or a job was queued.
     Done,
     /// The entity that was born, or that an index has.
     Entity(Entity),

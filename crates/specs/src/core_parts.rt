@@ -1,12 +1,14 @@
 //! Entities and storages, below the queue of a world.
-ghost use Rattle.std.specs.Prelude.{◌≡◌, ◌∷◌, [], IsTrue, ◌↔◌, IfErr, OnOk, OnErr};
+ghost use Rattle.std.specs.Prelude.{◌≡◌, ◌∷◌, [], IsTrue, ◌↔◌, IfOk, IfErr, IsOk, OnOk, OnErr};
 ghost use Rattle.std.specs.Borrow.{sem};
 ghost use Rattle.std.specs.List.{All};
 ghost use Rattle.entities.specs.Census.{population};
 ghost use Rattle.entities.specs.Population.{no_one, IsMerged};
+ghost use Rattle.entities.specs.Merges.{the_marked};
 ghost use Rattle.specs.specs.Gone.{IsGone};
+ghost use Rattle.specs.specs.People.{NoneMarked};
 ghost use Rattle.specs.specs.Reached.{HasNoValue, IsNew, OnlyLiving};
-ghost use Rattle.specs.specs.State.{core_state, Deletes};
+ghost use Rattle.specs.specs.State.{core_state, Deletes, merged};
 ghost use Rattle.specs.specs.Refused.{DeleteIsRefused};
 ghost use Rattle.specs.specs.Lending.{LendsParts};
 ghost use Rattle.specs.specs.Table.{WantsMemory};
@@ -14,7 +16,7 @@ ghost use Rattle.specs.specs.Table.{WantsMemory};
 use crate::command::Refusal;
 use crate::slots::Storages;
 use entities::{EntitiesRes, Entity, WrongGeneration};
-use std::alloc::Global;
+use std::alloc::{AllocError, Global};
 
 /// Why a list of entities was not deleted. Nothing changed.
 #[derive(Clone, Copy, Debug, PartialEq, Eq)]
@@ -56,7 +58,7 @@ pub struct Core<S> {
 
 impl<S: Storages> Core<S> {
     /// A core without entities, over storages that are empty or not registered.
-    #[tactic(auto, using(crate::proofs::Living::begins))]
+    #[tactic(auto, using(crate::specs::Living::begins))]
     pub fn new(alloc: Global, storages: S) -> Self
         ensures people { (core_state S.table result).people ≡ no_one }
         ensures table { (core_state S.table result).table ≡ S.table storages }
@@ -123,6 +125,23 @@ impl<S: Storages> Core<S> {
             }
             Err(wrong) => Err(DeleteError::WrongGeneration(wrong)),
         }
+    }
+
+    // Takes up pending births, and lets the marked die with their components. All room is got before anything changes.
+    pub(crate) fn merge(&mut self) -> Result<Vec<Entity>, AllocError>
+        ensures dead { IfOk result (λ dead. dead.items ≡ the_marked (core_state S.table self.old).people) }
+        ensures gone { IfOk result (λ dead. All (IsGone (core_state S.table self.new).people) dead.items) }
+        ensures merged { OnOk result (core_state S.table self.new ≡ merged (core_state S.table self.old)) }
+        ensures idle { NoneMarked (core_state S.table self.old).people → IsOk result }
+        ensures err { OnErr result (core_state S.table self.new ≡ core_state S.table self.old) }
+    {
+        let alloc = self.alloc;
+        self.parts
+            .storages
+            .reserve_drop(self.parts.entities.marked().count())?;
+        let dead = self.parts.entities.alloc_mut().merge(alloc)?;
+        self.parts.storages.drop_all(dead.as_slice());
+        Ok(dead)
     }
 
     // Why a list is not deleted that has no room: it is tested first.

@@ -8,11 +8,10 @@ ghost use Rattle.entities.specs.Population.{lives};
 ghost use Rattle.specs.specs.Gone.{IsGone};
 ghost use Rattle.specs.specs.People.{NobodyLives, the_living};
 ghost use Rattle.specs.specs.Reached.{OnlyLiving};
-ghost use Rattle.specs.specs.State.{core_state, state_of, Deletes};
+ghost use Rattle.specs.specs.State.{core_state, Deletes};
 
 use crate::core_parts::{Core, Parts};
 use crate::slots::Storages;
-use crate::world::World;
 use entities::{EntitiesRes, Entity};
 use hibits::{Layers, Walk};
 use std::alloc::{AllocError, Global};
@@ -65,18 +64,4 @@ fn list_of<M: Layers>(
         list.push(entities.entity(i))?;
     }
     Ok(list)
-}
-
-impl<S: Storages> World<S> {
-    /// The death at once of every living entity, pending births among them, with their components. It takes memory for the list of them, and
-    /// for events. Ports `WorldExt::delete_all`.
-    pub fn delete_all(&mut self) -> Result<(), AllocError>
-        ensures ok { OnOk result (Deletes (the_living (state_of S.table self.old).people) (state_of S.table self.old) (state_of S.table self.new)) }
-        ensures nobody { OnOk result (OnlyLiving (state_of S.table self.old) → NobodyLives (state_of S.table self.new).people) }
-        ensures gone { OnOk result (All (IsGone (state_of S.table self.new).people) (the_living (state_of S.table self.old).people)) }
-        ensures idle { NobodyLives (state_of S.table self.old).people → IsOk result }
-        ensures err { OnErr result (state_of S.table self.new ≡ state_of S.table self.old) }
-    {
-        self.core.delete_all()
-    }
 }

@@ -13,12 +13,16 @@ mod duplicate;
 mod everyone;
 pub mod field;
 mod has;
+mod job;
 mod laws;
+mod no_job;
+mod running;
 mod selection;
 mod slots;
 mod typed;
 mod world;
 mod world_deref;
+mod world_job;
 mod writing;
 
 pub use builder::{Builder, EntityBuilder};
@@ -30,9 +34,12 @@ pub use entities::{
     Allocator, CreateError, EntitiesRes, Entity, Error, Generation, Index, WrongGeneration,
 };
 pub use has::{Field, Has, component, slot, value};
+pub use job::{Job, JobList, LazyUpdate};
 pub use laws::{events_lead, only_living, quiet_runs, stays_dead};
+pub use no_job::NoJob;
 pub use slots::Storages;
 pub use storages::{ComponentEvent, ReaderId};
 pub use typed::Unregistered;
-pub use world::World;
+pub use world::{World, WorldParts};
+pub use world_job::WorldJob;
 pub use writing::Writing;

@@ -1,137 +1,123 @@
 //! The world.
-ghost use Rattle.std.specs.Prelude.{◌≡◌, ℕ, ◌∷◌, [], IsTrue, ◌↔◌, IfOk, IfErr, IsOk, OnOk, OnErr};
+ghost use Rattle.std.specs.Prelude.{◌≡◌, ℕ, [], ◌++◌, IfOk, IsOk, OnErr, length};
 ghost use Rattle.std.specs.Borrow.{sem};
 ghost use Rattle.std.specs.List.{All};
-ghost use Rattle.entities.specs.Census.{population};
 ghost use Rattle.entities.specs.declared.entity.Entity.{Entity as AnEntity};
-ghost use Rattle.entities.specs.Population.{no_one, IsMerged};
-ghost use Rattle.specs.specs.Following.{AreQuiet, IsFollowed, Follows, given};
+ghost use Rattle.entities.specs.Population.{no_one};
+ghost use Rattle.specs.specs.Following.{AreQuiet, AllSpare, IsFollowed, Follows, given};
 ghost use Rattle.specs.specs.Gone.{IsGone};
+ghost use Rattle.specs.specs.Lending.{LendsWorldParts};
 ghost use Rattle.specs.specs.People.{NoneMarked};
 ghost use Rattle.specs.specs.Reached.{HasNoValue, IsNew, OnlyLiving};
-ghost use Rattle.specs.specs.Sets.{SelectIsRefused};
-ghost use Rattle.specs.specs.State.{state_of, Deletes, Maintains, Selects, Run};
-ghost use Rattle.specs.specs.Refused.{DeleteIsRefused};
-ghost use Rattle.specs.specs.Lending.{LendsWorldParts};
+ghost use Rattle.specs.specs.State.{state_of};
+ghost use Rattle.specs.specs.Steps.{world_state, Maintains, Run};
 
-use crate::command::{Command, Maintained, Refusal, Reply, SetExpr};
-use crate::core_parts::{Core, DeleteError, Parts};
+use crate::command::{Command, Maintained, Reply};
+use crate::core_parts::Core;
+use crate::job::{Job, LazyUpdate};
+use crate::no_job::NoJob;
+use crate::running::run_jobs;
 use crate::slots::Storages;
-use entities::{EntitiesRes, Entity};
-use hibits::Index;
+use crate::world_job::WorldJob;
 use std::alloc::{AllocError, Global};
 
-/// Entities and their components. Ports `specs::World` with `specs::WorldExt`.
+/// What a world lends: its entities with their components, and its queue of jobs.
 #[derive(Drop)]
-pub struct World<S> {
-    pub(crate) core: Core<S>,
+pub struct WorldParts<S: Storages, J = NoJob> {
+    /// Entities and storages.
+    pub core: Core<S>,
+    /// The queue.
+    pub lazy: LazyUpdate<S, J>,
 }
 
-impl<S: Storages> World<S> {
-    /// A world without entities, over storages that are empty or not registered.
+/// Entities, their components, and jobs that wait, those of the user's of type `J`. Ports `specs::World` with `specs::WorldExt`.
+#[derive(Drop)]
+pub struct World<S: Storages, J = NoJob> {
+    pub(crate) parts: WorldParts<S, J>,
+    // A job that found no memory, which goes before the queue.
+    pub(crate) kept: Option<Job<S, J>>,
+}
+
+impl<S: Storages, J: WorldJob<S>> World<S, J> {
+    /// A world without entities and jobs, over storages that are empty or not registered.
     pub fn new(alloc: Global, storages: S) -> Self
         ensures people { (state_of S.table result).people ≡ no_one }
         ensures table { (state_of S.table result).table ≡ S.table storages }
+        ensures jobs { (world_state S.table result).jobs ≡ [] }
         ensures begins { HasNoValue (S.table storages) → IsNew (state_of S.table result) }
         ensures living { HasNoValue (S.table storages) → OnlyLiving (state_of S.table result) }
     {
         World {
-            core: Core::new(alloc, storages),
+            parts: WorldParts {
+                core: Core::new(alloc, storages),
+                lazy: LazyUpdate::new(alloc),
+            },
+            kept: None,
         }
     }
 
-    /// The entities.
-    pub fn entities(&self) -> &EntitiesRes
-        ensures { population result.now ≡ (state_of S.table self.now).people }
+    /// Both parts, to change them: `let WorldParts { core, lazy } = world.parts();` lends each.
+    pub fn parts(&mut self) -> &mut WorldParts<S, J>
+        ensures* lends { sem 𝓛 (LendsWorldParts S.row J.row S.Slot.row S.Value.row self.entry result) }
+        ensures value { result.now ≡ self.old.parts }
     {
-        self.core.entities()
+        &mut self.parts
     }
 
-    /// Both parts, to change them: `let Parts { entities, storages } = world.parts();` lends each.
-    pub fn parts(&mut self) -> &mut Parts<S>
-        ensures* lends { sem 𝓛 (LendsWorldParts S.row self.entry result) }
-        ensures value { result.now ≡ self.old.core.parts }
-    {
-        self.core.parts()
-    }
-
-    /// Whether the entity is alive and not pending. Ports `World::is_alive`.
-    pub fn is_alive(&self, e: Entity) -> bool
-        ensures { IsTrue result ↔ IsMerged (state_of S.table self.now).people e }
-    {
-        self.core.is_alive(e)
-    }
-
-    /// The death at once of an entity, with its components. Ports `WorldExt::delete_entity`.
-    pub fn delete_entity(&mut self, e: Entity) -> Result<(), DeleteError>
-        ensures ok { OnOk result (Deletes (e ∷ []) (state_of S.table self.old) (state_of S.table self.new)) }
-        ensures gone { OnOk result (IsGone (state_of S.table self.new).people e) }
-        ensures refused { IfErr result (DeleteIsRefused (state_of S.table self.old) (e ∷ [])) }
-        ensures err { OnErr result (state_of S.table self.new ≡ state_of S.table self.old) }
-    {
-        self.core.delete_entity(e)
-    }
-
-    /// The death at once of a list of entities, with their components. The whole list is tested first. It takes time near linear in the
-    /// list, and memory for events alone. Ports `WorldExt::delete_entities`.
-    pub fn delete_entities(&mut self, list: &[Entity]) -> Result<(), DeleteError>
-        ensures ok { OnOk result (Deletes list.now (state_of S.table self.old) (state_of S.table self.new)) }
-        ensures gone { OnOk result (All (IsGone (state_of S.table self.new).people) list.now) }
-        ensures refused { IfErr result (DeleteIsRefused (state_of S.table self.old) list.now) }
-        ensures err { OnErr result (state_of S.table self.new ≡ state_of S.table self.old) }
-    {
-        self.core.delete_entities(list)
-    }
-
-    /// Takes up pending births, and lets the marked die with their components. It takes memory for the list of the dead, and for events. The limit is of
-    /// jobs to be done, of which there are none yet. Ports `WorldExt::maintain`.
-    pub fn maintain(&mut self, _limit: u64) -> Result<Maintained, AllocError>
-        ensures ok { IfOk result (λ m. Maintains (state_of S.table self.old) m (state_of S.table self.new)) }
+    /// Takes up pending births, lets the marked die with their components, and then does jobs in order while fewer than `limit` were done;
+    /// those that jobs queue come last. It takes memory for the list of the dead, for events, and for what the jobs do. A refused call did
+    /// nothing. A job that finds no memory ends the run and stays the first. Ports `WorldExt::maintain`.
+    pub fn maintain(&mut self, limit: u64) -> Result<Maintained, AllocError>
+        ensures ok { IfOk result (λ m. Maintains S.place J.does (world_state S.table self.old) limit m (world_state S.table self.new)) }
         ensures gone { IfOk result (λ m. All (IsGone (state_of S.table self.new).people) m.deleted.items) }
         ensures idle { NoneMarked (state_of S.table self.old).people → IsOk result }
-        ensures err { OnErr result (state_of S.table self.new ≡ state_of S.table self.old) }
+        ensures err { OnErr result (world_state S.table self.new ≡ world_state S.table self.old) }
     {
-        let alloc = self.core.alloc;
-        self.core
-            .parts
-            .storages
-            .reserve_drop(self.core.parts.entities.marked().count())?;
-        let deleted = self.core.parts.entities.alloc_mut().merge(alloc)?;
-        self.core.parts.storages.drop_all(deleted.as_slice());
+        let deleted = self.parts.core.merge()?;
+        let ending = run_jobs(
+            &mut self.parts.core,
+            &mut self.kept,
+            &mut self.parts.lazy,
+            limit,
+        );
         Ok(Maintained {
             deleted,
-            ran: 0,
-            refused: 0,
-            left: 0,
-            stopped: false,
+            ran: ending.ran,
+            refused: ending.refused,
+            left: self.waiting(),
+            stopped: ending.stopped,
         })
     }
 
-    /// The ascending list of the members of a set, or `Unregistered` where it names a slot without a storage.
-    pub fn select(&self, set: &SetExpr<S::Slot>) -> Result<Vec<Index>, Refusal>
-        ensures ok { IfOk result (λ indices. Selects (state_of S.table self.now) set.now indices.items) }
-        ensures refused { IfErr result (SelectIsRefused (state_of S.table self.now).table set.now) }
+    /// How many jobs wait.
+    pub fn waiting(&self) -> usize
+        ensures { result ≡ length (world_state S.table self.now).jobs }
     {
-        self.core.select(set)
+        let queued = self.parts.lazy.count();
+        if self.kept.is_some() {
+            queued + 1
+        } else {
+            queued
+        }
     }
 
     /// Does commands in order, with room for all replies got first. Where that room was refused, nothing was done.
-    pub fn run(
-        &mut self,
-        commands: Vec<Command<S::Slot, S::Value>>,
-    ) -> Result<Vec<Reply<S::Value>>, AllocError>
-        ensures run { IfOk result (λ replies. Run S.place S.allocates (state_of S.table self.old) commands.items replies.items (state_of S.table self.new)) }
-        ensures err { OnErr result (state_of S.table self.new ≡ state_of S.table self.old) }
+    pub fn run(&mut self, commands: Vec<Command<S, J>>) -> Result<Vec<Reply<S::Value>>, AllocError>
+        ensures run { IfOk result (λ replies. Run S.place S.allocates J.does (world_state S.table self.old) commands.items replies.items (world_state S.table self.new)) }
+        ensures err { OnErr result (world_state S.table self.new ≡ world_state S.table self.old) }
 
         // The laws of runs, as this run kept them.
         ensures living { OnlyLiving (state_of S.table self.old) → OnlyLiving (state_of S.table self.new) }
         ensures gone { (e : AnEntity) → IsGone (state_of S.table self.old).people e → IsGone (state_of S.table self.new).people e }
-        ensures events { IfOk result (λ replies. (slot : S.Slot) (n : ℕ) → AreQuiet slot n commands.items → OnlyLiving (state_of S.table self.old) → IsFollowed slot n (state_of S.table self.old) → Follows slot n (state_of S.table self.old) (state_of S.table self.new) (given (λ s. S.Slot.eq s slot) n commands.items replies.items)) }
+        ensures events { IfOk result (λ replies. (slot : S.Slot) (n : ℕ) → AreQuiet J.spares slot n commands.items → AllSpare J.spares slot n (world_state S.table self.old).jobs → OnlyLiving (state_of S.table self.old) → IsFollowed slot n (state_of S.table self.old) → Follows slot n (state_of S.table self.old) (state_of S.table self.new) (given (λ s. S.Slot.eq s slot) n commands.items replies.items)) }
     {
-        let mut replies = Vec::with_capacity(self.core.alloc, commands.len())?;
+        let mut replies = Vec::with_capacity(self.parts.core.alloc, commands.len())?;
         for command in commands {
             let reply = self.apply(command);
-            let _ = replies.push(reply);
+            match replies.push(reply) {
+                Ok(()) => {}
+                Err(_) => unreachable!(),
+            }
         }
         Ok(replies)
     }

@@ -4,10 +4,12 @@
 mod parse;
 mod printed;
 mod script;
+mod script_job;
 mod sets;
 mod slot_names;
 mod values;
 mod words;
 
 pub use script::run_script;
+pub use script_job::ScriptJob;
 pub use sets::NESTING_LIMIT;

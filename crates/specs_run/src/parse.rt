@@ -1,15 +1,19 @@
 //! The lines of a script.
+use crate::script_job::ScriptJob;
 use crate::sets::set;
 use crate::slot_names::slot;
 use crate::values::Worded;
 use crate::words::{entity, index, number};
-use slots::{Slot, Value};
-use specs::{Command, Entity, ReaderId};
+use slots::{Slots, Value};
+use specs::{Command, Entity, Job, ReaderId};
 use std::alloc::{AllocError, Global};
 use std::str;
 
 /// The command of a line without its line feed, if it can be read. Words are parted by one space.
-pub fn command(alloc: Global, line: &[u8]) -> Result<Option<Command<Slot, Value>>, AllocError> {
+pub fn command(
+    alloc: Global,
+    line: &[u8],
+) -> Result<Option<Command<Slots, ScriptJob>>, AllocError> {
     let Ok(text) = str::from_utf8(line) else {
         return Ok(None);
     };
@@ -18,14 +22,15 @@ pub fn command(alloc: Global, line: &[u8]) -> Result<Option<Command<Slot, Value>
         words.push(word)?;
     }
     match words.as_slice() {
-        ["delete", rest @ ..] => Ok(entities(alloc, rest)?.map(Command::Delete)),
-        ["select", rest @ ..] => Ok(set(alloc, rest)?.map(Command::Select)),
+        ["delete", rest @ ..] => Ok(entities(alloc, rest)?.map(|list| Command::Delete(list))),
+        ["job", rest @ ..] => Ok(job(rest).map(|job| Command::Queue(job))),
+        ["select", rest @ ..] => Ok(set(alloc, rest)?.map(|set| Command::Select(set))),
         words => Ok(plain(words)),
     }
 }
 
 /// A command that holds no list and no set.
-fn plain(words: &[&str]) -> Option<Command<Slot, Value>> {
+fn plain(words: &[&str]) -> Option<Command<Slots, ScriptJob>> {
     match words {
         ["create"] => Some(Command::Create),
         ["create", "pending"] => Some(Command::CreatePending),
@@ -45,6 +50,17 @@ fn plain(words: &[&str]) -> Option<Command<Slot, Value>> {
         ["events", s, n] => Some(Command::Events(slot(s)?, ReaderId::of(number(n)?))),
         ["emit", s, "on"] => Some(Command::Emit(slot(s)?, true)),
         ["emit", s, "off"] => Some(Command::Emit(slot(s)?, false)),
+        _ => None,
+    }
+}
+
+/// A job.
+fn job(words: &[&str]) -> Option<Job<Slots, ScriptJob>> {
+    match words {
+        ["insert", s, e, v] => Some(Job::Insert(entity(e)?, Value::read(slot(s)?, v)?)),
+        ["remove", s, e] => Some(Job::Remove(slot(s)?, entity(e)?)),
+        ["again"] => Some(Job::Own(ScriptJob::Again)),
+        ["create"] => Some(Job::Own(ScriptJob::Create)),
         _ => None,
     }
 }

@@ -1,9 +1,10 @@
 //! A script of commands, run over any reader and two writers.
 use crate::parse::command;
 use crate::printed::Printed;
+use crate::script_job::ScriptJob;
 use composed::Empty;
 use slots::Slots;
-use specs::World;
+use specs::{Storages, World, WorldJob};
 use std::alloc::Global;
 use std::io::{self, BufRead, BufReader, BufWriter, Read, Write};
 
@@ -51,14 +52,52 @@ fn answer_by_new_world<R: Read, O: Write + Drop>(
     reader: &mut BufReader<R>,
     writer: &mut BufWriter<O>,
 ) -> io::Result<Option<u64>> {
-    let mut world = World::new(alloc, Slots::empty());
-    answer_lines(alloc, &mut world, reader, writer)
+    let lines = Lines {
+        alloc,
+        reader,
+        writer,
+    };
+    in_new_world::<Slots, ScriptJob, _>(alloc, lines)
+}
+
+/// What is done with a world.
+trait Session<S: Storages, J> {
+    /// Does it.
+    fn hold(self, world: &mut World<S, J>) -> io::Result<Option<u64>>;
+}
+
+/// The lines of a script, which a world answers.
+#[derive(Drop)]
+struct Lines<'a, R, O: Write + Drop> {
+    alloc: Global,
+    reader: &'a mut BufReader<R>,
+    writer: &'a mut BufWriter<O>,
+}
+
+impl<R: Read, O: Write + Drop> Session<Slots, ScriptJob> for Lines<'_, R, O> {
+    fn hold(self, world: &mut World<Slots, ScriptJob>) -> io::Result<Option<u64>> {
+        let Lines {
+            alloc,
+            reader,
+            writer,
+        } = self;
+        answer_lines(alloc, world, reader, writer)
+    }
+}
+
+/// A session of a new world. It stands for whatever storages and jobs, since the end of a world is shorter to prove where they are not known.
+fn in_new_world<S: Empty + Drop, J: WorldJob<S>, L: Session<S, J>>(
+    alloc: Global,
+    session: L,
+) -> io::Result<Option<u64>> {
+    let mut world = World::new(alloc, S::empty());
+    session.hold(&mut world)
 }
 
 /// Answers the lines up to the end of the input, or up to one that can't be read, whose number is told.
 fn answer_lines<R: Read, O: Write + Drop>(
     alloc: Global,
-    world: &mut World<Slots>,
+    world: &mut World<Slots, ScriptJob>,
     reader: &mut BufReader<R>,
     writer: &mut BufWriter<O>,
 ) -> io::Result<Option<u64>> {
@@ -81,7 +120,7 @@ fn answer_lines<R: Read, O: Write + Drop>(
 /// Does one line, and writes its reply; a line without characters has none. It is false of a line that can't be read.
 fn answer<O: Write + Drop>(
     alloc: Global,
-    world: &mut World<Slots>,
+    world: &mut World<Slots, ScriptJob>,
     writer: &mut BufWriter<O>,
     text: &[u8],
 ) -> io::Result<bool> {

@@ -1,13 +1,13 @@
 use Rattle.std.proofs.Common.{◌≡◌, ◌≤◌, length}
 use Rattle.std.specs.Vec.{vec_capacity}
-use Rattle.specs.specs.State.{state_of, Run}
+use Rattle.specs.specs.Steps.{world_state, Run}
 use Rattle.specs.proofs.world.World.run.Given as goal
 
 abbrev pub invariant-loop-command : goal.invariant-loop-command
 invariant-loop-command g l =
-    let state = state_of g.S.Storages.table in
+    let state = world_state g.S.Storages.table in
     record {
-      done : Run g.S.Storages.place g.S.Storages.allocates (state l.fn.self) l.yielded l.replies.items (state l.self);
+      done : Run g.S.Storages.place g.S.Storages.allocates g.J.WorldJob.does (state l.fn.self) l.yielded l.replies.items (state l.self);
       count : length l.replies.items ≡ length l.yielded;
       room : length l.fn.commands.items ≤ vec_capacity l.replies;
     }

@@ -1,0 +1,148 @@
+//! Jobs of a user's: one that queues itself, one that queues an insertion, and one that makes an entity with a component.
+ghost use Rattle.std.specs.Prelude.{◌≡◌, ◌∷◌, [], ◌++◌, IfOk, OnOk, OnErr};
+ghost use Rattle.entities.specs.Population.{born};
+ghost use Rattle.specs.specs.People.{Births};
+ghost use Rattle.specs.specs.State.{core_state, OnPeople};
+ghost use Rattle.specs.specs.Steps.{world_state};
+ghost use Rattle.specs.specs.declared.job.Job.TheVariants.{Own};
+ghost use Rattle.callers.specs.Spreads.{Given};
+
+use specs::{Core, CreateError, Entity, LazyUpdate, Parts, Storages, World, WorldJob};
+use std::alloc::AllocError;
+
+/// Queues itself, so it runs again at each turn.
+#[derive(Drop)]
+pub struct Again {
+    /// Its name.
+    pub name: u64,
+}
+
+impl<S: Storages> WorldJob<S> for Again {
+    ghost use Rattle.std.specs.Prelude.{◌≡◌, [], ◌∷◌};
+    ghost use Rattle.specs.specs.Lawful.{still_grows, still_lives};
+    ghost use Rattle.specs.specs.declared.job.Job.TheVariants.{Own};
+    ghost use Rattle.callers.specs.Spreads.{still_after};
+
+    ghost does = { λ j old more new. (more ≡ Own j ∷ []) × (new ≡ old) };
+
+    ghost spares = { λ j slot n. Unit {0} };
+
+    fn update(
+        self,
+        _core: &mut Core<S>,
+        queue: &mut LazyUpdate<S, Self>,
+    ) -> Result<(), (Self, AllocError)> {
+        queue.exec(self)
+    }
+
+    ghost grows = { λ j old new more s. still_grows old new s.1 };
+
+    ghost lives = { λ j old new more s w. still_lives old new s.1 w };
+
+    ghost tells = { λ j slot n old new more s spared l. still_after _ slot n old new more s.1 (Own j) tt s.0 l };
+}
+
+/// Queues an insertion, and does nothing itself.
+#[derive(Drop)]
+pub struct Late<S: Storages> {
+    /// The entity.
+    pub entity: Entity,
+    /// The component.
+    pub value: S::Value,
+}
+
+impl<S: Storages> WorldJob<S> for Late<S> {
+    ghost use Rattle.std.specs.Prelude.{◌≡◌, [], ◌∷◌};
+    ghost use Rattle.specs.specs.Lawful.{still_grows, still_lives};
+    ghost use Rattle.specs.specs.declared.job.Job.TheVariants.{Insert};
+    ghost use Rattle.callers.specs.Spreads.{still_after};
+
+    ghost does = { λ j old more new. (more ≡ Insert j.entity j.value ∷ []) × (new ≡ old) };
+
+    ghost spares = { λ j slot n. Unit {0} };
+
+    fn update(
+        self,
+        _core: &mut Core<S>,
+        queue: &mut LazyUpdate<S, Self>,
+    ) -> Result<(), (Self, AllocError)> {
+        let Late { entity, value } = self;
+        match queue.insert(entity, value) {
+            Ok(()) => Ok(()),
+            Err((value, refused)) => Err((Late { entity, value }, refused)),
+        }
+    }
+
+    ghost grows = { λ j old new more s. still_grows old new s.1 };
+
+    ghost lives = { λ j old new more s w. still_lives old new s.1 w };
+
+    ghost tells = { λ j slot n old new more s spared l. still_after _ slot n old new more s.1 (Insert j.entity j.value) tt s.0 l };
+}
+
+/// Makes an entity with a component. Where no index is left it does nothing; where the component is refused the entity stays without it.
+#[derive(Drop)]
+pub struct Spread<S: Storages> {
+    /// The component.
+    pub value: S::Value,
+}
+
+impl<S: Storages> WorldJob<S> for Spread<S> {
+    ghost use Rattle.callers.specs.Spreads.{MaySpread, spreads_grows, spreads_lives};
+
+    ghost does = { λ j old more new. MaySpread S.place j.value old more new };
+
+    ghost spares = { λ j slot n. ⊥ };
+
+    fn update(
+        self,
+        core: &mut Core<S>,
+        _queue: &mut LazyUpdate<S, Self>,
+    ) -> Result<(), (Self, AllocError)> {
+        match birth(core) {
+            Ok(e) => {
+                give(core, e, self.value);
+                Ok(())
+            }
+            Err(CreateError::IndexLimit) => Ok(()),
+            Err(CreateError::OutOfMemory) => Err((self, AllocError)),
+        }
+    }
+
+    ghost grows = { λ j old new more s. spreads_grows S.place j.value old new more s };
+
+    ghost lives = { λ j old new more s w. spreads_lives S.place j.value old new more s w };
+
+    ghost tells = { λ j slot n old new more s spared l. absurd spared };
+}
+
+/// A birth at once.
+fn birth<S: Storages>(core: &mut Core<S>) -> Result<Entity, CreateError>
+    ensures ok { IfOk result (λ e. OnPeople (λ p p'. Births born p e p') (core_state S.table core.old) (core_state S.table core.new)) }
+    ensures err { OnErr result (core_state S.table core.new ≡ core_state S.table core.old) }
+{
+    core.parts().entities.alloc_mut().allocate()
+}
+
+/// An insertion, which may be refused.
+fn give<S: Storages>(core: &mut Core<S>, e: Entity, value: S::Value)
+    ensures { Given S.place e value (core_state S.table core.old) (core_state S.table core.new) }
+{
+    let Parts { entities, storages } = core.parts();
+    match storages.insert(entities, e, value) {
+        Ok(_) => {}
+        Err(_) => {}
+    }
+}
+
+/// A job that is queued is the last that waits.
+pub fn queue<S: Storages, J: WorldJob<S>>(
+    world: &mut World<S, J>,
+    job: J,
+) -> Result<(), (J, AllocError)>
+    ensures ok { OnOk result ((world_state S.table world.new).jobs ≡ (world_state S.table world.old).jobs ++ Own job ∷ []) }
+    ensures core { (world_state S.table world.new).core ≡ (world_state S.table world.old).core }
+    ensures err { OnErr result (world_state S.table world.new ≡ world_state S.table world.old) }
+{
+    world.parts().lazy.exec(job)
+}

@@ -1,0 +1,100 @@
+//! Components that threads change in their places.
+ghost use Rattle.std.specs.Prelude.{◌≡◌, ◌<◌, ℕ, true, false, List, length, slice_get, slice_index_or, refl, IfOk, OnOk, OnErr};
+ghost use Rattle.std.specs.Borrow.{MutBor};
+ghost use Rattle.std.specs.FinMap as map;
+ghost use Rattle.std.specs.FinSet as set;
+ghost use Rattle.joins_parallel.specs.InPlace.{MayLeave, ChangedAt, OnlyChanges};
+
+use crate::pieces::LEAST_SHARED;
+use hibits::{BitIter, BitSet, BitSetAnd, INDEX_LIMIT, Index, Layers};
+use joins::{Lookup, RepeatableJoin};
+use std::alloc::{Alloc, AllocError, Global};
+use std::thread::{Threads, for_each_mut};
+use storages::{Component, DefaultVecStorage, MaskedStorage, SliceAccessMut};
+
+/// A storage that has each component at its index's place of a slice. It has no method of its own.
+pub trait Placed<T>: SliceAccessMut<T> {
+    ghost by_index: { (order : List ℕ) (xs : List T) (q : ℕ) → Self.item_at order xs q ≡ slice_get xs q };
+}
+
+impl<T: Default + Drop> Placed<T> for DefaultVecStorage<T> {
+    ghost by_index = { λ order xs q. refl };
+}
+
+/// The members, as a set of its own.
+fn members_of<M: Layers + Drop>(alloc: Global, mask: M) -> Result<BitSet, AllocError>
+    ensures members { IfOk result (λ b. (i : ℕ) → i < INDEX_LIMIT → set.contains b.members i ≡ M.has mask 0 i) }
+    ensures below { IfOk result (λ b. (i : ℕ) → set.contains b.members i ≡ true → i < INDEX_LIMIT) }
+{
+    let mut walk = BitIter::new(mask);
+    let mut members = BitSet::new(alloc);
+    while let Some(i) = walk.next() {
+        if members.add(i).is_err() {
+            return Err(AllocError);
+        }
+    }
+    Ok(members)
+}
+
+/// Calls `f` with each place of a slice whose number is a member, and with what is looked up there, in so many threads at most.
+fn change_each<T: Send, I, V: Lookup<I> + Sync, F: Fn(&mut T, I) + Sync>(
+    rt: &(impl Threads + Sync),
+    slice: &mut [T],
+    threads: usize,
+    members: &BitSet,
+    values: &V,
+    f: &F,
+)
+    requires threads { 0 < threads }
+    requires called { (x : MutBor T) (z : I) → F.pre f.now x z }
+    requires ready { (i : ℕ) → set.contains members.now.members i ≡ true → V.can_look values.now i ≡ true }
+    requires below { (i : ℕ) → set.contains members.now.members i ≡ true → i < INDEX_LIMIT }
+    ensures changed { (i : ℕ) (d : T) → i < length slice.old → set.contains members.now.members i ≡ true → MayLeave (V.finds values.now) (F.post f.now) i (slice_index_or slice.old i d) (slice_index_or slice.new i d) }
+    ensures others { (i : ℕ) (d : T) → i < length slice.old → set.contains members.now.members i ≡ false → slice_index_or slice.new i d ≡ slice_index_or slice.old i d }
+{
+    let change = |place: usize, component: &mut T|
+        requires { ((x : MutBor T) (z : I) → F.pre f.now x z) × ((i : ℕ) → set.contains members.now.members i ≡ true → V.can_look values.now i ≡ true) × ((i : ℕ) → set.contains members.now.members i ≡ true → i < INDEX_LIMIT) }
+        ensures changed { set.contains members.entry.now.members place ≡ true → MayLeave (V.finds values.entry.now) (F.post f.entry.now) place component.entry.now component.exit.now }
+        ensures others { set.contains members.entry.now.members place ≡ false → component.exit.now ≡ component.entry.now }
+    {
+        if let Ok(id) = Index::try_from(place) {
+            if members.contains(id) {
+                f(component, values.at(id));
+            }
+        }
+    };
+    for_each_mut(rt, slice, threads, &change);
+}
+
+/// Calls `f` with a `&mut` to each component at the indices of a storage and of a join, and with the join's item, from as many threads as there
+/// are processors, below 2,048 places in the caller's. Each component is written in its place, so no answers are kept; the indices are collected
+/// first. Threads have to be started, so for little work a loop over a cursor is faster.
+///
+/// After an error nothing has changed: memory was refused for the indices. Stands for `rayon`'s `for_each` on `specs::join::ParJoin::par_join`
+/// over a storage to write to, for storages that have each component at its index's place.
+pub fn par_for_each<T: Component + Send, J: RepeatableJoin, F: Fn(&mut T, J::Type) + Sync + Drop>(
+    rt: &(impl Threads + Alloc<A = Global> + Sync),
+    storage: &mut MaskedStorage<T>,
+    join: J,
+    f: F,
+) -> Result<(), AllocError>
+where
+    T::Storage: Placed<T>,
+    J::Value: Lookup<J::Type> + Sync,
+    requires called { (x : MutBor T) (z : J.Type) → F.pre f x z }
+    ensures each { OnOk result ((i : ℕ) → i < INDEX_LIMIT → map.contains_key storage.old.map i ≡ true → J.has join i ≡ true → ChangedAt (J.gives join) (F.post f) storage.old storage.new i) }
+    ensures others { OnOk result ((i : ℕ) → J.has join i ≡ false → map.get storage.new.map i ≡ map.get storage.old.map i) }
+    ensures rest { OnOk result (OnlyChanges storage.old storage.new) }
+    ensures err { OnErr result (storage.new ≡ storage.old) }
+{
+    let (mask, values) = join.open();
+    let members = members_of(rt.alloc(), BitSetAnd(storage.mask(), mask))?;
+    let slice = storage.as_mut_slice();
+    let threads = if slice.len() < LEAST_SHARED {
+        1
+    } else {
+        rayon::current_num_threads(rt)
+    };
+    change_each(rt, slice, threads, &members, &values, &f);
+    Ok(())
+}

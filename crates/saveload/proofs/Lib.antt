@@ -1,0 +1,10 @@
+pub mod Ids
+pub mod Lists
+pub mod Closing
+pub mod Rows
+pub mod Putting
+pub mod Named
+pub mod Saving
+pub mod Sound
+pub mod Loaded
+pub mod Renaming

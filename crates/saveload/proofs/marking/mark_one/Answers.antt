@@ -1,0 +1,41 @@
+use Rattle.std.proofs.Common.{rules, ◌≡◌, sym, ◌∙◌, subst, ap, Some, None, true, false, ◌++◌, ◌∷◌, [], List, append-nil, refl}
+use Rattle.std.specs.Prelude.{Ok, is_some}
+use Rattle.entities.specs.declared.entity.Entity.{Entity}
+use Rattle.entities.specs.Population.{index_of}
+use Rattle.std.proofs.lemmas.Bool.{false≢true}
+use Rattle.std.proofs.lemmas.Option.{same_Some}
+use Rattle.entities.specs.Census.{population}
+use Rattle.storages.specs.Life.{is_alive}
+use Rattle.storages.specs.WriteView.{slot, entities_of}
+use Rattle.saveload.specs.Closing.{marked_in, new_in, HasMarked}
+use Rattle.saveload.proofs.Closing.{found_none, found_some, new_one, new_none, marked_none, marked_one}
+use Rattle.saveload.proofs.marking.mark_one.Goals as goal
+
+pub returns-else-is_err-clause-list : goal.returns-else-is_err-clause-list
+returns-else-is_err-clause-list g c =
+    let yes : c.in-Ok-Some-true.field-0 ≡ Some true = search rules in
+    let alive : true ≡ is_alive (population (entities_of c.args.markers.now)) c.args.entity = sym (ap is_some yes) ∙ c.in-Ok-Some-true.ensures.dead in
+    let off : marked_in (slot c.args.markers.now) (index_of c.args.entity) ≡ false = found_none _ _ alive (c.in-Ok-Some-true.ensures.is_new yes) in
+    let pushed : c.push.new.self.items ≡ c.args.list.now.items ++ c.args.entity ∷ [] = search rules in
+    pushed ∙ ap (λ (l : List Entity). c.args.list.now.items ++ l) (sym (new_one (marked_in (slot c.args.markers.now)) c.args.entity off))
+
+pub returns-else-is_err-clause-marked : goal.returns-else-is_err-clause-marked
+returns-else-is_err-clause-marked g c =
+    let yes : c.in-Ok-Some-true.field-0 ≡ Some true = search rules in
+    let alive : true ≡ is_alive (population (entities_of c.args.markers.now)) c.args.entity = sym (ap is_some yes) ∙ c.in-Ok-Some-true.ensures.dead in
+    let off : marked_in (slot c.args.markers.now) (index_of c.args.entity) ≡ false = found_none _ _ alive (c.in-Ok-Some-true.ensures.is_new yes) in
+    let marks = c.in-Ok-Some-true.ensures.new yes in
+    subst (HasMarked (slot c.args.markers.now) (slot c.mark.new.storage)) (sym (new_one (marked_in (slot c.args.markers.now)) c.args.entity off)) (marked_one _ _ c.args.entity marks.0 marks.2.becomes.map off)
+
+pub returns-in-Ok-Some-false-clause-list : goal.returns-in-Ok-Some-false-clause-list
+returns-in-Ok-Some-false-clause-list g c =
+    let no : c.in-Ok-Some-false.field-0 ≡ Some false = search rules in
+    let on : marked_in (slot c.args.markers.now) (index_of c.args.entity) ≡ true = found_some _ _ (c.in-Ok-Some-false.ensures.was no) in
+    sym (append-nil c.args.list.now.items) ∙ ap (λ (l : List Entity). c.args.list.now.items ++ l) (sym (new_none (marked_in (slot c.args.markers.now)) c.args.entity on))
+
+pub returns-in-Ok-Some-false-clause-marked : goal.returns-in-Ok-Some-false-clause-marked
+returns-in-Ok-Some-false-clause-marked g c =
+    let no : c.in-Ok-Some-false.field-0 ≡ Some false = search rules in
+    let on : marked_in (slot c.args.markers.now) (index_of c.args.entity) ≡ true = found_some _ _ (c.in-Ok-Some-false.ensures.was no) in
+    let same : slot c.mark.new.storage ≡ slot c.args.markers.now = (c.in-Ok-Some-false.ensures.old (λ e. false≢true (same_Some false true (sym no ∙ e)))).0 in
+    subst (HasMarked (slot c.args.markers.now) (slot c.mark.new.storage)) (sym (new_none (marked_in (slot c.args.markers.now)) c.args.entity on)) (subst (λ s. HasMarked (slot c.args.markers.now) s []) (sym same) (marked_none (slot c.args.markers.now)))

@@ -1,0 +1,37 @@
+-- The law of saving and loading: one renaming.
+use Rattle.std.specs.Prelude.{◌≡◌, ℕ, Bool, false, List, [], ◌∷◌, Option, Some, None}
+use Rattle.entities.specs.declared.entity.Entity.{Entity}
+use Rattle.entities.specs.Population.{Population, IsAlive, lives, index_of}
+use Rattle.saveload.specs.declared.entity_data.EntityData.{EntityData}
+use Rattle.saveload.specs.Conversion.{Conversion, Has}
+use Rattle.saveload.specs.Saved.{IsSavedList}
+use Rattle.saveload.specs.Loads.{Loading, Loads}
+
+-- one-to-one from the entities of a list onto those that live, merged or pending
+pub record IsOneToOne (es : List Entity) (people : Population) (r : Entity → Entity) : Type 0 where
+  pub apart : (x y : Entity) → Has es x → Has es y → r x ≡ r y → x ≡ y
+  pub into : (x : Entity) → Has es x → IsAlive people (r x)
+  pub onto : (f : Entity) → IsAlive people f → (x : Entity) × Has es x × (r x ≡ f)
+
+-- the loaded rows are the saved ones with each reference renamed, and the ids of the markers agree
+pub record IsRenamed {M I V D : Type 0} (id_of : M → I) (c : Conversion M V D) (marker_of : Entity → Option M) (values : Entity → V) (es : List Entity) (r : Entity → Entity) (s : Loading I V) : Type 0 where
+  pub rows : (x : Entity) → Has es x → s.rows (index_of (r x)) ≡ c.renamed r (values x)
+  pub ids : (x : Entity) (m : M) → Has es x → marker_of x ≡ Some m → s.naming.markers (index_of (r x)) ≡ Some (id_of m)
+
+abbrev pub DistinctIds : {M I D : Type 0} → (M → I) → List (EntityData M D) → Type 0
+DistinctIds id_of [] = Unit {0}
+DistinctIds {M} {I} {D} id_of (r ∷ rs) = ((q : EntityData M D) → Has rs q → id_of q.marker ≡ id_of r.marker → ⊥) × DistinctIds id_of rs
+
+-- each entity that a saved one refers to is saved too
+abbrev pub HoldsReferences : {M V D : Type 0} → Conversion M V D → (Entity → V) → List Entity → Type 0
+HoldsReferences c values es = (e x : Entity) → Has es e → Has (c.references (values e)) x → Has es x
+
+-- nobody lives, and no id is mapped
+pub record IsEmpty {I V : Type 0} (s : Loading I V) : Type 0 where
+  pub nobody : (i : ℕ) → lives s.naming.people i ≡ false
+  pub unmapped : (id : I) → s.naming.mapping id ≡ None
+
+abbrev pub OneRenaming : {M I V D : Type 0} → (M → I) → (I → I → Bool) → Conversion M V D → Type 0
+OneRenaming {M} {I} {V} {D} id_of eq c = (marker_of : Entity → Option M) (values : Entity → V) (es : List Entity) (rs : List (EntityData M D)) (old new : Loading I V) →
+    IsSavedList c marker_of values es rs → DistinctIds id_of rs → HoldsReferences c values es → IsEmpty old → Loads id_of eq c old rs new →
+    (r : Entity → Entity) × IsOneToOne es new.naming.people r × IsRenamed id_of c marker_of values es r new

@@ -1,0 +1,12 @@
+pub mod Naming
+pub mod Marking
+pub mod Numbers
+pub mod Simple
+pub mod Conversion
+pub mod Plain
+pub mod Places
+pub mod Tuples
+pub mod Saved
+pub mod Closing
+pub mod Loads
+pub mod Law

@@ -1,0 +1,42 @@
+-- Loading: records in order.
+use Rattle.std.specs.Prelude.{◌≡◌, ℕ, pos, List, [], ◌∷◌, map, Option, Some, None, unwrap_or, Bool, ◌==◌, if◌then◌else◌}
+use Rattle.std.specs.FinMap as finmap
+use Rattle.entities.specs.declared.entity.Entity.{Entity}
+use Rattle.entities.specs.Population.{index_of}
+use Rattle.storages.specs.Slot.{Slot}
+use Rattle.saveload.specs.declared.entity_data.EntityData.{EntityData}
+use Rattle.saveload.specs.Conversion.{Conversion}
+use Rattle.saveload.specs.Naming.{Naming, Names, NamesAll}
+
+-- the entity that an id is mapped to
+abbrev pub entity_of : {I : Type 0} → (I → Option Entity) → I → Entity
+entity_of mapping id = unwrap_or (mapping id) (0, record { 0 = pos 0 })
+
+-- the entity that a marker names
+abbrev pub named : {M I : Type 0} → (M → I) → (I → Option Entity) → M → Entity
+named id_of mapping m = entity_of mapping (id_of m)
+
+-- what a load reads and changes: names, and a row for each index
+pub record Loading (I V : Type 0) : Type 0 where
+  pub naming : Naming I
+  pub rows : ℕ → V
+
+abbrev pub row_put : {V : Type 0} → (ℕ → V) → ℕ → V → ℕ → V
+row_put rows i v j = if i == j then v else rows j
+
+-- the components of a storage, by index
+abbrev pub column : {T : Type 0} → Slot T → ℕ → Option T
+column s i = finmap.get s.map i
+
+module _ {M I V D : Type 0} (id_of : M → I) (eq : I → I → Bool) (c : Conversion M V D) where
+  -- first its own id, then those that its components mention; then the row is stored
+  pub record LoadsRecord (old : Loading I V) (r : EntityData M D) (new : Loading I V) : Type 0 where
+    pub entity : Entity
+    pub mid : Naming I
+    pub own : Names eq old.naming (id_of r.marker) entity mid
+    pub mentioned : NamesAll eq mid (map id_of (c.mentions r.components)) new.naming
+    pub rows : new.rows ≡ row_put old.rows (index_of entity) (c.loaded (named id_of new.naming.mapping) r.components)
+
+  abbrev pub Loads : Loading I V → List (EntityData M D) → Loading I V → Type 0
+  Loads old [] new = new ≡ old
+  Loads old (r ∷ rs) new = (mid : Loading I V) × LoadsRecord old r mid × Loads mid rs new

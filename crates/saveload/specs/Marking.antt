@@ -1,0 +1,27 @@
+-- What `mark` makes of a storage and of the ids.
+use Rattle.std.specs.Prelude.{◌≡◌, ◌⊎◌, ℕ, Bool, Option}
+use Rattle.std.specs.FinMap as map
+use Rattle.entities.specs.declared.entity.Entity.{Entity}
+use Rattle.entities.specs.Population.{index_of}
+use Rattle.storages.specs.declared.event.ComponentEvent.TheVariants.{Inserted}
+use Rattle.storages.specs.Slot.{Slot, Becomes}
+use Rattle.saveload.specs.declared.mark_error.MarkError.{MarkError}
+use Rattle.saveload.specs.declared.mark_error.MarkError.TheVariants.{IdsExhausted, IdTaken, OutOfMemory}
+use Rattle.saveload.specs.Naming.{put_id}
+
+-- the entity got the marker, and its id names it
+pub record Marks {M I : Type 0} (id_of : M → I) (eq : I → I → Bool) (e : Entity) (m : M) (a a' : I → Option Entity) (s s' : Slot M) : Type 0 where
+  pub mapping : a' ≡ put_id eq a (id_of m) e
+  pub becomes : Becomes s s' (map.insert s.map (index_of e) m) (Inserted (index_of e))
+
+-- it got a marker whose id may be new
+abbrev pub MarksNew : {M I : Type 0} → (M → I) → (I → I → Bool) → (I → Type 0) → Entity → (I → Option Entity) → (I → Option Entity) → Slot M → Slot M → Type 0
+MarksNew {M} id_of eq MayBeNew e a a' s s' = (m : M) × MayBeNew (id_of m) × Marks id_of eq e m a a' s s'
+
+-- no id is mapped otherwise, or one that may be new, to the entity
+abbrev pub MayHaveGiven : {I : Type 0} → (I → I → Bool) → (I → Type 0) → Entity → (I → Option Entity) → (I → Option Entity) → Type 0
+MayHaveGiven {I} eq MayBeNew e a a' = (a' ≡ a) ⊎ ((id : I) × MayBeNew id × (a' ≡ put_id eq a id e))
+
+-- the ids are why: they are used up, the one drawn is held, or there is no memory for one
+abbrev pub IsOfIds : MarkError → Type 0
+IsOfIds x = (x ≡ IdsExhausted) ⊎ ((x ≡ IdTaken) ⊎ (x ≡ OutOfMemory))

@@ -1,0 +1,29 @@
+-- The saved list of a list of entities.
+use Rattle.std.specs.Prelude.{◌≡◌, ℕ, ◌&&◌, map, List, [], ◌∷◌, Option, Some}
+use Rattle.std.specs.FinMap as finmap
+use Rattle.hibits.specs.Left.{left}
+use Rattle.entities.specs.Population.{Population, lives, generation_now}
+use Rattle.storages.specs.Slot.{Slot}
+use Rattle.entities.specs.declared.entity.Entity.{Entity}
+use Rattle.saveload.specs.declared.entity_data.EntityData.{EntityData}
+use Rattle.saveload.specs.Conversion.{Conversion, IsSavedBy}
+
+module _ {M V D : Type 0} (c : Conversion M V D) (marker_of : Entity → Option M) (values : Entity → V) where
+  -- its marker, and its row with each reference replaced by a marker
+  pub record IsRecord (e : Entity) (r : EntityData M D) : Type 0 where
+    pub own : marker_of e ≡ Some r.marker
+    pub row : IsSavedBy c marker_of (values e) r.components
+
+  abbrev pub IsSavedList : List Entity → List (EntityData M D) → Type 0
+  IsSavedList [] [] = Unit {0}
+  IsSavedList [] (r ∷ rs) = ⊥
+  IsSavedList (e ∷ es) [] = ⊥
+  IsSavedList (e ∷ es) (r ∷ rs) = IsRecord e r × IsSavedList es rs
+
+-- the entity of an index, as it lives
+abbrev pub entity_at : Population → ℕ → Entity
+entity_at people i = (i, record { 0 = generation_now people i })
+
+-- those that live, merged or pending, and have a marker, ascending
+abbrev pub all_marked : {M : Type 0} → Population → Slot M → List Entity
+all_marked people s = map (entity_at people) (left (λ i. lives people i && finmap.contains_key s.map i) 0)

@@ -1,0 +1,71 @@
+//! Markers for an entity that is being built.
+ghost use Rattle.std.specs.Prelude.{◌≡◌, true, None, IfOk, IfErr, OnOk, OnErr, is_some};
+ghost use Rattle.std.specs.Borrow.{sem};
+ghost use Rattle.std.specs.FinMap as map;
+ghost use Rattle.entities.specs.Lending.{lent_to_builder, entity_built, KeptRests};
+ghost use Rattle.entities.specs.Population.{index_of};
+ghost use Rattle.storages.specs.Slot.{IsSame};
+ghost use Rattle.saveload.specs.Marking.{MarksNew, IsOfIds};
+
+use crate::mark_error::MarkError;
+use crate::marker::{Marker, MarkerAllocator};
+use entities::EntityResBuilder;
+use storages::{MaskedStorage, WriteStorage};
+
+/// Gives the entity that a builder builds a marker.
+pub trait WithMarker: Sized {
+    /// The builder again, once its entity has a marker: the one that it had, or one of a new id. After a refusal the storage is as
+    /// before, and the builder is dropped, which marks its entity as by `delete`.
+    ///
+    /// Ports `specs::world::EntityResBuilder::marked`.
+    fn marked<M: Marker>(
+        self,
+        storage: &mut MaskedStorage<M>,
+        allocator: &mut M::Allocator,
+    ) -> Result<Self, MarkError>
+    where
+        M::Allocator: MarkerAllocator<M>;
+}
+
+impl<'a> WithMarker for EntityResBuilder<'a> {
+    fn marked<M: Marker>(
+        self,
+        storage: &mut MaskedStorage<M>,
+        allocator: &mut M::Allocator,
+    ) -> Result<Self, MarkError>
+    where
+        M::Allocator: MarkerAllocator<M>,
+        ensures* rests { sem 𝓛 (KeptRests self.entry result) }
+        ensures same_reference { IfOk result (λ b. (lent_to_builder b).ghost_name ≡ (lent_to_builder self.entry).ghost_name) }
+        ensures entity { IfOk result (λ b. entity_built b ≡ entity_built self.entry) }
+        ensures entities { IfOk result (λ b. (lent_to_builder b).now ≡ (lent_to_builder self.entry).now) }
+        ensures kept { is_some (map.get storage.old.map (index_of (entity_built self.entry))) ≡ true → OnOk result ((storage.new ≡ storage.old) × (M.Allocator.mapping allocator.new ≡ M.Allocator.mapping allocator.old)) }
+        ensures new { map.get storage.old.map (index_of (entity_built self.entry)) ≡ None → OnOk result (MarksNew M.id_of M.Identifier.eq (M.Allocator.MayBeNew allocator.old) (entity_built self.entry) (M.Allocator.mapping allocator.old) (M.Allocator.mapping allocator.new) storage.old storage.new) }
+        ensures err { OnErr result (IsSame storage.old storage.new) }
+        ensures refused { IfErr result IsOfIds }
+    {
+        let outcome = mark_at(&self, storage, allocator);
+        self.kept_if(outcome)
+    }
+}
+
+// Gives the entity that is being built a marker.
+fn mark_at<M: Marker>(
+    builder: &EntityResBuilder<'_>,
+    storage: &mut MaskedStorage<M>,
+    allocator: &mut M::Allocator,
+) -> Result<(), MarkError>
+where
+    M::Allocator: MarkerAllocator<M>,
+    ensures kept { is_some (map.get storage.old.map (index_of (entity_built builder.now))) ≡ true → OnOk result ((storage.new ≡ storage.old) × (M.Allocator.mapping allocator.new ≡ M.Allocator.mapping allocator.old)) }
+    ensures new { map.get storage.old.map (index_of (entity_built builder.now)) ≡ None → OnOk result (MarksNew M.id_of M.Identifier.eq (M.Allocator.MayBeNew allocator.old) (entity_built builder.now) (M.Allocator.mapping allocator.old) (M.Allocator.mapping allocator.new) storage.old storage.new) }
+    ensures err { OnErr result (IsSame storage.old storage.new) }
+    ensures refused { IfErr result IsOfIds }
+{
+    let entity = builder.entity();
+    let mut view = WriteStorage::new(builder.entities(), storage);
+    match allocator.mark(entity, &mut view) {
+        Ok(_) => Ok(()),
+        Err(e) => Err(e),
+    }
+}

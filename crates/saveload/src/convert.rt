@@ -1,0 +1,82 @@
+//! Components that refer to entities.
+ghost use Rattle.std.specs.Prelude.{◌≡◌, Option, Some, None, IfOk, IfErr};
+ghost use Rattle.entities.specs.declared.entity.Entity.{Entity as Being};
+ghost use Rattle.saveload.specs.Conversion.{Conversion, IsFaithful, Answers, AllNamed, NamedBy, IsOwn, entity_conversion, entity_faithful};
+
+use crate::error::{LoadError, SaveError};
+use crate::marker::Marker;
+use entities::Entity;
+use std::alloc::{AllocError, Global};
+
+/// A component saved as data in which each reference is replaced by a marker.
+pub trait ConvertSaveload<M: Marker>: Sized {
+    type Data: Drop;
+
+    ghost conversion: { Conversion M Self Self.Data };
+
+    /// The entities that it refers to.
+    fn references(&self, alloc: Global) -> Result<Vec<Entity>, AllocError>
+        ensures { IfOk result (λ v. v.items ≡ conversion.references self.now) };
+
+    /// The markers that its data mentions.
+    fn mentions(alloc: Global, saved: &Self::Data) -> Result<Vec<M>, AllocError>
+        requires { (m n : M) → M.is_clone m n → m ≡ n }
+        ensures { IfOk result (λ v. v.items ≡ conversion.mentions saved.now) };
+
+    /// Its data, by the markers of the entities that it refers to.
+    fn convert_into<F: Fn(Entity) -> Option<M>>(
+        &self,
+        alloc: Global,
+        ids: F,
+    ) -> Result<Self::Data, SaveError>
+        requires { F.IsAlwaysCallable ids }
+        ensures exact { (g : Being → Option M) (f : Being → M) → Answers (F.post ids) (conversion.references self.now) g → NamedBy g (conversion.references self.now) f → IfOk result (λ d. d ≡ conversion.saved f self.now) }
+        ensures refused { (g : Being → Option M) → Answers (F.post ids) (conversion.references self.now) g → AllNamed g (conversion.references self.now) → IfErr result IsOwn };
+
+    /// The value again, by the entities that the markers name.
+    fn convert_from<F: Fn(M) -> Option<Entity>>(
+        saved: Self::Data,
+        alloc: Global,
+        ids: F,
+    ) -> Result<Self, LoadError>
+        requires { F.IsAlwaysCallable ids }
+        ensures exact { (g : M → Option Being) (f : M → Being) → Answers (F.post ids) (conversion.mentions saved) g → NamedBy g (conversion.mentions saved) f → IfOk result (λ v. v ≡ conversion.loaded f saved) };
+
+    ghost faithful: { IsFaithful conversion };
+}
+
+impl<M: Marker> ConvertSaveload<M> for Entity {
+    type Data = M;
+
+    ghost conversion = { entity_conversion };
+
+    fn references(&self, alloc: Global) -> Result<Vec<Entity>, AllocError> {
+        let mut list = Vec::with_capacity(alloc, 1)?;
+        list.push(*self)?;
+        Ok(list)
+    }
+
+    fn mentions(alloc: Global, saved: &M) -> Result<Vec<M>, AllocError> {
+        let mut list = Vec::with_capacity(alloc, 1)?;
+        list.push(saved.clone()?)?;
+        Ok(list)
+    }
+
+    fn convert_into<F: Fn(Entity) -> Option<M>>(
+        &self,
+        _alloc: Global,
+        ids: F,
+    ) -> Result<M, SaveError> {
+        ids(*self).ok_or(SaveError::Unmarked(*self))
+    }
+
+    fn convert_from<F: Fn(M) -> Option<Entity>>(
+        saved: M,
+        _alloc: Global,
+        ids: F,
+    ) -> Result<Entity, LoadError> {
+        ids(saved).ok_or(LoadError::NotTheForm)
+    }
+
+    ghost faithful = { entity_faithful };
+}

@@ -1,0 +1,30 @@
+//! Markers, and saving and loading by them: components that name their entities by ids, which stay the same from one world to
+//! another.
+#![tactic(auto)]
+
+mod building;
+mod convert;
+mod deserialize_tuples;
+mod entity_data;
+mod error;
+mod laws;
+mod load;
+mod mark_error;
+mod marker;
+mod marking;
+mod places;
+mod save;
+mod serialize_tuples;
+mod simple;
+
+pub use building::WithMarker;
+pub use convert::ConvertSaveload;
+pub use entity_data::EntityData;
+pub use error::{LoadError, SaveError};
+pub use laws::one_renaming;
+pub use load::{DeserializeComponents, deserialize};
+pub use mark_error::MarkError;
+pub use marker::{Marker, MarkerAllocator};
+pub use places::SerializeComponents;
+pub use save::{serialize, serialize_recursive};
+pub use simple::{SimpleMarker, SimpleMarkerAllocator};

@@ -1,0 +1,213 @@
+//! Loading records into storages that are lent.
+ghost use Rattle.std.specs.Prelude.{◌≡◌, ◌++◌, true, false, ℕ, map, Option, Some, None, Ok, Err, IfOk, IfErr, OnOk, OnErr, is_some};
+ghost use Rattle.std.specs.FinMap as finmap;
+ghost use Rattle.storages.specs.Found.{found_in};
+ghost use Rattle.entities.specs.declared.entity.Entity.{Entity as Being};
+ghost use Rattle.entities.specs.Census.{population};
+ghost use Rattle.entities.specs.Population.{index_of};
+ghost use Rattle.storages.specs.Life.{is_alive};
+ghost use Rattle.saveload.specs.Conversion.{Conversion, IsFaithful, Answers, NamedBy};
+ghost use Rattle.saveload.specs.Naming.{naming, NamesAll};
+ghost use Rattle.saveload.specs.Places.{place};
+ghost use Rattle.saveload.specs.Loads.{column, row_put, named, LoadsRecord, Loads};
+
+use crate::convert::ConvertSaveload;
+use crate::entity_data::EntityData;
+use crate::error::LoadError;
+use crate::marker::{Marker, MarkerAllocator};
+use entities::{EntitiesRes, Entity};
+use std::alloc::{AllocError, Global};
+use storages::{Component, InsertError, MaskedStorage, WriteStorage};
+
+/// A tuple of one to six storages that are lent for a load.
+///
+/// Ports `specs::saveload::DeserializeComponents`; its call for whole lists is `deserialize`.
+pub trait DeserializeComponents<M: Marker> {
+    // A place for each storage.
+    type Row;
+
+    type Data: Drop;
+
+    ghost conversion: { Conversion M Self.Row Self.Data };
+
+    ghost rows: { Self → ℕ → Self.Row };
+    // The same storages are lent.
+    ghost SameLoans: { Self → Self → Type 0 };
+
+    /// The markers that the data mentions, place by place.
+    fn mentions(alloc: Global, saved: &Self::Data) -> Result<Vec<M>, AllocError>
+        requires { (m n : M) → M.is_clone m n → m ≡ n }
+        ensures { IfOk result (λ v. v.items ≡ conversion.mentions saved.now) };
+
+    /// Stores what was saved at an entity that is alive, place by place, by the entities that `ids` gives: a component, which takes
+    /// the place of the one that was there, or none, which takes that one out. After a refusal the places before the refused one stay.
+    ///
+    /// Ports `DeserializeComponents::deserialize_entity`.
+    fn deserialize_entity<F: Fn(M) -> Option<Entity>>(
+        &mut self,
+        alloc: Global,
+        entities: &EntitiesRes,
+        entity: Entity,
+        saved: Self::Data,
+        ids: F,
+    ) -> Result<(), LoadError>
+        requires { F.IsAlwaysCallable ids }
+        ensures loans { SameLoans self.old self.new }
+        ensures rows { (g : M → Option Being) (f : M → Being) → is_alive (population entities.now) entity ≡ true → Answers (F.post ids) (conversion.mentions saved) g → NamedBy g (conversion.mentions saved) f → OnOk result (rows self.new ≡ row_put (rows self.old) (index_of entity) (conversion.loaded f saved)) };
+
+    ghost faithful: { IsFaithful conversion };
+
+    ghost loans_self: { (s : Self) → SameLoans s s };
+
+    ghost loans_both: { (s t u : Self) → SameLoans s t → SameLoans t u → SameLoans s u };
+}
+
+// Puts the markers that a place mentions at the end of a list.
+pub(crate) fn add_mentions<M: Marker, T: ConvertSaveload<M>>(
+    alloc: Global,
+    list: &mut Vec<M>,
+    saved: &Option<T::Data>,
+) -> Result<(), AllocError>
+    requires { (m n : M) → M.is_clone m n → m ≡ n }
+    ensures { OnOk result (list.new.items ≡ list.old.items ++ (place T.conversion).mentions saved.now) }
+{
+    if let Some(saved) = saved {
+        let mut mentioned = T::mentions(alloc, saved)?;
+        list.append(&mut mentioned)?;
+    }
+    Ok(())
+}
+
+// Stores a place of an entity.
+pub(crate) fn store_place<
+    M: Marker,
+    T: Component + Drop + ConvertSaveload<M>,
+    F: Fn(M) -> Option<Entity>,
+>(
+    alloc: Global,
+    entities: &EntitiesRes,
+    masked: &mut MaskedStorage<T>,
+    entity: Entity,
+    saved: Option<T::Data>,
+    ids: &F,
+) -> Result<(), LoadError>
+    requires { F.IsAlwaysCallable ids.now }
+    ensures { (g : M → Option Being) (f : M → Being) → is_alive (population entities.now) entity ≡ true → Answers (F.post ids.now) ((place T.conversion).mentions saved) g → NamedBy g ((place T.conversion).mentions saved) f → OnOk result (column masked.new ≡ row_put (column masked.old) (index_of entity) ((place T.conversion).loaded f saved)) }
+{
+    match saved {
+        Some(saved) => {
+            let value = T::convert_from(saved, alloc, ids)?;
+            put_at(entities, masked, entity, value)?;
+            Ok(())
+        }
+        None => {
+            take_out(entities, masked, entity)?;
+            Ok(())
+        }
+    }
+}
+
+// Puts a component at an entity that is alive.
+fn put_at<T: Component + Drop>(
+    entities: &EntitiesRes,
+    masked: &mut MaskedStorage<T>,
+    entity: Entity,
+    value: T,
+) -> Result<(), AllocError>
+    ensures alive { is_alive (population entities.now) entity ≡ true → OnOk result (masked.new.map ≡ finmap.insert masked.old.map (index_of entity) value) }
+    ensures dead { is_alive (population entities.now) entity ≡ false → OnOk result (masked.new.map ≡ masked.old.map) }
+{
+    match WriteStorage::new(entities, masked).insert(entity, value) {
+        Ok(_) => Ok(()),
+        Err(InsertError::WrongGeneration(_, _)) => Ok(()),
+        Err(InsertError::OutOfMemory(_)) => Err(AllocError),
+    }
+}
+
+// Takes the component of an entity that is alive out.
+fn take_out<T: Component + Drop>(
+    entities: &EntitiesRes,
+    masked: &mut MaskedStorage<T>,
+    entity: Entity,
+) -> Result<(), AllocError>
+    ensures present { is_some (found_in entities.now masked.old entity) ≡ true → OnOk result (masked.new.map ≡ finmap.remove masked.old.map (index_of entity)) }
+    ensures absent { found_in entities.now masked.old entity ≡ None → OnOk result (masked.new.map ≡ masked.old.map) }
+{
+    match WriteStorage::new(entities, masked).remove(entity) {
+        Ok(_) => Ok(()),
+        Err(e) => Err(e),
+    }
+}
+
+/// Loads records in order. Each names its entity by its marker, then those that its components mention, place by place; an id names
+/// the entity that it is mapped to, if that is alive and has a marker of this id, and else a new one, whose birth is pending. Then its
+/// places are stored, where none takes the component out. After a refusal the records before the refused one are loaded, and of that
+/// one the entities made and the places before the refused one stay.
+///
+/// Ports `DeserializeComponents::deserialize`.
+pub fn deserialize<M: Marker, P: DeserializeComponents<M>>(
+    alloc: Global,
+    masked: &mut P,
+    entities: &mut EntitiesRes,
+    markers: &mut MaskedStorage<M>,
+    allocator: &mut M::Allocator,
+    list: Vec<EntityData<M, P::Data>>,
+) -> Result<(), LoadError>
+where
+    M::Allocator: MarkerAllocator<M>,
+    requires { (m n : M) → M.is_clone m n → m ≡ n }
+    ensures loans { P.SameLoans masked.old masked.new }
+    ensures loaded { OnOk result (Loads M.id_of M.Identifier.eq P.conversion
+        (record { naming = naming M.id_of entities.old (M.Allocator.mapping allocator.old) markers.old; rows = P.rows masked.old })
+        list.items
+        (record { naming = naming M.id_of entities.new (M.Allocator.mapping allocator.new) markers.new; rows = P.rows masked.new })) }
+{
+    for saved in list {
+        load_record(alloc, masked, entities, markers, allocator, saved)?;
+    }
+    Ok(())
+}
+
+// Loads a record.
+fn load_record<M: Marker, P: DeserializeComponents<M>>(
+    alloc: Global,
+    masked: &mut P,
+    entities: &mut EntitiesRes,
+    markers: &mut MaskedStorage<M>,
+    allocator: &mut M::Allocator,
+    saved: EntityData<M, P::Data>,
+) -> Result<(), LoadError>
+where
+    M::Allocator: MarkerAllocator<M>,
+    requires { (m n : M) → M.is_clone m n → m ≡ n }
+    ensures loans { P.SameLoans masked.old masked.new }
+    ensures loaded { OnOk result (LoadsRecord M.id_of M.Identifier.eq P.conversion
+        (record { naming = naming M.id_of entities.old (M.Allocator.mapping allocator.old) markers.old; rows = P.rows masked.old })
+        saved
+        (record { naming = naming M.id_of entities.new (M.Allocator.mapping allocator.new) markers.new; rows = P.rows masked.new })) }
+{
+    let EntityData { marker, components } = saved;
+    let entity = allocator.retrieve_entity(marker, markers, entities)?;
+    let mentioned = P::mentions(alloc, &components)?;
+    name_all(mentioned, markers, entities, allocator)?;
+    masked.deserialize_entity(alloc, entities, entity, components, |m: M| {
+        allocator.retrieve_entity_internal(m.id())
+    })
+}
+
+// Names what markers name, in order.
+fn name_all<M: Marker>(
+    mentioned: Vec<M>,
+    markers: &mut MaskedStorage<M>,
+    entities: &mut EntitiesRes,
+    allocator: &mut M::Allocator,
+) -> Result<(), LoadError>
+where
+    M::Allocator: MarkerAllocator<M>,
+    ensures { OnOk result (NamesAll M.Identifier.eq (naming M.id_of entities.old (M.Allocator.mapping allocator.old) markers.old) (map M.id_of mentioned.items) (naming M.id_of entities.new (M.Allocator.mapping allocator.new) markers.new)) }
+{
+    for m in mentioned {
+        let _ = allocator.retrieve_entity(m, markers, entities)?;
+    }
+    Ok(())
+}

@@ -1,0 +1,190 @@
+//! Markers, and what gives them their ids.
+ghost use Rattle.std.specs.Prelude.{◌≡◌, ◌↔◌, ◌⊎◌, true, false, ℕ, Option, Some, None, Ok, Err, IfOk, IfErr, OnOk, OnErr, IsTrue, is_some};
+ghost use Rattle.entities.specs.declared.entity.Entity.{Entity};
+ghost use Rattle.entities.specs.Census.{population};
+ghost use Rattle.entities.specs.Population.{NoneFree, NoneUnused, IsAlive, mark, index_of};
+ghost use Rattle.storages.specs.Life.{is_alive};
+ghost use Rattle.storages.specs.Limit.{IsIndex};
+ghost use Rattle.storages.specs.Slot.{IsSame};
+ghost use Rattle.storages.specs.WriteView.{slot, entities_of, found, storage_name};
+ghost use Rattle.saveload.specs.Naming.{naming, ids_in, Names, NamesNone, put_id, put_at};
+ghost use Rattle.saveload.specs.Marking.{MarksNew, IsOfIds, MayHaveGiven};
+
+use crate::mark_error::MarkError;
+use entities::{CreateError, EntitiesRes, Entity};
+use hibits::Index;
+use std::alloc::AllocError;
+use storages::{Component, MaskedStorage, WriteStorage};
+
+/// A component that names its entity by an id. Two markers of one id may differ in what else they hold.
+///
+/// Ports `specs::saveload::Marker`, whose `Allocator` here need not be one: who calls it asks for that.
+pub trait Marker: Component + Clone + Drop + Sized {
+    /// The type of the ids.
+    type Identifier: Copy + Eq;
+
+    /// What gives the ids.
+    type Allocator;
+
+    // The id of a marker.
+    ghost id_of: { Self → Self.Identifier };
+
+    /// The id, which stays the same.
+    fn id(&self) -> Self::Identifier
+        ensures { result ≡ id_of self.now };
+
+    /// Takes over what a newer marker of the same id holds: all of it, where nothing else is written.
+    fn update(&mut self, new: Self)
+        requires { id_of self.old ≡ id_of new }
+        ensures { id_of self.new ≡ id_of self.old }
+    {
+        *self = new;
+    }
+
+    // Two ids are equal just where the test says so.
+    ghost same_ids: { (a b : Self.Identifier) → IsTrue (Self.Identifier.eq a b) ↔ (a ≡ b) };
+}
+
+/// Gives ids to entities, and finds entities by ids. It is a finite map from ids to entities.
+///
+/// Ports `specs::saveload::MarkerAllocator`.
+pub trait MarkerAllocator<M: Marker> {
+    // The entity that each id is mapped to.
+    ghost mapping: { Self → M.Identifier → Option Entity };
+
+    // Whether an id may be given as a new one.
+    ghost MayBeNew: { Self → M.Identifier → Type 0 };
+
+    /// A marker of the given id, or of a new one, which is then mapped to the entity. A refusal leaves the map; for a given id
+    /// it is want of memory.
+    fn allocate(&mut self, entity: Entity, id: Option<M::Identifier>) -> Result<M, MarkError>
+        ensures given { (i : M.Identifier) → id ≡ Some i → IfOk result (λ m. M.id_of m ≡ i) }
+        ensures new { id ≡ None → IfOk result (λ m. MayBeNew self.old (M.id_of m)) }
+        ensures mapped { IfOk result (λ m. mapping self.new ≡ put_id M.Identifier.eq (mapping self.old) (M.id_of m) entity) }
+        ensures err { OnErr result (mapping self.new ≡ mapping self.old) }
+        ensures refused { IfErr result IsOfIds }
+        ensures given_refused { (i : M.Identifier) → id ≡ Some i → IfErr result (λ e. e ≡ MarkError.OutOfMemory) };
+
+    /// The entity that an id is mapped to.
+    fn retrieve_entity_internal(&self, id: M::Identifier) -> Option<Entity>
+        ensures { result ≡ mapping self.now id };
+
+    /// The entity that a marker names: the one that its id is mapped to, if that is alive and has a marker of this id, which is
+    /// then updated; else a new one, whose birth is pending, with this marker.
+    ///
+    /// After a refusal an entity that was made is marked, and the id may be mapped to it.
+    fn retrieve_entity(
+        &mut self,
+        marker: M,
+        storage: &mut MaskedStorage<M>,
+        entities: &mut EntitiesRes,
+    ) -> Result<Entity, CreateError>
+        ensures named { IfOk result (λ e. Names M.Identifier.eq (naming M.id_of entities.old (mapping self.old) storage.old) (M.id_of marker) e (naming M.id_of entities.new (mapping self.new) storage.new)) }
+        ensures err { OnErr result (NamesNone M.Identifier.eq (naming M.id_of entities.old (mapping self.old) storage.old) (M.id_of marker) (naming M.id_of entities.new (mapping self.new) storage.new)) }
+        ensures limit { result ≡ Err CreateError.IndexLimit → NoneFree (population entities.old) × NoneUnused (population entities.old) }
+    {
+        let id = marker.id();
+        if let Some(known) = self.retrieve_entity_internal(id) {
+            if entities.is_alive(known) && is_marked_with(storage, known.id(), id) {
+                update_at(storage, known.id(), marker)?;
+                return Ok(known);
+            }
+        }
+        let made = entities.create()?;
+        if self.allocate(made, Some(id)).is_err() {
+            return Err(given_up(entities, made));
+        }
+        if put_marker(storage, made.id(), marker).is_err() {
+            return Err(given_up(entities, made));
+        }
+        Ok(made)
+    }
+
+    /// Gives an entity that is alive a marker of a new id, if it has none. The answer is whether it is new, and none for an
+    /// entity that isn't alive; the marker is then found in the storage.
+    ///
+    /// After a refusal the storage is as before; where memory for the marker was refused, its id may stay mapped.
+    fn mark(
+        &mut self,
+        entity: Entity,
+        storage: &mut WriteStorage<'_, M>,
+    ) -> Result<Option<bool>, MarkError>
+        ensures same_reference { storage_name storage.new ≡ storage_name storage.old }
+        ensures entities { entities_of storage.new ≡ entities_of storage.old }
+        ensures dead { IfOk result (λ o. is_some o ≡ is_alive (population (entities_of storage.old)) entity) }
+        ensures is_new { IfOk result (λ o. o ≡ Some true → found storage.old entity ≡ None) }
+        ensures old { IfOk result (λ o. (o ≡ Some true → ⊥) → (slot storage.new ≡ slot storage.old) × (mapping self.new ≡ mapping self.old)) }
+        ensures was { IfOk result (λ o. o ≡ Some false → is_some (found storage.old entity) ≡ true) }
+        ensures new { IfOk result (λ o. o ≡ Some true → MarksNew M.id_of M.Identifier.eq (MayBeNew self.old) entity (mapping self.old) (mapping self.new) (slot storage.old) (slot storage.new)) }
+        ensures err { OnErr result (IsSame (slot storage.old) (slot storage.new)) }
+        ensures err_mapped { OnErr result (MayHaveGiven M.Identifier.eq (MayBeNew self.old) entity (mapping self.old) (mapping self.new)) }
+        ensures refused { IfErr result IsOfIds }
+    {
+        if !storage.fetched_entities().is_alive(entity) {
+            return Ok(None);
+        }
+        if storage.contains(entity) {
+            return Ok(Some(false));
+        }
+        let marker = self.allocate(entity, None)?;
+        match storage.insert(entity, marker) {
+            Ok(_) => Ok(Some(true)),
+            Err(_) => Err(MarkError::OutOfMemory),
+        }
+    }
+}
+
+// Whether an index has a marker of this id.
+fn is_marked_with<M: Marker>(storage: &MaskedStorage<M>, index: Index, id: M::Identifier) -> bool
+    ensures { IsTrue result ↔ (ids_in M.id_of storage.now index ≡ Some id) }
+{
+    match storage.get(index) {
+        Some(marker) => marker.id() == id,
+        None => false,
+    }
+}
+
+// Updates the marker of an index that has one of the same id.
+fn update_at<M: Marker>(
+    storage: &mut MaskedStorage<M>,
+    index: Index,
+    marker: M,
+) -> Result<(), CreateError>
+    requires { ids_in M.id_of storage.old index ≡ Some (M.id_of marker) }
+    ensures ids { OnOk result (ids_in M.id_of storage.new ≡ ids_in M.id_of storage.old) }
+    ensures err { OnErr result (ids_in M.id_of storage.new ≡ ids_in M.id_of storage.old) }
+    ensures refused { IfErr result (λ e. e ≡ CreateError.OutOfMemory) }
+{
+    match storage.get_mut(index) {
+        Ok(place) => {
+            place.update(marker);
+            Ok(())
+        }
+        Err(_) => Err(CreateError::OutOfMemory),
+    }
+}
+
+// Marks an entity that was made in vain.
+fn given_up(entities: &mut EntitiesRes, made: Entity) -> CreateError
+    ensures error { result ≡ CreateError.OutOfMemory }
+    ensures marked { IsAlive (population entities.old) made → population entities.new ≡ mark (population entities.old) (index_of made) }
+{
+    let _ = entities.delete(made);
+    CreateError::OutOfMemory
+}
+
+// Puts a marker at an index.
+fn put_marker<M: Marker>(
+    storage: &mut MaskedStorage<M>,
+    index: Index,
+    marker: M,
+) -> Result<(), AllocError>
+    requires { IsIndex index }
+    ensures ok { OnOk result (ids_in M.id_of storage.new ≡ put_at (ids_in M.id_of storage.old) index (M.id_of marker)) }
+    ensures err { OnErr result (ids_in M.id_of storage.new ≡ ids_in M.id_of storage.old) }
+{
+    match storage.put(index, marker) {
+        Ok(_) => Ok(()),
+        Err(_) => Err(AllocError),
+    }
+}

@@ -1,0 +1,117 @@
+//! Saving the entities that have markers, and those that they refer to.
+ghost use Rattle.std.specs.Prelude.{◌≡◌, ◌++◌, Some, None, IfOk, IfErr, List, [], ◌∷◌};
+ghost use Rattle.std.specs.FinMap as map;
+ghost use Rattle.entities.specs.declared.entity.Entity.{Entity};
+ghost use Rattle.entities.specs.Census.{population};
+ghost use Rattle.hibits.specs.Left.{left};
+ghost use Rattle.storages.specs.ReadView.{found, slot as slot_read, entities_of as entities_read};
+ghost use Rattle.storages.specs.WriteView.{slot, entities_of, storage_name, found as found_by};
+ghost use Rattle.saveload.specs.Saved.{IsRecord, IsSavedList, all_marked};
+ghost use Rattle.saveload.specs.Closing.{marked_in, SavesAll};
+
+use crate::entity_data::EntityData;
+use crate::error::SaveError;
+use crate::marker::{Marker, MarkerAllocator};
+use crate::marking::mark_all;
+use crate::places::SerializeComponents;
+use entities::{EntitiesRes, Entity};
+use hibits::{BitSetAnd, Walk};
+use std::alloc::{AllocError, Global};
+use storages::{MaskedStorage, ReadStorage, WriteStorage};
+
+/// Saves every entity that is alive and has a marker, ascending. It marks nothing: a reference to one without a marker is refused.
+///
+/// Ports `SerializeComponents::serialize`.
+pub fn serialize<M: Marker + Copy, P: SerializeComponents<M>>(
+    alloc: Global,
+    places: &P,
+    markers: &ReadStorage<'_, M>,
+) -> Result<Vec<EntityData<M, P::Data>>, SaveError>
+    ensures { IfOk result (λ rs. IsSavedList P.conversion (λ e. found markers.now e) (λ e. P.values places.now e)
+        (all_marked (population (entities_read markers.now)) (slot_read markers.now)) rs.items) }
+{
+    let list = marked(alloc, markers.fetched_entities(), markers.storage())?;
+    save_list(alloc, places, markers, &list)
+}
+
+/// Saves every entity that is alive and has a marker, ascending, and then those that they lead to, which get markers, in the order in
+/// which they are first mentioned. After a refusal the markers that were given stay.
+///
+/// Ports `SerializeComponents::serialize_recursive`.
+pub fn serialize_recursive<M: Marker + Copy, A: MarkerAllocator<M>, P: SerializeComponents<M>>(
+    alloc: Global,
+    places: &P,
+    allocator: &mut A,
+    markers: &mut WriteStorage<'_, M>,
+) -> Result<Vec<EntityData<M, P::Data>>, SaveError>
+    ensures same_reference { storage_name markers.new ≡ storage_name markers.old }
+    ensures entities { entities_of markers.new ≡ entities_of markers.old }
+    ensures ok { IfOk result (λ rs. SavesAll P.conversion (λ e. found_by markers.new e) (λ e. P.values places.now e) (slot markers.old) (slot markers.new)
+        (all_marked (population (entities_of markers.old)) (slot markers.old)) rs.items) }
+{
+    let mut list = marked(alloc, markers.fetched_entities(), markers.storage())?;
+    mark_all(alloc, places, allocator, markers, &mut list)?;
+    let marked = ReadStorage::new(markers.fetched_entities(), markers.storage());
+    save_list(alloc, places, &marked, &list)
+}
+
+// The entities that are alive and have a marker, ascending.
+fn marked<M: Marker>(
+    alloc: Global,
+    entities: &EntitiesRes,
+    markers: &MaskedStorage<M>,
+) -> Result<Vec<Entity>, AllocError>
+    ensures { IfOk result (λ v. v.items ≡ all_marked (population entities.now) markers.now) }
+{
+    let mask = BitSetAnd(entities.living(), markers.mask());
+    let mut list = Vec::new(alloc);
+    let mut walk = Walk::new(&mask);
+    while let Some(i) = walk.next(&mask) {
+        list.push(entities.entity(i))?;
+    }
+    Ok(list)
+}
+
+// Saves the entities of a list.
+fn save_list<M: Marker + Copy, P: SerializeComponents<M>>(
+    alloc: Global,
+    places: &P,
+    markers: &ReadStorage<'_, M>,
+    list: &[Entity],
+) -> Result<Vec<EntityData<M, P::Data>>, SaveError>
+    ensures { IfOk result (λ rs. IsSavedList P.conversion (λ e. found markers.now e) (λ e. P.values places.now e) list.now rs.items) }
+{
+    let mut records = Vec::new(alloc);
+    for e in list {
+        let saved = save_one(alloc, places, markers, *e)?;
+        if records.push(saved).is_err() {
+            return Err(SaveError::OutOfMemory);
+        }
+    }
+    Ok(records)
+}
+
+// Saves an entity.
+fn save_one<M: Marker + Copy, P: SerializeComponents<M>>(
+    alloc: Global,
+    places: &P,
+    markers: &ReadStorage<'_, M>,
+    entity: Entity,
+) -> Result<EntityData<M, P::Data>, SaveError>
+    ensures { IfOk result (IsRecord P.conversion (λ e. found markers.now e) (λ e. P.values places.now e) entity) }
+{
+    match markers.get(entity) {
+        Some(marker) => {
+            let components = places.serialize_entity(
+                alloc,
+                entity,
+                |x: Entity| markers.get(x).copied(),
+            )?;
+            Ok(EntityData {
+                marker: *marker,
+                components,
+            })
+        }
+        None => Err(SaveError::Unmarked(entity)),
+    }
+}

@@ -1,0 +1,176 @@
+//! Markers that are numbers.
+ghost use Rattle.std.specs.Prelude.{◌≡◌, ℕ, ◌+◌, ◌^◌, ◌≤◌, ◌⊎◌, max, true, false, Option, Some, None, Ok, Err, IfOk, IfErr, OnOk, OnErr, is_some, ⊤};
+ghost use Rattle.entities.specs.Census.{population};
+ghost use Rattle.storages.specs.Life.{is_alive};
+ghost use Rattle.storages.specs.Slot.{IsSame};
+ghost use Rattle.storages.specs.WriteView.{slot, entities_of, found, storage_name};
+ghost use Rattle.saveload.specs.Naming.{put_id};
+ghost use Rattle.saveload.specs.Marking.{MarksNew, MayHaveGiven, IsOfIds};
+ghost use Rattle.saveload.specs.Numbers.{same_numbers};
+
+use crate::mark_error::MarkError;
+use crate::marker::{Marker, MarkerAllocator};
+use entities::Entity;
+use std::alloc::{AllocError, Global};
+use std::collections::HashMap;
+use std::marker::PhantomData;
+use storages::{Component, DenseVecStorage, WriteStorage};
+
+/// A marker that is a number, of a kind `T`. Ports `specs::saveload::SimpleMarker`.
+pub struct SimpleMarker<T> {
+    id: u64,
+    kind: PhantomData<T>,
+}
+
+impl<T> Clone for SimpleMarker<T> {
+    ghost is_clone = { λ a b. a ≡ b };
+
+    ghost is_infallible = { λ _. ⊤ };
+
+    fn clone(&self) -> Result<Self, AllocError> {
+        Ok(SimpleMarker {
+            id: self.id,
+            kind: PhantomData,
+        })
+    }
+}
+
+impl<T> Copy for SimpleMarker<T> {}
+
+impl<T> Component for SimpleMarker<T> {
+    type Storage = DenseVecStorage<Self>;
+}
+
+impl<T> Marker for SimpleMarker<T> {
+    type Identifier = u64;
+
+    type Allocator = SimpleMarkerAllocator<T>;
+
+    ghost id_of = { λ m. m.id };
+
+    fn id(&self) -> u64 {
+        self.id
+    }
+
+    ghost same_ids = { same_numbers };
+}
+
+/// Gives the numbers from 0 on as ids, each once. Ports `specs::saveload::SimpleMarkerAllocator`.
+#[derive(Drop)]
+pub struct SimpleMarkerAllocator<T> {
+    next: u128,
+    mapping: HashMap<u64, Entity>,
+    kind: PhantomData<T>,
+}
+
+impl<T> SimpleMarkerAllocator<T> {
+    ghost use Rattle.saveload.specs.Simple.{given};
+
+    /// One that has given no id. It takes no memory.
+    pub fn new(alloc: Global) -> Self
+        ensures next { result.next ≡ 0 }
+        ensures mapping { (id : ℕ) → given result id ≡ None }
+    {
+        SimpleMarkerAllocator {
+            next: 0,
+            mapping: HashMap::new(alloc),
+            kind: PhantomData,
+        }
+    }
+}
+
+impl<T> MarkerAllocator<SimpleMarker<T>> for SimpleMarkerAllocator<T> {
+    ghost use Rattle.saveload.specs.Simple.{given, number_of_marker};
+
+    ghost mapping = { λ a. given a };
+
+    ghost MayBeNew = { λ a id. id ≡ a.next };
+
+    fn allocate(&mut self, entity: Entity, id: Option<u64>) -> Result<SimpleMarker<T>, MarkError>
+        ensures given { (i : ℕ) → id ≡ Some i → IfOk result (λ m. m.id ≡ i) }
+        ensures new { id ≡ None → IfOk result (λ m. m.id ≡ self.old.next) }
+        ensures next { IfOk result (λ m. self.new.next ≡ max self.old.next (m.id + 1)) }
+        ensures exhausted { result ≡ Err MarkError.IdsExhausted → (id ≡ None) × (2 ^ 64 ≤ self.old.next) }
+        ensures others { IfErr result (λ e. (e ≡ MarkError.IdsExhausted → ⊥) → e ≡ MarkError.OutOfMemory) }
+        ensures mapped { IfOk result (λ m. given self.new ≡ put_id (⟦<u64 as PartialEq>⟧.eq) (given self.old) m.id entity) }
+        ensures err { OnErr result (given self.new ≡ given self.old) }
+        ensures err_next { OnErr result (self.new.next ≡ self.old.next) }
+        ensures refused { IfErr result IsOfIds }
+        ensures given_refused { (i : ℕ) → id ≡ Some i → IfErr result (λ e. e ≡ MarkError.OutOfMemory) }
+    {
+        let chosen = match id {
+            Some(given) => given,
+            None => {
+                if self.next > u64::MAX as u128 {
+                    return Err(MarkError::IdsExhausted);
+                }
+                self.next as u64
+            }
+        };
+        if self.mapping.insert(chosen, entity).is_err() {
+            return Err(MarkError::OutOfMemory);
+        }
+        if chosen as u128 >= self.next {
+            self.next = chosen as u128 + 1;
+        }
+        Ok(SimpleMarker {
+            id: chosen,
+            kind: PhantomData,
+        })
+    }
+
+    fn retrieve_entity_internal(&self, id: u64) -> Option<Entity> {
+        self.mapping.get(&id).copied()
+    }
+
+    /// As the trait says. Where memory is refused, no id is given.
+    fn mark(
+        &mut self,
+        entity: Entity,
+        storage: &mut WriteStorage<'_, SimpleMarker<T>>,
+    ) -> Result<Option<bool>, MarkError>
+        ensures same_reference { storage_name storage.new ≡ storage_name storage.old }
+        ensures entities { entities_of storage.new ≡ entities_of storage.old }
+        ensures dead { IfOk result (λ o. is_some o ≡ is_alive (population (entities_of storage.old)) entity) }
+        ensures is_new { IfOk result (λ o. o ≡ Some true → found storage.old entity ≡ None) }
+        ensures old { IfOk result (λ o. (o ≡ Some true → ⊥) → (slot storage.new ≡ slot storage.old) × (given self.new ≡ given self.old)) }
+        ensures was { IfOk result (λ o. o ≡ Some false → is_some (found storage.old entity) ≡ true) }
+        ensures new { IfOk result (λ o. o ≡ Some true → MarksNew number_of_marker (⟦<u64 as PartialEq>⟧.eq) (λ id. id ≡ self.old.next) entity (given self.old) (given self.new) (slot storage.old) (slot storage.new)) }
+        ensures next { IfOk result (λ o. o ≡ Some true → self.new.next ≡ self.old.next + 1) }
+        ensures old_next { IfOk result (λ o. (o ≡ Some true → ⊥) → self.new.next ≡ self.old.next) }
+        ensures err { OnErr result (IsSame (slot storage.old) (slot storage.new)) }
+        ensures err_given { OnErr result (given self.new ≡ given self.old) }
+        ensures err_next { OnErr result (self.new.next ≡ self.old.next) }
+        ensures err_mapped { OnErr result (MayHaveGiven (⟦<u64 as PartialEq>⟧.eq) (λ id. id ≡ self.old.next) entity (given self.old) (given self.new)) }
+        ensures exhausted { result ≡ Err MarkError.IdsExhausted → 2 ^ 64 ≤ self.old.next }
+        ensures others { IfErr result (λ e. (e ≡ MarkError.IdsExhausted → ⊥) → e ≡ MarkError.OutOfMemory) }
+        ensures refused { IfErr result IsOfIds }
+    {
+        if !storage.fetched_entities().is_alive(entity) {
+            return Ok(None);
+        }
+        if storage.contains(entity) {
+            return Ok(Some(false));
+        }
+        if self.next > u64::MAX as u128 {
+            return Err(MarkError::IdsExhausted);
+        }
+        let id = self.next as u64;
+        if self.mapping.reserve(1).is_err() {
+            return Err(MarkError::OutOfMemory);
+        }
+        let marker = SimpleMarker {
+            id,
+            kind: PhantomData,
+        };
+        if storage.insert(entity, marker).is_err() {
+            return Err(MarkError::OutOfMemory);
+        }
+        match self.mapping.insert(id, entity) {
+            Ok(_) => {}
+            Err(_) => unreachable!(),
+        }
+        self.next += 1;
+        Ok(Some(true))
+    }
+}

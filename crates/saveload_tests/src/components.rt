@@ -1,0 +1,101 @@
+//! Components that are saved.
+ghost use Rattle.saveload.specs.Plain.{plain_conversion, plain_faithful};
+ghost use Rattle.saveload_tests.specs.Links.{link_conversion, link_faithful};
+
+use entities::Entity;
+use saveload::{ConvertSaveload, LoadError, Marker, SaveError};
+use std::alloc::{AllocError, Global};
+use storages::{Component, VecStorage};
+
+/// Where an entity is.
+#[derive(Clone, Copy, PartialEq, Eq)]
+pub struct Position(
+    /// The place.
+    pub i64,
+);
+
+impl Component for Position {
+    type Storage = VecStorage<Self>;
+}
+
+impl<M: Marker> ConvertSaveload<M> for Position {
+    type Data = Position;
+
+    ghost conversion = { plain_conversion };
+
+    fn references(&self, alloc: Global) -> Result<Vec<Entity>, AllocError> {
+        Ok(Vec::new(alloc))
+    }
+
+    fn mentions(alloc: Global, _saved: &Position) -> Result<Vec<M>, AllocError> {
+        Ok(Vec::new(alloc))
+    }
+
+    fn convert_into<F: Fn(Entity) -> Option<M>>(
+        &self,
+        _alloc: Global,
+        _ids: F,
+    ) -> Result<Position, SaveError> {
+        Ok(*self)
+    }
+
+    fn convert_from<F: Fn(M) -> Option<Entity>>(
+        saved: Position,
+        _alloc: Global,
+        _ids: F,
+    ) -> Result<Self, LoadError> {
+        Ok(saved)
+    }
+
+    ghost faithful = { plain_faithful };
+}
+
+/// What an entity is linked to.
+#[derive(Clone, Copy, PartialEq, Eq)]
+pub struct Link(
+    /// The other entity.
+    pub Entity,
+);
+
+impl Component for Link {
+    type Storage = VecStorage<Self>;
+}
+
+impl<M: Marker> ConvertSaveload<M> for Link {
+    type Data = M;
+
+    ghost conversion = { link_conversion (λ v. v.0) (λ e. record { 0 = e }) };
+
+    fn references(&self, alloc: Global) -> Result<Vec<Entity>, AllocError> {
+        let mut list = Vec::with_capacity(alloc, 1)?;
+        list.push(self.0)?;
+        Ok(list)
+    }
+
+    fn mentions(alloc: Global, saved: &M) -> Result<Vec<M>, AllocError> {
+        let mut list = Vec::with_capacity(alloc, 1)?;
+        list.push(saved.clone()?)?;
+        Ok(list)
+    }
+
+    fn convert_into<F: Fn(Entity) -> Option<M>>(
+        &self,
+        _alloc: Global,
+        ids: F,
+    ) -> Result<M, SaveError> {
+        ids(self.0).ok_or(SaveError::Unmarked(self.0))
+    }
+
+    fn convert_from<F: Fn(M) -> Option<Entity>>(
+        saved: M,
+        _alloc: Global,
+        ids: F,
+    ) -> Result<Self, LoadError> {
+        match ids(saved) {
+            Some(e) => Ok(Link(e)),
+            None => Err(LoadError::NotTheForm),
+        }
+    }
+
+    ghost faithful = { link_faithful (λ v. v.0) (λ e. record { 0 = e }) };
+}

@@ -1,0 +1,11 @@
+//! Markers, saving and loading, as tests.
+#![tactic(auto)]
+
+#[cfg(test)]
+mod components;
+#[cfg(test)]
+mod marker_tests;
+#[cfg(test)]
+mod saving_tests;
+#[cfg(test)]
+mod worlds;

@@ -1,0 +1,118 @@
+//! Numbered markers: which id an entity gets, and which entity an id names.
+use crate::worlds::{World, built, comes_true, id_at, ids_are, is_marked_now, mark, marker_of};
+use entities::Entity;
+use saveload::{MarkError, MarkerAllocator};
+use std::test::Fail;
+
+// Two are marked, the first of them twice.
+fn marked_in_turn(world: &mut World) -> Result<bool, Fail> {
+    let first = world.entities.entity(0);
+    let second = world.entities.entity(1);
+    let is_new = mark(world, first) == Ok(Some(true));
+    let is_old = mark(world, first) == Ok(Some(false));
+    let is_next = mark(world, second) == Ok(Some(true));
+    Ok(
+        is_new
+            && is_old
+            && is_next
+            && ids_are(world, [Some(0), Some(1)].as_slice())
+            && world.allocator.retrieve_entity_internal(1) == Some(second)
+            && world.allocator.retrieve_entity_internal(2) == None,
+    )
+}
+
+#[test]
+fn mark_gives_the_next_number_once(rt: HostRuntime) -> Result<(), Fail> {
+    assert!(rt; comes_true(rt.alloc(), 2, marked_in_turn)?);
+    Ok(())
+}
+
+// Nobody lives, and one is marked.
+fn marked_in_vain(world: &mut World) -> Result<bool, Fail> {
+    let stale = Entity::from_parts(0, 1).ok_or("no entity")?;
+    Ok(mark(world, stale) == Ok(None) && id_at(world, 0) == None)
+}
+
+#[test]
+fn mark_of_one_that_is_not_alive(rt: HostRuntime) -> Result<(), Fail> {
+    assert!(rt; comes_true(rt.alloc(), 0, marked_in_vain)?);
+    Ok(())
+}
+
+// The entity that a marker of an id names.
+fn named_by(world: &mut World, id: u64) -> Result<Entity, Fail> {
+    let marker = marker_of(world.alloc, id, world.entities.entity(0))?;
+    let named = world
+        .allocator
+        .retrieve_entity(marker, &mut world.markers, &mut world.entities);
+    Ok(named.ok().ok_or("refused")?)
+}
+
+// An id names a new entity, and then that one again, and the next id another; a new id is above both.
+fn named_twice(world: &mut World) -> Result<bool, Fail> {
+    let named = named_by(world, 7)?;
+    let again = named_by(world, 7)?;
+    let other = named_by(world, 8)?;
+    Ok(
+        named.id() == 1
+            && again == named
+            && other.id() == 2
+            && world.allocator.retrieve_entity_internal(7) == Some(named)
+            && is_marked_now(world, 0)
+            && ids_are(world, [Some(9), Some(7), Some(8)].as_slice()),
+    )
+}
+
+#[test]
+fn a_marker_names_one_entity(rt: HostRuntime) -> Result<(), Fail> {
+    assert!(rt; comes_true(rt.alloc(), 1, named_twice)?);
+    Ok(())
+}
+
+// An entity loses its marker, whose id then names another.
+fn lost_and_named(world: &mut World) -> Result<bool, Fail> {
+    let lost = is_marked_now(world, 0) && world.markers.drop(0).is_ok();
+    let named = named_by(world, 0)?;
+    Ok(
+        lost && named.id() == 1
+            && world.allocator.retrieve_entity_internal(0) == Some(named)
+            && ids_are(world, [None, Some(0)].as_slice()),
+    )
+}
+
+#[test]
+fn a_lost_marker_is_not_found_again(rt: HostRuntime) -> Result<(), Fail> {
+    assert!(rt; comes_true(rt.alloc(), 1, lost_and_named)?);
+    Ok(())
+}
+
+// After the last id none is left.
+fn named_by_the_last(world: &mut World) -> Result<bool, Fail> {
+    let _named = named_by(world, u64::MAX)?;
+    let entity = world.entities.entity(0);
+    Ok(mark(world, entity) == Err(MarkError::IdsExhausted) && id_at(world, 0) == None)
+}
+
+#[test]
+fn ids_are_used_up(rt: HostRuntime) -> Result<(), Fail> {
+    assert!(rt; comes_true(rt.alloc(), 1, named_by_the_last)?);
+    Ok(())
+}
+
+// Two are built.
+fn built_in_turn(world: &mut World) -> Result<bool, Fail> {
+    let first = built(world)?;
+    let second = built(world)?;
+    Ok(
+        first.id() == 0
+            && second.id() == 1
+            && ids_are(world, [Some(0), Some(1)].as_slice())
+            && !world.entities.marked().contains(0),
+    )
+}
+
+#[test]
+fn a_builder_marks_its_entity(rt: HostRuntime) -> Result<(), Fail> {
+    assert!(rt; comes_true(rt.alloc(), 0, built_in_turn)?);
+    Ok(())
+}

@@ -1,0 +1,249 @@
+//! Worlds of entities with positions, links and markers.
+use crate::components::{Link, Position};
+use entities::{EntitiesRes, Entity};
+use saveload::{
+    EntityData, LoadError, MarkError, Marker, MarkerAllocator, SaveError, SimpleMarker,
+    SimpleMarkerAllocator, WithMarker, deserialize, serialize, serialize_recursive,
+};
+use std::alloc::Global;
+use std::test::Fail;
+use storages::{Component, MaskedStorage, ReadStorage, TryDefault, WriteStorage};
+
+/// A kind of markers.
+#[derive(Clone, Copy)]
+pub struct NetworkSync;
+
+/// Its markers.
+pub type NetMarker = SimpleMarker<NetworkSync>;
+
+/// What is saved of an entity's position and link.
+pub type SavedPair = (Option<Position>, Option<NetMarker>);
+
+/// What is saved of an entity.
+pub type Record = EntityData<NetMarker, SavedPair>;
+
+/// Entities, with what is stored for them.
+#[derive(Drop)]
+pub struct World {
+    /// Where lists get their memory.
+    pub alloc: Global,
+    /// The entities.
+    pub entities: EntitiesRes,
+    /// Their positions.
+    pub positions: MaskedStorage<Position>,
+    /// Their links.
+    pub links: MaskedStorage<Link>,
+    /// Their markers.
+    pub markers: MaskedStorage<NetMarker>,
+    /// What gives the markers their ids.
+    pub allocator: SimpleMarkerAllocator<NetworkSync>,
+}
+
+/// A world from which entities are saved, and one into which they are loaded.
+#[derive(Drop)]
+pub struct Worlds {
+    /// The first.
+    pub old: World,
+    /// The other.
+    pub new: World,
+}
+
+/// What a story can be told of.
+pub trait Told: Sized {
+    /// So many living entities, from index 0 on, without a component.
+    fn with_entities(alloc: Global, count: u32) -> Result<Self, Fail>;
+}
+
+// A storage without components.
+fn empty<T: Component>(alloc: Global) -> Result<MaskedStorage<T>, Fail> {
+    Ok(MaskedStorage::new(alloc, T::Storage::try_default(alloc)?))
+}
+
+impl Told for World {
+    fn with_entities(alloc: Global, count: u32) -> Result<Self, Fail> {
+        let mut entities = EntitiesRes::new(alloc);
+        for _ in 0..count {
+            entities.create().ok().ok_or("no entity")?;
+        }
+        Ok(World {
+            alloc,
+            entities,
+            positions: empty(alloc)?,
+            links: empty(alloc)?,
+            markers: empty(alloc)?,
+            allocator: SimpleMarkerAllocator::new(alloc),
+        })
+    }
+}
+
+impl Told for Worlds {
+    /// The entities are those of the first; nobody lives in the other.
+    fn with_entities(alloc: Global, count: u32) -> Result<Self, Fail> {
+        Ok(Worlds {
+            old: World::with_entities(alloc, count)?,
+            new: World::with_entities(alloc, 0)?,
+        })
+    }
+}
+
+/// Whether a story of a world of so many living entities, from index 0 on, comes true. The world is a local here alone, where its type is
+/// not known: a function that owns storages is slow to prove.
+pub fn comes_true<W: Told + Drop, F: FnOnce(&mut W) -> Result<bool, Fail>>(
+    alloc: Global,
+    count: u32,
+    story: F,
+) -> Result<bool, Fail>
+    requires { F.IsAlwaysCallable story }
+{
+    let mut world = W::with_entities(alloc, count)?;
+    story(&mut world)
+}
+
+/// Marks an entity.
+pub fn mark(world: &mut World, entity: Entity) -> Result<Option<bool>, MarkError> {
+    let mut markers = WriteStorage::new(&world.entities, &mut world.markers);
+    world.allocator.mark(entity, &mut markers)
+}
+
+/// Whether the entity of an index just got its marker.
+pub fn is_marked_now(world: &mut World, index: u32) -> bool {
+    let entity = world.entities.entity(index);
+    mark(world, entity) == Ok(Some(true))
+}
+
+/// A new entity with a marker.
+pub fn built(world: &mut World) -> Result<Entity, Fail> {
+    let builder = world.entities.build_entity().ok().ok_or("no entity")?;
+    let builder = builder.marked(&mut world.markers, &mut world.allocator);
+    Ok(builder.ok().ok_or("refused")?.build())
+}
+
+/// Whether an index could be given a position.
+pub fn is_placed(world: &mut World, index: u32, place: i64) -> bool {
+    let entity = world.entities.entity(index);
+    WriteStorage::new(&world.entities, &mut world.positions)
+        .insert(entity, Position(place))
+        .is_ok()
+}
+
+/// Whether an index could be linked to another.
+pub fn is_linked(world: &mut World, from: u32, to: u32) -> bool {
+    let target = world.entities.entity(to);
+    let source = world.entities.entity(from);
+    WriteStorage::new(&world.entities, &mut world.links)
+        .insert(source, Link(target))
+        .is_ok()
+}
+
+/// The id at an index.
+pub fn id_at(world: &World, index: u32) -> Option<u64> {
+    match world.markers.get(index) {
+        Some(marker) => Some(marker.id()),
+        None => None,
+    }
+}
+
+/// The place of an index.
+pub fn place_of(world: &World, index: u32) -> Option<i64> {
+    match world.positions.get(index) {
+        Some(position) => Some(position.0),
+        None => None,
+    }
+}
+
+/// The index that an index is linked to.
+pub fn link_of(world: &World, index: u32) -> Option<u32> {
+    match world.links.get(index) {
+        Some(link) => Some(link.0.id()),
+        None => None,
+    }
+}
+
+/// Whether the indices from 0 on have these ids.
+pub fn ids_are(world: &World, ids: &[Option<u64>]) -> bool {
+    let mut index = 0u32;
+    for id in ids {
+        if id_at(world, index) != *id {
+            return false;
+        }
+        index = index.wrapping_add(1);
+    }
+    true
+}
+
+/// Whether the indices from 0 on have these links.
+pub fn links_are(world: &World, links: &[Option<u32>]) -> bool {
+    let mut index = 0u32;
+    for link in links {
+        if link_of(world, index) != *link {
+            return false;
+        }
+        index = index.wrapping_add(1);
+    }
+    true
+}
+
+/// A marker of an id, from an allocator that knows no other.
+pub fn marker_of(alloc: Global, id: u64, entity: Entity) -> Result<NetMarker, Fail> {
+    let mut allocator = SimpleMarkerAllocator::new(alloc);
+    Ok(
+        allocator
+            .allocate(entity, Some(id))
+            .ok()
+            .ok_or("no marker")?,
+    )
+}
+
+/// Saves those that have markers.
+pub fn save(world: &World) -> Result<Vec<Record>, SaveError> {
+    let places = (
+        ReadStorage::new(&world.entities, &world.positions),
+        ReadStorage::new(&world.entities, &world.links),
+    );
+    let markers = ReadStorage::new(&world.entities, &world.markers);
+    serialize(world.alloc, &places, &markers)
+}
+
+/// Saves them and what they lead to.
+pub fn save_all(world: &mut World) -> Result<Vec<Record>, SaveError> {
+    let places = (
+        ReadStorage::new(&world.entities, &world.positions),
+        ReadStorage::new(&world.entities, &world.links),
+    );
+    let mut markers = WriteStorage::new(&world.entities, &mut world.markers);
+    serialize_recursive(world.alloc, &places, &mut world.allocator, &mut markers)
+}
+
+/// Loads records.
+pub fn load(world: &mut World, list: Vec<Record>) -> Result<(), LoadError> {
+    deserialize(
+        world.alloc,
+        &mut (&mut world.positions, &mut world.links),
+        &mut world.entities,
+        &mut world.markers,
+        &mut world.allocator,
+        list,
+    )
+}
+
+// The id of a record, and that of its link.
+fn ids_of(record: &Record) -> (u64, Option<u64>) {
+    let link = match &record.components.1 {
+        Some(marker) => Some(marker.id()),
+        None => None,
+    };
+    (record.marker.id(), link)
+}
+
+/// Whether these are the ids of records and of their links.
+pub fn records_are(list: &[Record], ids: &[(u64, Option<u64>)]) -> bool {
+    if list.len() != ids.len() {
+        return false;
+    }
+    for (record, expected) in list.iter().zip(ids) {
+        if ids_of(record) != *expected {
+            return false;
+        }
+    }
+    true
+}

@@ -1,0 +1,14 @@
+-- Queues and lists of jobs, as lists.
+use Rattle.std.specs.Prelude.{List}
+use Rattle.specs.specs.declared.job.Job.{Job}
+use Rattle.specs.specs.declared.job.LazyUpdate.{LazyUpdate}
+use Rattle.specs.specs.declared.job.JobList.{JobList}
+
+module _ {S J K V : Type 0} where
+  -- the jobs of a queue, the first first
+  abbrev pub queued : LazyUpdate S J K V → List (Job S J K V)
+  queued q = q.jobs.items
+
+  -- the jobs of a list, the first first
+  abbrev pub listed : JobList S J K V → List (Job S J K V)
+  listed q = q.jobs.items

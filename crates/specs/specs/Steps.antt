@@ -1,0 +1,109 @@
+-- The world as a machine with a queue of jobs: its states, its steps and its runs.
+use Rattle.std.specs.Prelude.{◌≡◌, ℕ, Bool, List, [], ◌∷◌, ◌++◌, IsTrue, ◌↔◌, None, length}
+use Rattle.std.specs.Option.{option_to_list}
+use Rattle.entities.specs.Population.{born, born_pending, IsAlive, IsMerged}
+use Rattle.entities.specs.Merges.{the_marked}
+use Rattle.specs.specs.declared.command.Maintained.{Maintained}
+use Rattle.specs.specs.declared.command.Command.{Command}
+use Rattle.specs.specs.declared.command.Command.TheVariants.{Register, Create, CreatePending, Delete, DeleteAll, MarkDead, IsAlive as AskAlive, IsLiving as AskLiving, EntityAt, Insert, Get, Remove, Clear, Count as AskCount, Select, Queue, Maintain, Reader, Events, DropReader, Emit}
+use Rattle.specs.specs.declared.command.Reply.{Reply}
+use Rattle.specs.specs.declared.command.Reply.TheVariants.{Done, Entity as Told, Bool as Yes, Value, Count, Indices, Maintained as Kept, Reader as NewReader, Events as Given, Refused, InsertRefused}
+use Rattle.specs.specs.declared.command.Refusal.{Refusal}
+use Rattle.specs.specs.declared.command.Refusal.TheVariants.{WrongGeneration as Wrong, OutOfMemory}
+use Rattle.specs.specs.declared.job.Job.{Job}
+use Rattle.specs.specs.declared.world.World.{World}
+use Rattle.specs.specs.Jobs.{RunsJobs}
+use Rattle.specs.specs.People.{Births, BirthIsRefused, DeathIsRefused, Marks, MarkIsRefused, IsEntityAt, NoneMarked, NobodyLives, the_living}
+use Rattle.specs.specs.Queue.{queued}
+use Rattle.specs.specs.Readers.{RegistersReader, RegisterReaderIsRefused, ReadsEvents, DropsReader, ReaderIsRefused, Switches, SwitchIsRefused}
+use Rattle.specs.specs.Sets.{SelectIsRefused}
+use Rattle.specs.specs.State.{State, state_of, OnPeople, OnTable, Deletes, Selects, DeletionWantsMemory, merged}
+use Rattle.specs.specs.Table.{Table, Registers, Inserts, InsertIsRefused, Gets, GetIsRefused, Removes, RemoveIsRefused, Clears, ClearIsRefused, Counts, IsUnregistered}
+
+-- entities with their components, and the jobs that wait, the first first
+pub record WorldState (S J K V : Type 0) : Type 0 where
+  pub core : State K V
+  pub jobs : List (Job S J K V)
+
+-- what a world shows: a job that found no memory is the first of those that wait
+abbrev pub world_state : {S J K V : Type 0} → (S → Table K V) → World S J K V → WorldState S J K V
+world_state table w = record { core = state_of table w; jobs = option_to_list w.kept ++ queued w.parts.lazy }
+
+-- only entities and components changed
+pub record OnCore {S J K V : Type 0} (change : State K V → State K V → Type 0) (old new : WorldState S J K V) : Type 0 where
+  pub core : change old.core new.core
+  pub jobs : new.jobs ≡ old.jobs
+
+-- a job was queued, as the last
+pub record Queues {S J K V : Type 0} (job : Job S J K V) (old new : WorldState S J K V) : Type 0 where
+  pub core : new.core ≡ old.core
+  pub jobs : new.jobs ≡ old.jobs ++ job ∷ []
+
+-- pending births are taken up, then the marked die, with all their components, then jobs are done in order while fewer than the limit ran
+pub record Maintains {S J K V : Type 0} (place : V → K) (does : J → State K V → List (Job S J K V) → State K V → Type 0) (old : WorldState S J K V) (limit : ℕ) (m : Maintained) (new : WorldState S J K V) : Type 0 where
+  pub deleted : m.deleted.items ≡ the_marked old.core.people
+  pub jobs : RunsJobs place does m.stopped limit m.ran m.refused (merged old.core) old.jobs new.core new.jobs
+  pub left : m.left ≡ length new.jobs
+
+-- Why a command is refused, where `allocates` tells of which slots a copy may take memory. An insertion hands its value back, so it has a
+-- reply of its own.
+abbrev pub IsRefused : {S J K V : Type 0} → (K → Bool) → State K V → Command S J K V → Refusal → Type 0
+IsRefused allocates s (Register slot) OutOfMemory = s.table slot ≡ None
+IsRefused allocates s Create r = BirthIsRefused s.people r
+IsRefused allocates s CreatePending r = BirthIsRefused s.people r
+IsRefused allocates s (Delete es) (Wrong w) = DeathIsRefused s.people es.items w
+IsRefused allocates s (Delete es) OutOfMemory = DeletionWantsMemory s es.items
+IsRefused allocates s DeleteAll OutOfMemory = NobodyLives s.people → ⊥
+IsRefused allocates s (MarkDead e) (Wrong w) = MarkIsRefused s.people e w
+IsRefused allocates s (Get slot e) r = GetIsRefused allocates s.people s.table slot e r
+IsRefused allocates s (Remove slot e) r = RemoveIsRefused s.people s.table slot e r
+IsRefused allocates s (Clear slot) r = ClearIsRefused s.table slot r
+IsRefused allocates s (AskCount slot) r = IsUnregistered s.table slot r
+IsRefused allocates s (Select x) r = SelectIsRefused s.table x r
+IsRefused allocates s (Queue job) OutOfMemory = Unit {0}
+IsRefused allocates s (Maintain limit) OutOfMemory = NoneMarked s.people → ⊥
+IsRefused allocates s (Reader slot) r = RegisterReaderIsRefused (s.table slot) r
+IsRefused allocates s (Events slot n) r = ReaderIsRefused n (s.table slot) r
+IsRefused allocates s (DropReader slot n) r = ReaderIsRefused n (s.table slot) r
+IsRefused allocates s (Emit slot on) r = SwitchIsRefused (s.table slot) r
+IsRefused allocates s command r = ⊥
+
+-- One command on a core, its reply, and the state after it, where `place` tells the slot of a value. A refusal changes nothing; want of
+-- memory is one.
+abbrev pub CoreStep : {S J K V : Type 0} → (V → K) → (K → Bool) → State K V → Command S J K V → Reply V → State K V → Type 0
+CoreStep place allocates old command (Refused r) new = IsRefused allocates old command r × (new ≡ old)
+CoreStep place allocates old (Register slot) Done new = OnTable (λ t t'. Registers t slot t') old new
+CoreStep place allocates old Create (Told e) new = OnPeople (λ p p'. Births born p e p') old new
+CoreStep place allocates old CreatePending (Told e) new = OnPeople (λ p p'. Births born_pending p e p') old new
+CoreStep place allocates old (Delete es) Done new = Deletes es.items old new
+CoreStep place allocates old DeleteAll Done new = Deletes (the_living old.people) old new
+CoreStep place allocates old (MarkDead e) Done new = OnPeople (λ p p'. Marks p e p') old new
+CoreStep place allocates old (AskAlive e) (Yes b) new = (IsTrue b ↔ IsMerged old.people e) × (new ≡ old)
+CoreStep place allocates old (AskLiving e) (Yes b) new = (IsTrue b ↔ IsAlive old.people e) × (new ≡ old)
+CoreStep place allocates old (EntityAt i) (Told e) new = IsEntityAt old.people i e × (new ≡ old)
+CoreStep place allocates old (Insert e value) (Value before) new = OnTable (λ t t'. Inserts place old.people t e value before t') old new
+CoreStep place allocates old (Insert e value) (InsertRefused r back) new = InsertIsRefused place old.people old.table e value r × (back ≡ value) × (new ≡ old)
+CoreStep place allocates old (Get slot e) (Value found) new = Gets old.people old.table slot e found × (new ≡ old)
+CoreStep place allocates old (Remove slot e) (Value found) new = OnTable (λ t t'. Removes old.people t slot e found t') old new
+CoreStep place allocates old (Clear slot) Done new = OnTable (λ t t'. Clears t slot t') old new
+CoreStep place allocates old (AskCount slot) (Count n) new = Counts old.table slot n × (new ≡ old)
+CoreStep place allocates old (Select x) (Indices is) new = Selects old x is.items × (new ≡ old)
+CoreStep place allocates old (Reader slot) (NewReader n) new = OnTable (λ t t'. RegistersReader t slot n t') old new
+CoreStep place allocates old (Events slot n) (Given es) new = OnTable (λ t t'. ReadsEvents t slot n es.items t') old new
+CoreStep place allocates old (DropReader slot n) Done new = OnTable (λ t t'. DropsReader t slot n t') old new
+CoreStep place allocates old (Emit slot on) Done new = OnTable (λ t t'. Switches t slot on t') old new
+CoreStep place allocates old command reply new = ⊥
+
+module _ {S J K V : Type 0} (place : V → K) (allocates : K → Bool) (does : J → State K V → List (Job S J K V) → State K V → Type 0) where
+  -- One command, its reply, and the world's state after it, where `does` tells what a job of the user's may do.
+  abbrev pub Step : WorldState S J K V → Command S J K V → Reply V → WorldState S J K V → Type 0
+  Step old (Queue job) Done new = Queues job old new
+  Step old (Maintain limit) (Kept m) new = Maintains place does old limit m new
+  Step old command reply new = OnCore (λ s s'. CoreStep place allocates s command reply s') old new
+
+  -- one step after another
+  abbrev pub Run : WorldState S J K V → List (Command S J K V) → List (Reply V) → WorldState S J K V → Type 0
+  Run old [] [] new = new ≡ old
+  Run old (command ∷ commands) (reply ∷ replies) new = (mid : WorldState S J K V) × Step old command reply mid × Run mid commands replies new
+  Run old [] (reply ∷ replies) new = ⊥
+  Run old (command ∷ commands) [] new = ⊥

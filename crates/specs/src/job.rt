@@ -1,0 +1,165 @@
+//! Jobs, and lists of them.
+ghost use Rattle.std.specs.Prelude.{◌≡◌, List, [], ◌∷◌, ◌++◌, ◌<◌, ◌^◌, length, IfOk, IfErr, OnOk, OnErr, IfSome, IfNone};
+ghost use Rattle.specs.specs.Queue.{queued, listed};
+ghost use Rattle.specs.specs.declared.job.Job.TheVariants.{Insert, InsertAll, Remove, Mark, Own};
+
+use crate::no_job::NoJob;
+use crate::slots::Storages;
+use entities::Entity;
+use std::alloc::{AllocError, Global};
+use std::collections::VecDeque;
+
+/// A job, which `World::maintain` does.
+#[derive(Drop)]
+pub enum Job<S: Storages, J = NoJob> {
+    /// Puts a value at an entity, in the value's slot.
+    Insert(Entity, S::Value),
+    /// Puts values at entities, one after another.
+    InsertAll(Vec<(Entity, S::Value)>),
+    /// Takes the value of an entity out of a slot. Where the slot is not registered it does nothing.
+    Remove(S::Slot, Entity),
+    /// Gives an entity a marker in a slot of markers. No slot is one yet, so it is refused.
+    Mark(S::Slot, Entity),
+    /// A job of the user's.
+    Own(J),
+}
+
+/// The queue of a world's jobs, which `World::maintain` does from the front. Where memory is refused, a call hands back what it was given, and
+/// the queue is as before. Each call takes memory for the jobs that it queues alone. Ports `specs::LazyUpdate`.
+#[derive(Drop)]
+pub struct LazyUpdate<S: Storages, J = NoJob> {
+    jobs: VecDeque<Job<S, J>>,
+}
+
+/// Jobs in order, made where no queue is at hand, to be appended to one.
+#[derive(Drop)]
+pub struct JobList<S: Storages, J = NoJob> {
+    jobs: VecDeque<Job<S, J>>,
+}
+
+impl<S: Storages, J: Drop> LazyUpdate<S, J> {
+    /// The empty queue.
+    pub fn new(alloc: Global) -> Self
+        ensures { queued result ≡ [] }
+    {
+        LazyUpdate {
+            jobs: VecDeque::new(alloc),
+        }
+    }
+
+    // How many jobs are queued.
+    pub(crate) fn count(&self) -> usize
+        ensures length { result ≡ length (queued self.now) }
+        ensures few { result < 2 ^ 63 }
+    {
+        self.jobs.len()
+    }
+
+    // Takes the first job out.
+    pub(crate) fn take(&mut self) -> Option<Job<S, J>>
+        ensures taken { IfSome result (λ job. queued self.old ≡ job ∷ queued self.new) }
+        ensures none { IfNone result (queued self.old ≡ []) }
+        ensures same { IfNone result (queued self.new ≡ []) }
+    {
+        self.jobs.pop_front()
+    }
+
+    /// Queues a job.
+    pub fn push(&mut self, job: Job<S, J>) -> Result<(), (Job<S, J>, AllocError)>
+        ensures ok { OnOk result (queued self.new ≡ queued self.old ++ job ∷ []) }
+        ensures back { IfErr result (λ r. r.0 ≡ job) }
+        ensures err { OnErr result (queued self.new ≡ queued self.old) }
+    {
+        match self.jobs.push_back(job) {
+            Ok(()) => Ok(()),
+            Err(failed) => Err((failed.value, AllocError)),
+        }
+    }
+
+    /// Queues an insertion. Ports `LazyUpdate::insert`.
+    pub fn insert(&mut self, e: Entity, value: S::Value) -> Result<(), (S::Value, AllocError)>
+        ensures ok { OnOk result (queued self.new ≡ queued self.old ++ Insert e value ∷ []) }
+        ensures back { IfErr result (λ r. r.0 ≡ value) }
+        ensures err { OnErr result (queued self.new ≡ queued self.old) }
+    {
+        if let Err(refused) = self.jobs.reserve(1) {
+            return Err((value, refused));
+        }
+        let _ = self.jobs.push_back(Job::Insert(e, value));
+        Ok(())
+    }
+
+    /// Queues insertions in order, as one job. Ports `LazyUpdate::insert_all`.
+    pub fn insert_all(
+        &mut self,
+        pairs: Vec<(Entity, S::Value)>,
+    ) -> Result<(), (Vec<(Entity, S::Value)>, AllocError)>
+        ensures ok { OnOk result (queued self.new ≡ queued self.old ++ InsertAll pairs ∷ []) }
+        ensures back { IfErr result (λ r. r.0 ≡ pairs) }
+        ensures err { OnErr result (queued self.new ≡ queued self.old) }
+    {
+        if let Err(refused) = self.jobs.reserve(1) {
+            return Err((pairs, refused));
+        }
+        let _ = self.jobs.push_back(Job::InsertAll(pairs));
+        Ok(())
+    }
+
+    /// Queues a removal. Ports `LazyUpdate::remove`.
+    pub fn remove(&mut self, slot: S::Slot, e: Entity) -> Result<(), AllocError>
+        ensures ok { OnOk result (queued self.new ≡ queued self.old ++ Remove slot e ∷ []) }
+        ensures err { OnErr result (queued self.new ≡ queued self.old) }
+    {
+        self.jobs.reserve(1)?;
+        let _ = self.jobs.push_back(Job::Remove(slot, e));
+        Ok(())
+    }
+
+    /// Queues a job of the user's. Ports `LazyUpdate::exec` and `LazyUpdate::exec_mut`.
+    pub fn exec(&mut self, job: J) -> Result<(), (J, AllocError)>
+        ensures ok { OnOk result (queued self.new ≡ queued self.old ++ Own job ∷ []) }
+        ensures back { IfErr result (λ r. r.0 ≡ job) }
+        ensures err { OnErr result (queued self.new ≡ queued self.old) }
+    {
+        if let Err(refused) = self.jobs.reserve(1) {
+            return Err((job, refused));
+        }
+        let _ = self.jobs.push_back(Job::Own(job));
+        Ok(())
+    }
+
+    /// Queues the jobs of a list, in their order.
+    pub fn append(&mut self, mut list: JobList<S, J>) -> Result<(), (JobList<S, J>, AllocError)>
+        ensures ok { OnOk result (queued self.new ≡ queued self.old ++ listed list) }
+        ensures back { IfErr result (λ r. listed r.0 ≡ listed list) }
+        ensures err { OnErr result (queued self.new ≡ queued self.old) }
+    {
+        match self.jobs.append(&mut list.jobs) {
+            Ok(()) => Ok(()),
+            Err(refused) => Err((list, refused)),
+        }
+    }
+}
+
+impl<S: Storages, J: Drop> JobList<S, J> {
+    /// The empty list.
+    pub fn new(alloc: Global) -> Self
+        ensures { listed result ≡ [] }
+    {
+        JobList {
+            jobs: VecDeque::new(alloc),
+        }
+    }
+
+    /// Puts a job at the end. Where memory is refused, the job is handed back and the list is as before.
+    pub fn push(&mut self, job: Job<S, J>) -> Result<(), (Job<S, J>, AllocError)>
+        ensures ok { OnOk result (listed self.new ≡ listed self.old ++ job ∷ []) }
+        ensures back { IfErr result (λ r. r.0 ≡ job) }
+        ensures err { OnErr result (listed self.new ≡ listed self.old) }
+    {
+        match self.jobs.push_back(job) {
+            Ok(()) => Ok(()),
+            Err(failed) => Err((failed.value, AllocError)),
+        }
+    }
+}

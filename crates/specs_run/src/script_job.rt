@@ -1,0 +1,56 @@
+//! The jobs of a script's own.
+ghost use Rattle.std.specs.Prelude.{◌≡◌, OnOk, OnErr};
+ghost use Rattle.specs.specs.State.{core_state};
+ghost use Rattle.specs_run.specs.Jobs.{MayRaise};
+
+use specs::{Core, CreateError, LazyUpdate, Storages, WorldJob};
+use std::alloc::AllocError;
+
+/// A job of a script's own.
+#[derive(Drop)]
+pub enum ScriptJob {
+    /// Queues itself again.
+    Again,
+    /// Makes an entity whose birth is pending, or nothing where no index is left.
+    Create,
+}
+
+impl<S: Storages> WorldJob<S> for ScriptJob {
+    ghost use Rattle.specs_run.specs.Jobs.{Does, Spares, grows, lives_on, tells};
+
+    ghost does = { Does };
+
+    ghost spares = { Spares };
+
+    fn update(
+        self,
+        core: &mut Core<S>,
+        queue: &mut LazyUpdate<S, ScriptJob>,
+    ) -> Result<(), (ScriptJob, AllocError)> {
+        match self {
+            ScriptJob::Again => queue.exec(ScriptJob::Again),
+            ScriptJob::Create => match raise(core) {
+                Ok(()) => Ok(()),
+                Err(refused) => Err((ScriptJob::Create, refused)),
+            },
+        }
+    }
+
+    ghost grows = { grows };
+
+    ghost lives = { lives_on S.place };
+
+    ghost tells = { λ j slot n old new more s spared l. tells j slot n old new more s l };
+}
+
+/// A pending birth, or nothing where no index is left.
+fn raise<S: Storages>(core: &mut Core<S>) -> Result<(), AllocError>
+    ensures ok { OnOk result (MayRaise (core_state S.table core.old) (core_state S.table core.new)) }
+    ensures err { OnErr result (core_state S.table core.new ≡ core_state S.table core.old) }
+{
+    match core.parts().entities.create() {
+        Ok(_e) => Ok(()),
+        Err(CreateError::IndexLimit) => Ok(()),
+        Err(CreateError::OutOfMemory) => Err(AllocError),
+    }
+}
