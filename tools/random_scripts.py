@@ -4,8 +4,9 @@
     python3 tools/random_scripts.py [COUNT] [SEED]      COUNT: how many scripts (10000); SEED: that of the first (1)
 
 Script k is made from seed SEED + k. A birth may take any free index, so the model follows the entity that the program printed, if the rule
-allows it; every other reply is the only one that the model knows. The first reply that differs is printed, with its script and its seed, and
-the status is 1."""
+allows it. A job that creates an entity does not tell which: the model keeps every world that the replies so far allow. A reply that none of
+them gives is printed, with its script and its seed, and the status is 1."""
+import copy
 import os
 import random
 import subprocess
@@ -18,7 +19,8 @@ NUMBERS = ["pos", "vel", "def", "map", "tree", "hp"]
 SLOTS = NUMBERS + ["tag", "link"]
 TRACKED = {"hp"}
 UNREADABLE = ["frob", "create ", " create", "delete", "delete 0", "insert pos 0:1", "insert tag 0:1 5", "select", "select and pos",
-              "select pos pos", "emit hp", "maintain -1", "reader", "entity 4294967296", "alive 0:0", "get id 0:1", "delete-all 0:1"]
+              "select pos pos", "emit hp", "maintain -1", "reader", "entity 4294967296", "alive 0:0", "get id 0:1", "delete-all 0:1",
+              "job", "job again 1", "job create pending", "job remove pos", "job insert tag 0:1 5", "job delete 0:1", "maintain"]
 
 
 class Slot:
@@ -48,7 +50,7 @@ class Members:
 
 class World:
     def __init__(self):
-        self.births, self.merged, self.pending, self.marked, self.slots = {}, set(), set(), set(), {}
+        self.births, self.merged, self.pending, self.marked, self.slots, self.jobs = {}, set(), set(), set(), {}, []
 
     def living(self):
         return self.merged | self.pending
@@ -64,11 +66,13 @@ class World:
         born = self.births.get(i, 0) - (i in self.pending)
         return 1 if born == 0 else born if i in self.merged else -born
 
-    def is_born(self, e):
-        """Whether the entity may be the next that is born."""
+    def next_born(self):
+        """The indices of which each may be the next that is born."""
         free = [i for i, n in self.births.items() if i not in self.living() and n < LAST_GENERATION]
-        unused = next(i for i in range(LIMIT) if i not in self.births)
-        return e[0] in (free or [unused]) and e[1] == self.births.get(e[0], 0) + 1
+        return sorted(free) or [next(i for i in range(LIMIT) if i not in self.births)]
+
+    def is_born(self, e):
+        return e[0] in self.next_born() and e[1] == self.births.get(e[0], 0) + 1
 
     def refused(self, entities):
         """The first that may not die, as the program tells it."""
@@ -128,13 +132,43 @@ class World:
         self.marked.add(e[0])
         return "ok"
 
-    def maintain(self, _limit):
+    def maintained(self, limit):
+        """Each world that may come of a maintain, with its reply."""
         dead = [f"{i}:{self.births[i]}" for i in sorted(self.marked)]
         indices = sorted(self.marked)
         self.merged |= self.pending
         self.pending.clear()
         self.bury(indices)
-        return f"deleted [{', '.join(dead)}] ran 0 refused 0 left 0"
+        return [(world, f"deleted [{', '.join(dead)}] ran {ran} refused {refused} left {len(world.jobs)}")
+                for world, ran, refused in self.after_jobs(int(limit))]
+
+    def after_jobs(self, limit):
+        """Each world that may come of the first jobs, with how many ran and were refused."""
+        ran = refused = 0
+        while self.jobs and ran < limit:
+            kind, *rest = self.jobs.pop(0)
+            ran += 1
+            if kind == "create":
+                return [(world, ran + more, refused + others) for i in self.next_born()
+                        for world, more, others in self.with_pending(i).after_jobs(limit - ran)]
+            if kind == "again":
+                self.jobs.append(["again"])
+            elif kind == "insert":
+                refused += self.insert(*rest).startswith("error")
+            else:
+                self.remove(*rest)
+        return [(self, ran, refused)]
+
+    def with_pending(self, i):
+        """This world, with a pending birth at an index."""
+        world = copy.deepcopy(self)
+        world.births[i] = world.births.get(i, 0) + 1
+        world.pending.add(i)
+        return world
+
+    def job(self, *words):
+        self.jobs.append(list(words))
+        return "ok"
 
     def alive(self, word):
         e = entity(word)
@@ -250,9 +284,9 @@ class Script:
         if line.startswith("create"):
             free = [i for i in self.world.births if i not in self.world.living()]
             i = min(free) if free else len(self.world.births)
-            judge(self.world, line, f"{i}:{self.world.births.get(i, 0) + 1}")
+            judged(self.world, line, f"{i}:{self.world.births.get(i, 0) + 1}")
         elif line:
-            judge(self.world, line, "")
+            self.world = judged(self.world, line, "")[0][0]
 
     def an_entity(self):
         known = self.world.births
@@ -284,33 +318,47 @@ class Script:
     def a_slot(self):
         return self.random.choice(["hp", "hp", self.random.choice(SLOTS)])
 
+    def a_limit(self):
+        """How many jobs may run: few, where one queues itself."""
+        endless = ["again"] in self.world.jobs
+        return self.random.choice([0, 1, 2, 3, 9 if endless else (1 << 64) - 1])
+
+    def a_job(self):
+        slot, e = self.a_slot(), self.an_entity()
+        return "job " + self.random.choice([f"insert {slot} {e} {self.a_value(slot)}", f"insert {slot} {e} {self.a_value(slot)}", f"remove {slot} {e}",
+                                            "create", "again"])
+
     def line(self):
         slot, e, r = self.a_slot(), self.an_entity(), self.random
         return r.choice(["create", "create", "create pending", f"register {slot}", f"register {slot}", f"insert {slot} {e} {self.a_value(slot)}",
                          f"insert {slot} {e} {self.a_value(slot)}", f"insert {slot} {e} {self.a_value(slot)}", f"get {slot} {e}", f"remove {slot} {e}",
-                         f"clear {slot}", f"count {slot}", f"mark {e}", f"alive {e}", f"living {e}", f"maintain {r.choice([0, 3, (1 << 64) - 1])}",
+                         f"clear {slot}", f"count {slot}", f"mark {e}", f"alive {e}", f"living {e}", f"maintain {self.a_limit()}", self.a_job(), self.a_job(),
                          f"entity {r.choice([0, 1, 2, 3, LIMIT, (1 << 32) - 1])}", "delete " + " ".join([e] + [self.an_entity() for _ in range(r.randrange(3))]),
                          "delete-all" if r.randrange(4) == 0 else "", self.a_selection(), self.a_selection(), f"reader {slot}", f"events {slot} {r.randrange(3)}",
                          f"events {slot} 0", f"emit {slot} {r.choice(['on', 'on', 'off'])}"])
 
 
-def judge(world, line, printed):
+def judged(world, line, printed):
+    """Each world that may come of a line, with its reply."""
     words = line.split(" ")
+    if words[0] == "maintain":
+        return world.maintained(words[1])
     if words[0] == "create":
-        return world.create(*words[1:], printed=printed)
+        return [(world, world.create(*words[1:], printed=printed))]
     name = {"living": "living_line", "delete-all": "delete_all"}.get(words[0], words[0])
-    return getattr(world, name)(*words[1:])
+    return [(world, getattr(world, name)(*words[1:]))]
 
 
 def disagreement(script, ran):
     """What is wrong with a run, if anything is."""
-    world, replies, number = World(), ran.stdout.split("\n")[:-1], 0
+    worlds, replies, number = [World()], ran.stdout.split("\n")[:-1], 0
     readable = script.lines[:-1] if script.unreadable else script.lines
     for line in filter(None, readable):
         printed = replies[number] if number < len(replies) else "(nothing)"
-        wanted = judge(world, line, printed)
-        if wanted != printed:
-            return f"line {line!r}: wanted {wanted!r}, printed {printed!r}"
+        outcomes = [it for world in worlds for it in judged(world, line, printed)]
+        worlds = [world for world, reply in outcomes if reply == printed]
+        if not worlds:
+            return f"line {line!r}: wanted {' or '.join(sorted({repr(reply) for _, reply in outcomes}))}, printed {printed!r}"
         number += 1
     faults = f"line {len(script.lines)}: cannot read\n" if script.unreadable else ""
     if len(replies) != number or ran.stderr != faults or ran.returncode != (2 if script.unreadable else 0):
