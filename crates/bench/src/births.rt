@@ -31,8 +31,8 @@ impl Workload for Births {
         u64::from(self.count)
     }
 
-    fn prepare(&self, alloc: Global) -> Result<EntitiesRes> {
-        Ok(EntitiesRes::new(alloc))
+    fn prepare(&self, _alloc: Global, _state: &mut EntitiesRes) -> Result<()> {
+        Ok(())
     }
 
     fn work(&self, state: &mut EntitiesRes) -> Result<u64> {
@@ -76,8 +76,8 @@ impl Workload for PhaseBirths {
         u64::from(self.count)
     }
 
-    fn prepare(&self, alloc: Global) -> Result<EntitiesRes> {
-        Ok(EntitiesRes::new(alloc))
+    fn prepare(&self, _alloc: Global, _state: &mut EntitiesRes) -> Result<()> {
+        Ok(())
     }
 
     fn work(&self, state: &mut EntitiesRes) -> Result<u64> {
@@ -113,12 +113,11 @@ impl Workload for Merges {
         u64::from(self.count)
     }
 
-    fn prepare(&self, alloc: Global) -> Result<EntitiesRes> {
-        let mut entities = EntitiesRes::new(alloc);
+    fn prepare(&self, _alloc: Global, state: &mut EntitiesRes) -> Result<()> {
         for _ in 0..self.count {
-            entities.create()?;
+            state.create()?;
         }
-        Ok(entities)
+        Ok(())
     }
 
     fn work(&self, state: &mut EntitiesRes) -> Result<u64> {

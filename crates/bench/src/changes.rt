@@ -1,6 +1,7 @@
 //! Changes that add up at each entity until they are applied.
 
-use crate::moving::empty;
+use crate::fresh::Fresh;
+use crate::moving::give;
 use crate::points::Data;
 use crate::random::{Random, mix};
 use crate::workload::{Plan, Workload, report};
@@ -10,7 +11,7 @@ use joins::{ChangeSet, JoinMut};
 use std::alloc::Global;
 use std::io::Print;
 use std::time::Clock;
-use storages::{MaskedStorage, ReadStorage, WriteStorage};
+use storages::{MaskedStorage, ReadStorage};
 
 /// Two changes of each entity in a shuffled order and back, applied by a join.
 #[derive(Drop)]
@@ -27,21 +28,26 @@ struct Numbered {
     list: Vec<Entity>,
 }
 
-impl Numbered {
-    fn new(alloc: Global) -> Result<Self> {
+impl Fresh for Numbered {
+    fn fresh(alloc: Global) -> Result<Self> {
+        let data = Fresh::fresh(alloc)?;
         Ok(Numbered {
             entities: EntitiesRes::new(alloc),
-            data: empty(alloc)?,
+            data,
             list: Vec::new(alloc),
         })
     }
+}
 
+impl Numbered {
     fn bear(&mut self, number: u32) -> Result<()> {
         let entity = self.entities.alloc_mut().allocate()?;
-        let mut view = WriteStorage::new(&self.entities, &mut self.data);
-        if view.insert(entity, Data(u64::from(number))).is_err() {
-            bail!("no number was inserted");
-        }
+        give(
+            &self.entities,
+            &mut self.data,
+            entity,
+            Data(u64::from(number)),
+        )?;
         self.list.push(entity)?;
         Ok(())
     }
@@ -77,6 +83,13 @@ fn apply_all(data: &mut MaskedStorage<Data>, changes: &ChangeSet<u64>) {
     }
 }
 
+fn change_all(numbered: &mut Numbered, changes: &mut ChangeSet<u64>) -> Result<u64> {
+    add_all(changes, numbered.list.as_slice())?;
+    add_back(changes, numbered.list.as_slice())?;
+    apply_all(&mut numbered.data, changes);
+    Ok(0)
+}
+
 impl Workload for Changes {
     type State = Numbered;
 
@@ -84,21 +97,17 @@ impl Workload for Changes {
         u64::from(self.count).saturating_mul(2)
     }
 
-    fn prepare(&self, alloc: Global) -> Result<Numbered> {
-        let mut numbered = Numbered::new(alloc)?;
+    fn prepare(&self, _alloc: Global, state: &mut Numbered) -> Result<()> {
         for number in 0..self.count {
-            numbered.bear(number)?;
+            state.bear(number)?;
         }
-        Random::new().shuffle(&mut numbered.list);
-        Ok(numbered)
+        Random::new().shuffle(&mut state.list);
+        Ok(())
     }
 
     fn work(&self, state: &mut Numbered) -> Result<u64> {
         let mut changes = ChangeSet::new(self.alloc);
-        add_all(&mut changes, state.list.as_slice())?;
-        add_back(&mut changes, state.list.as_slice())?;
-        apply_all(&mut state.data, &changes);
-        Ok(0)
+        change_all(state, &mut changes)
     }
 
     fn checksum(&self, state: &Numbered, _answer: u64) -> u64 {

@@ -20,11 +20,12 @@ struct Gets<P> {
     kind: PhantomData<P>,
 }
 
-/// The entities, and a shuffled list of them.
-fn shuffled<P: Pointed>(alloc: Global, count: u32) -> Result<(Moving<P>, Vec<Entity>)> {
-    let (moving, mut list) = Moving::populate(alloc, count)?;
-    Random::new().shuffle(&mut list);
-    Ok((moving, list))
+/// Fills the entities, and a shuffled list of them.
+fn shuffled<P: Pointed>(state: &mut (Moving<P>, Vec<Entity>), count: u32) -> Result<()> {
+    let (moving, list) = state;
+    moving.populate(list, count)?;
+    Random::new().shuffle(list);
+    Ok(())
 }
 
 fn get_all<P: Pointed>(view: &ReadStorage<'_, P>, list: &[Entity]) -> u64 {
@@ -44,8 +45,8 @@ impl<P: Pointed> Workload for Gets<P> {
         u64::from(self.count).saturating_mul(self.passes)
     }
 
-    fn prepare(&self, alloc: Global) -> Result<(Moving<P>, Vec<Entity>)> {
-        shuffled(alloc, self.count)
+    fn prepare(&self, _alloc: Global, state: &mut (Moving<P>, Vec<Entity>)) -> Result<()> {
+        shuffled(state, self.count)
     }
 
     fn work(&self, state: &mut (Moving<P>, Vec<Entity>)) -> Result<u64> {
@@ -85,8 +86,8 @@ impl<P: Pointed> Workload for Writes<P> {
         u64::from(self.count).saturating_mul(self.passes)
     }
 
-    fn prepare(&self, alloc: Global) -> Result<(Moving<P>, Vec<Entity>)> {
-        shuffled(alloc, self.count)
+    fn prepare(&self, _alloc: Global, state: &mut (Moving<P>, Vec<Entity>)) -> Result<()> {
+        shuffled(state, self.count)
     }
 
     fn work(&self, state: &mut (Moving<P>, Vec<Entity>)) -> Result<u64> {
@@ -124,7 +125,8 @@ fn remove_all<P: Pointed>(
     Ok(sum)
 }
 
-fn insert_all<P: Pointed>(view: &mut WriteStorage<'_, P>, list: &[Entity]) -> Result<()> {
+/// Inserts the position of each entity of a list.
+pub fn insert_all<P: Pointed>(view: &mut WriteStorage<'_, P>, list: &[Entity]) -> Result<()> {
     for entity in list {
         let position = P::of(Point::position(entity.id()));
         if view.insert(*entity, position).is_err() {
@@ -143,8 +145,8 @@ impl<P: Pointed> Workload for Churns<P> {
             .saturating_mul(2)
     }
 
-    fn prepare(&self, alloc: Global) -> Result<(Moving<P>, Vec<Entity>)> {
-        Moving::populate(alloc, self.count)
+    fn prepare(&self, _alloc: Global, state: &mut (Moving<P>, Vec<Entity>)) -> Result<()> {
+        state.0.populate(&mut state.1, self.count)
     }
 
     fn work(&self, state: &mut (Moving<P>, Vec<Entity>)) -> Result<u64> {

@@ -61,11 +61,11 @@ impl Workload for Deaths {
         u64::from(self.count / 2 * 2)
     }
 
-    fn prepare(&self, alloc: Global) -> Result<State> {
-        let (moving, mut list) = Moving::populate(alloc, self.count)?;
-        Random::new().shuffle(&mut list);
-        list.truncate((self.count / 2) as usize);
-        Ok((moving, list))
+    fn prepare(&self, _alloc: Global, state: &mut State) -> Result<()> {
+        state.0.populate(&mut state.1, self.count)?;
+        Random::new().shuffle(&mut state.1);
+        state.1.truncate((self.count / 2) as usize);
+        Ok(())
     }
 
     fn work(&self, state: &mut State) -> Result<u64> {

@@ -1,7 +1,9 @@
 //! Positions that tell of each change, written to or taken out and inserted again, and then the events are read.
 
+use crate::components::insert_all;
+use crate::fresh::Fresh;
 use crate::moving::Moving;
-use crate::points::{FlaggedPosition, Point, Pointed};
+use crate::points::{FlaggedPosition, Pointed};
 use crate::random::mix;
 use crate::workload::{Plan, Workload, report};
 use anyhow::{Result, bail};
@@ -11,6 +13,49 @@ use std::alloc::Global;
 use std::io::Print;
 use std::time::Clock;
 use storages::{ComponentEvent, ReaderId, WriteStorage};
+
+/// Entities with positions whose changes are read.
+#[derive(Drop)]
+struct Watched {
+    moving: Moving<FlaggedPosition>,
+    list: Vec<Entity>,
+    reader: Option<ReaderId>,
+}
+
+impl Fresh for Watched {
+    fn fresh(alloc: Global) -> Result<Self> {
+        Ok(Watched {
+            moving: Fresh::fresh(alloc)?,
+            list: Vec::new(alloc),
+            reader: None,
+        })
+    }
+}
+
+impl Watched {
+    /// So many entities, before there is a reader, and then the reader.
+    fn populate(&mut self, count: u32) -> Result<()> {
+        self.moving.populate(&mut self.list, count)?;
+        match self.moving.positions.register_reader() {
+            Ok(reader) => {
+                self.reader = Some(reader);
+                Ok(())
+            }
+            Err(_) => bail!("out of memory"),
+        }
+    }
+
+    /// What happened and was not read.
+    fn read(&mut self) -> Result<Vec<ComponentEvent>> {
+        let Some(reader) = &self.reader else {
+            bail!("no reader");
+        };
+        match self.moving.positions.read(reader) {
+            Ok(events) => Ok(events),
+            Err(_) => bail!("no such reader"),
+        }
+    }
+}
 
 /// Writes to each position, then reads the events.
 #[derive(Drop)]
@@ -30,12 +75,9 @@ fn modify_all(moving: &mut Moving<FlaggedPosition>) {
     }
 }
 
-fn modified_sum(moving: &mut Moving<FlaggedPosition>, reader: &ReaderId) -> Result<u64> {
-    let Ok(events) = moving.positions.read(reader) else {
-        bail!("no such reader");
-    };
+fn modified_sum(events: &[ComponentEvent]) -> u64 {
     let mut sum: u64 = 0;
-    for event in events.as_slice() {
+    for event in events {
         let value = match *event {
             ComponentEvent::Modified(i) => u64::from(i) + 1,
             ComponentEvent::Inserted(_) => 1 << 40,
@@ -43,50 +85,34 @@ fn modified_sum(moving: &mut Moving<FlaggedPosition>, reader: &ReaderId) -> Resu
         };
         sum = sum.wrapping_add(value);
     }
-    Ok(sum)
-}
-
-fn with_reader(
-    alloc: Global,
-    count: u32,
-) -> Result<(Moving<FlaggedPosition>, Vec<Entity>, ReaderId)> {
-    let (moving, list) = Moving::populate(alloc, count)?;
-    let mut moving = moving;
-    let Ok(reader) = moving.positions.register_reader() else {
-        bail!("out of memory");
-    };
-    Ok((moving, list, reader))
+    sum
 }
 
 impl Workload for Modifies {
-    type State = (Moving<FlaggedPosition>, Vec<Entity>, ReaderId);
+    type State = Watched;
 
     fn operations(&self) -> u64 {
         u64::from(self.count).saturating_mul(self.passes)
     }
 
-    fn prepare(&self, alloc: Global) -> Result<(Moving<FlaggedPosition>, Vec<Entity>, ReaderId)> {
-        let (mut moving, list, reader) = with_reader(alloc, self.count)?;
-        modify_all(&mut moving);
-        let _ = modified_sum(&mut moving, &reader)?;
-        Ok((moving, list, reader))
+    fn prepare(&self, _alloc: Global, state: &mut Watched) -> Result<()> {
+        state.populate(self.count)?;
+        modify_all(&mut state.moving);
+        let _ = state.read()?;
+        Ok(())
     }
 
-    fn work(&self, state: &mut (Moving<FlaggedPosition>, Vec<Entity>, ReaderId)) -> Result<u64> {
+    fn work(&self, state: &mut Watched) -> Result<u64> {
         let mut sum: u64 = 0;
         for _pass in 0..self.passes {
-            modify_all(&mut state.0);
-            sum = mix(sum, modified_sum(&mut state.0, &state.2)?);
+            modify_all(&mut state.moving);
+            sum = mix(sum, modified_sum(state.read()?.as_slice()));
         }
         Ok(sum)
     }
 
-    fn checksum(
-        &self,
-        state: &(Moving<FlaggedPosition>, Vec<Entity>, ReaderId),
-        answer: u64,
-    ) -> u64 {
-        mix(answer, state.0.sum(self.count))
+    fn checksum(&self, state: &Watched, answer: u64) -> u64 {
+        mix(answer, state.moving.sum(self.count))
     }
 }
 
@@ -105,22 +131,9 @@ fn churn_all(moving: &mut Moving<FlaggedPosition>, list: &[Entity]) -> Result<()
     insert_all(&mut view, list)
 }
 
-fn insert_all(view: &mut WriteStorage<'_, FlaggedPosition>, list: &[Entity]) -> Result<()> {
-    for entity in list {
-        let position = FlaggedPosition::of(Point::position(entity.id()));
-        if view.insert(*entity, position).is_err() {
-            bail!("no position was inserted");
-        }
-    }
-    Ok(())
-}
-
-fn churned_sum(moving: &mut Moving<FlaggedPosition>, reader: &ReaderId) -> Result<u64> {
-    let Ok(events) = moving.positions.read(reader) else {
-        bail!("no such reader");
-    };
+fn churned_sum(events: &[ComponentEvent]) -> u64 {
     let mut sum: u64 = 0;
-    for event in events.as_slice() {
+    for event in events {
         let value = match *event {
             ComponentEvent::Inserted(i) => u64::from(i) + 1,
             ComponentEvent::Removed(i) => (u64::from(i) + 1) << 20,
@@ -128,11 +141,11 @@ fn churned_sum(moving: &mut Moving<FlaggedPosition>, reader: &ReaderId) -> Resul
         };
         sum = sum.wrapping_add(value);
     }
-    Ok(sum)
+    sum
 }
 
 impl Workload for Churns {
-    type State = (Moving<FlaggedPosition>, Vec<Entity>, ReaderId);
+    type State = Watched;
 
     fn operations(&self) -> u64 {
         u64::from(self.count)
@@ -140,28 +153,24 @@ impl Workload for Churns {
             .saturating_mul(2)
     }
 
-    fn prepare(&self, alloc: Global) -> Result<(Moving<FlaggedPosition>, Vec<Entity>, ReaderId)> {
-        let (mut moving, list, reader) = with_reader(alloc, self.count)?;
-        churn_all(&mut moving, list.as_slice())?;
-        let _ = churned_sum(&mut moving, &reader)?;
-        Ok((moving, list, reader))
+    fn prepare(&self, _alloc: Global, state: &mut Watched) -> Result<()> {
+        state.populate(self.count)?;
+        churn_all(&mut state.moving, state.list.as_slice())?;
+        let _ = state.read()?;
+        Ok(())
     }
 
-    fn work(&self, state: &mut (Moving<FlaggedPosition>, Vec<Entity>, ReaderId)) -> Result<u64> {
+    fn work(&self, state: &mut Watched) -> Result<u64> {
         let mut sum: u64 = 0;
         for _pass in 0..self.passes {
-            churn_all(&mut state.0, state.1.as_slice())?;
-            sum = mix(sum, churned_sum(&mut state.0, &state.2)?);
+            churn_all(&mut state.moving, state.list.as_slice())?;
+            sum = mix(sum, churned_sum(state.read()?.as_slice()));
         }
         Ok(sum)
     }
 
-    fn checksum(
-        &self,
-        state: &(Moving<FlaggedPosition>, Vec<Entity>, ReaderId),
-        answer: u64,
-    ) -> u64 {
-        mix(answer, state.0.sum(self.count))
+    fn checksum(&self, state: &Watched, answer: u64) -> u64 {
+        mix(answer, state.moving.sum(self.count))
     }
 }
 

@@ -8,6 +8,7 @@ mod changes;
 mod components;
 mod deaths;
 mod flags;
+mod fresh;
 mod joining;
 mod moving;
 mod parallel;
@@ -19,6 +20,10 @@ mod workload;
 
 use crate::workload::Plan;
 use anyhow::Result;
+use std::alloc::{Alloc, Global};
+use std::io::Print;
+use std::thread::Threads;
+use std::time::Clock;
 
 /// What was asked for, or the usual.
 fn plan(args: &[String]) -> Result<Plan> {
@@ -33,11 +38,30 @@ fn plan(args: &[String]) -> Result<Plan> {
     })
 }
 
-fn main(rt: HostRuntime) -> Result<()> {
-    let mut args = Vec::new(rt.alloc());
-    for arg in std::env::args(&rt)?.skip(1) {
-        args.push(arg)?;
-    }
+/// Reports on each workload whose name begins with a prefix.
+fn run_all(
+    rt: &(impl Threads + Alloc<A = Global> + Sync + Clock + Print),
+    plan: &Plan,
+    prefix: &str,
+) -> Result<()> {
+    let alloc = rt.alloc();
+    sets::run(rt, alloc, plan, prefix)?;
+    births::run(rt, alloc, plan, prefix)?;
+    threads::run(rt, alloc, plan, prefix)?;
+    parallel::run(rt, plan, prefix)?;
+    joining::run_light(rt, plan, prefix)?;
+    deaths::run(rt, alloc, plan, prefix)?;
+    components::run(rt, alloc, plan, prefix)?;
+    flags::run(rt, alloc, plan, prefix)?;
+    changes::run(rt, alloc, plan, prefix)?;
+    joining::run(rt, alloc, plan, prefix)
+}
+
+/// Does what was asked for.
+fn run(
+    rt: &(impl Threads + Alloc<A = Global> + Sync + Clock + Print),
+    args: &[String],
+) -> Result<()> {
     let is_check = match args.first() {
         Some(first) => first.as_str() == "--check",
         None => true,
@@ -49,20 +73,19 @@ fn main(rt: HostRuntime) -> Result<()> {
             check: true,
         }
     } else {
-        plan(&args)?
+        plan(args)?
     };
     let prefix = match args.get(2) {
         Some(prefix) => prefix.as_str(),
         None => "",
     };
-    sets::run(&rt, rt.alloc(), &plan, prefix)?;
-    births::run(&rt, rt.alloc(), &plan, prefix)?;
-    threads::run(&rt, rt.alloc(), &plan, prefix)?;
-    parallel::run(&rt, &plan, prefix)?;
-    joining::run_light(&rt, &plan, prefix)?;
-    deaths::run(&rt, rt.alloc(), &plan, prefix)?;
-    components::run(&rt, rt.alloc(), &plan, prefix)?;
-    flags::run(&rt, rt.alloc(), &plan, prefix)?;
-    changes::run(&rt, rt.alloc(), &plan, prefix)?;
-    joining::run(&rt, rt.alloc(), &plan, prefix)
+    run_all(rt, &plan, prefix)
+}
+
+fn main(rt: HostRuntime) -> Result<()> {
+    let mut args = Vec::new(rt.alloc());
+    for arg in std::env::args(&rt)?.skip(1) {
+        args.push(arg)?;
+    }
+    run(&rt, args.as_slice())
 }

@@ -1,11 +1,12 @@
 //! Entities with a position and a velocity each.
 
+use crate::fresh::Fresh;
 use crate::points::{Point, Pointed, VecVelocity};
 use crate::random::mix;
 use anyhow::{Result, bail};
 use entities::{EntitiesRes, Entity};
 use std::alloc::Global;
-use storages::{AnyStorage, Component, MaskedStorage, ReadStorage, TryDefault, WriteStorage};
+use storages::{AnyStorage, Component, MaskedStorage, ReadStorage, WriteStorage};
 
 /// Entities, with a storage of positions and one of velocities.
 #[derive(Drop)]
@@ -15,12 +16,30 @@ pub struct Moving<P: Pointed> {
     pub velocities: MaskedStorage<VecVelocity>,
 }
 
-/// A storage without components.
-pub fn empty<T: Component>(alloc: Global) -> Result<MaskedStorage<T>> {
-    match T::Storage::try_default(alloc) {
-        Ok(inner) => Ok(MaskedStorage::new(alloc, inner)),
-        Err(_) => bail!("out of memory"),
+impl<P: Pointed> Fresh for Moving<P> {
+    fn fresh(alloc: Global) -> Result<Self> {
+        let (positions, velocities) = Fresh::fresh(alloc)?;
+        Ok(Moving {
+            entities: EntitiesRes::new(alloc),
+            positions,
+            velocities,
+        })
     }
+}
+
+/// Gives a component to an entity.
+#[inline(always)]
+pub fn give<T: Component + Drop>(
+    entities: &EntitiesRes,
+    storage: &mut MaskedStorage<T>,
+    entity: Entity,
+    component: T,
+) -> Result<()> {
+    let mut view = WriteStorage::new(entities, storage);
+    if view.insert(entity, component).is_err() {
+        bail!("no component was inserted");
+    }
+    Ok(())
 }
 
 /// The number of a generation that lives.
@@ -42,40 +61,23 @@ pub fn living_sum(entities: &EntitiesRes, count: u32) -> u64 {
 }
 
 impl<P: Pointed> Moving<P> {
-    /// None yet.
-    fn new(alloc: Global) -> Result<Self> {
-        Ok(Moving {
-            entities: EntitiesRes::new(alloc),
-            positions: empty(alloc)?,
-            velocities: empty(alloc)?,
-        })
-    }
-
     /// An entity of its own, with both components.
     #[inline]
     pub fn bear(&mut self, position: u32, velocity: u32) -> Result<Entity> {
         let entity = self.entities.alloc_mut().allocate()?;
         let position = P::of(Point::position(position));
-        let mut view = WriteStorage::new(&self.entities, &mut self.positions);
-        if view.insert(entity, position).is_err() {
-            bail!("no position was inserted");
-        }
+        give(&self.entities, &mut self.positions, entity, position)?;
         let velocity = VecVelocity::of(Point::velocity(velocity));
-        let mut view = WriteStorage::new(&self.entities, &mut self.velocities);
-        if view.insert(entity, velocity).is_err() {
-            bail!("no velocity was inserted");
-        }
+        give(&self.entities, &mut self.velocities, entity, velocity)?;
         Ok(entity)
     }
 
-    /// So many, and the list of them.
-    pub fn populate(alloc: Global, count: u32) -> Result<(Self, Vec<Entity>)> {
-        let mut moving = Moving::new(alloc)?;
-        let mut list = Vec::new(alloc);
+    /// So many, and adds each to a list.
+    pub fn populate(&mut self, list: &mut Vec<Entity>, count: u32) -> Result<()> {
         for number in 0..count {
-            list.push(moving.bear(number, number)?)?;
+            list.push(self.bear(number, number)?)?;
         }
-        Ok((moving, list))
+        Ok(())
     }
 
     /// Takes the components of entities out.

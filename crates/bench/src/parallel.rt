@@ -1,5 +1,6 @@
 //! Components that are updated in threads, as many as there are processors that the program may use.
 
+use crate::fresh::Fresh;
 use crate::workload::{Best, Plan};
 use anyhow::{Result, bail};
 use hibits::{BitSetAll, Index};
@@ -9,7 +10,7 @@ use std::alloc::{Alloc, Global};
 use std::io::Print;
 use std::thread::Threads;
 use std::time::{Clock, Instant};
-use storages::{Component, MaskedStorage, TryDefault, VecStorage};
+use storages::{Component, MaskedStorage, VecStorage};
 
 /// A number to start from.
 #[derive(Clone, Copy)]
@@ -30,19 +31,15 @@ fn heavy(seed: u64) -> u64 {
     x
 }
 
-/// An odd number at each index.
-fn seeds(alloc: Global, count: u32) -> Result<MaskedStorage<Seed>> {
-    let Ok(inner) = VecStorage::try_default(alloc) else {
-        bail!("out of memory")
-    };
-    let mut storage = MaskedStorage::new(alloc, inner);
+/// Puts an odd number at each index.
+fn put_seeds(storage: &mut MaskedStorage<Seed>, count: u32) -> Result<()> {
     for id in 0..count {
         let seed = Seed(u64::from(id).wrapping_mul(2).wrapping_add(1));
         if id < 16_777_216 && storage.put(id, seed).is_err() {
             bail!("no seed was put");
         }
     }
-    Ok(storage)
+    Ok(())
 }
 
 /// The sum of all, which wraps.
@@ -121,18 +118,35 @@ fn report(
     plan: &Plan,
     name: &str,
 ) -> Result<()> {
-    let passes = (plan.passes() / 10).max(1);
     let mut best = Best::new(name);
     for run in 0..plan.runs() {
-        let mut storage = seeds(rt.alloc(), plan.count)?;
-        let start = Instant::now(rt)?;
-        let answer = if name == "j_par_heavy_seq" {
-            run_by_cursor(&mut storage, passes)
-        } else {
-            run_rounds(rt, &mut storage, passes)?
-        };
-        let nanoseconds = u64::try_from(start.elapsed(rt)?.as_nanos())?;
+        let mut storage = Fresh::fresh(rt.alloc())?;
+        let (nanoseconds, answer) = timed(rt, &mut storage, plan, name != "j_par_heavy_seq")?;
         best.take(run, nanoseconds, answer)?;
     }
-    best.print(rt, plan, u64::from(plan.count).saturating_mul(passes))
+    let operations = u64::from(plan.count).saturating_mul(passes_of(plan));
+    best.print(rt, plan, operations)
+}
+
+/// How often the rounds are run on each seed.
+fn passes_of(plan: &Plan) -> u64 {
+    (plan.passes() / 10).max(1)
+}
+
+/// One run over a storage that is filled first: how long the rounds took, and what they make.
+fn timed(
+    rt: &(impl Threads + Alloc<A = Global> + Sync + Clock),
+    storage: &mut MaskedStorage<Seed>,
+    plan: &Plan,
+    in_threads: bool,
+) -> Result<(u64, u64)> {
+    put_seeds(storage, plan.count)?;
+    let passes = passes_of(plan);
+    let start = Instant::now(rt)?;
+    let answer = if in_threads {
+        run_rounds(rt, storage, passes)?
+    } else {
+        run_by_cursor(storage, passes)
+    };
+    Ok((u64::try_from(start.elapsed(rt)?.as_nanos())?, answer))
 }

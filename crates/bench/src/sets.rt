@@ -1,5 +1,6 @@
 //! Workloads over sets.
 
+use crate::fresh::Fresh;
 use crate::random::{Random, mix};
 use crate::workload::{Plan, Workload, report};
 use anyhow::Result;
@@ -15,35 +16,50 @@ struct Adds {
     shuffled: bool,
 }
 
+/// A set that grows, and the indices to add.
+#[derive(Drop)]
+struct Growing {
+    set: BitSet,
+    list: Vec<u32>,
+}
+
+impl Fresh for Growing {
+    fn fresh(alloc: Global) -> Result<Self> {
+        Ok(Growing {
+            set: BitSet::new(alloc),
+            list: Vec::new(alloc),
+        })
+    }
+}
+
 impl Workload for Adds {
-    type State = (BitSet, Vec<u32>);
+    type State = Growing;
 
     fn operations(&self) -> u64 {
         u64::from(self.count)
     }
 
-    fn prepare(&self, alloc: Global) -> Result<(BitSet, Vec<u32>)> {
-        let mut list = Vec::new(alloc);
+    fn prepare(&self, _alloc: Global, state: &mut Growing) -> Result<()> {
         for id in 0..self.count {
-            list.push(id)?;
+            state.list.push(id)?;
         }
         if self.shuffled {
-            Random::new().shuffle(&mut list);
+            Random::new().shuffle(&mut state.list);
         }
-        Ok((BitSet::new(alloc), list))
+        Ok(())
     }
 
-    fn work(&self, state: &mut (BitSet, Vec<u32>)) -> Result<u64> {
-        let set = &mut state.0;
-        for id in state.1.as_slice() {
+    fn work(&self, state: &mut Growing) -> Result<u64> {
+        let set = &mut state.set;
+        for id in state.list.as_slice() {
             set.add(*id)?;
         }
         Ok(0)
     }
 
-    fn checksum(&self, state: &(BitSet, Vec<u32>), _answer: u64) -> u64 {
+    fn checksum(&self, state: &Growing, _answer: u64) -> u64 {
         let mut sum = 0;
-        for id in state.0.iter() {
+        for id in state.set.iter() {
             sum = mix(sum, u64::from(id));
         }
         sum
@@ -59,15 +75,14 @@ struct Walks {
     passes: u64,
 }
 
-/// The multiples of `step` below `count`.
-fn multiples(alloc: Global, count: u32, step: u32) -> Result<BitSet> {
-    let mut set = BitSet::new(alloc);
+/// Adds the multiples of `step` below `count`.
+fn add_multiples(set: &mut BitSet, count: u32, step: u32) -> Result<()> {
     for id in 0..count {
         if step != 0 && id % step == 0 {
             set.add(id)?;
         }
     }
-    Ok(set)
+    Ok(())
 }
 
 /// A checksum of one walk.
@@ -79,8 +94,24 @@ fn walk_once(a: &BitSet, b: &BitSet) -> u64 {
     sum
 }
 
+/// Two sets.
+#[derive(Drop)]
+struct TwoSets {
+    first: BitSet,
+    second: BitSet,
+}
+
+impl Fresh for TwoSets {
+    fn fresh(alloc: Global) -> Result<Self> {
+        Ok(TwoSets {
+            first: BitSet::new(alloc),
+            second: BitSet::new(alloc),
+        })
+    }
+}
+
 impl Workload for Walks {
-    type State = (BitSet, BitSet);
+    type State = TwoSets;
 
     fn operations(&self) -> u64 {
         let mut indices: u64 = 0;
@@ -96,22 +127,20 @@ impl Workload for Walks {
         indices.saturating_mul(self.passes)
     }
 
-    fn prepare(&self, alloc: Global) -> Result<(BitSet, BitSet)> {
-        Ok((
-            multiples(alloc, self.count, self.first)?,
-            multiples(alloc, self.count, self.second)?,
-        ))
+    fn prepare(&self, _alloc: Global, state: &mut TwoSets) -> Result<()> {
+        add_multiples(&mut state.first, self.count, self.first)?;
+        add_multiples(&mut state.second, self.count, self.second)
     }
 
-    fn work(&self, state: &mut (BitSet, BitSet)) -> Result<u64> {
+    fn work(&self, state: &mut TwoSets) -> Result<u64> {
         let mut sum: u64 = 0;
         for _pass in 0..self.passes {
-            sum = sum.wrapping_add(walk_once(&state.0, &state.1));
+            sum = sum.wrapping_add(walk_once(&state.first, &state.second));
         }
         Ok(sum)
     }
 
-    fn checksum(&self, _state: &(BitSet, BitSet), answer: u64) -> u64 {
+    fn checksum(&self, _state: &TwoSets, answer: u64) -> u64 {
         answer
     }
 }

@@ -91,15 +91,25 @@ pub fn run(
     if !name.starts_with(prefix) {
         return Ok(());
     }
-    let each = plan.count / THREADS;
-    let count = each * THREADS;
     let mut best = Best::new(name);
     for run in 0..plan.runs() {
         let mut entities = EntitiesRes::new(alloc);
-        let start = Instant::now(rt)?;
-        let answer = draw_in_phase(rt, alloc, &mut entities, each)?;
-        let nanoseconds = u64::try_from(start.elapsed(rt)?.as_nanos())?;
-        best.take(run, nanoseconds, mix(living_sum(&entities, count), answer))?;
+        let (nanoseconds, sum) = timed(rt, alloc, &mut entities, plan.count / THREADS)?;
+        best.take(run, nanoseconds, sum)?;
     }
-    best.print(rt, plan, u64::from(count))
+    best.print(rt, plan, u64::from(plan.count / THREADS * THREADS))
+}
+
+/// One run: how long so many births by each thread took, and a checksum.
+fn timed(
+    rt: &(impl Threads + Sync + Clock),
+    alloc: Global,
+    entities: &mut EntitiesRes,
+    each: u32,
+) -> Result<(u64, u64)> {
+    let start = Instant::now(rt)?;
+    let answer = draw_in_phase(rt, alloc, entities, each)?;
+    let nanoseconds = u64::try_from(start.elapsed(rt)?.as_nanos())?;
+    let count = each.saturating_mul(THREADS);
+    Ok((nanoseconds, mix(living_sum(entities, count), answer)))
 }

@@ -8,3 +8,4 @@ pub mod Saving
 pub mod Sound
 pub mod Loaded
 pub mod Renaming
+pub mod JsonLists

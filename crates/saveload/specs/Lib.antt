@@ -10,3 +10,6 @@ pub mod Saved
 pub mod Closing
 pub mod Loads
 pub mod Law
+pub mod Json
+pub mod JsonNumbers
+pub mod JsonTuples

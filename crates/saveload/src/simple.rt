@@ -22,6 +22,18 @@ pub struct SimpleMarker<T> {
     kind: PhantomData<T>,
 }
 
+impl<T> SimpleMarker<T> {
+    // The marker of a number.
+    pub(crate) fn of(id: u64) -> Self
+        ensures { result.id ≡ id }
+    {
+        SimpleMarker {
+            id,
+            kind: PhantomData,
+        }
+    }
+}
+
 impl<T> Clone for SimpleMarker<T> {
     ghost is_clone = { λ a b. a ≡ b };
 

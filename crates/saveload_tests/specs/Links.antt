@@ -1,8 +1,11 @@
 -- Values that are one reference.
-use Rattle.std.specs.Prelude.{◌≡◌, [], ◌∷◌, refl}
+use Rattle.std.specs.Prelude.{◌≡◌, ◌≤◌, [], ◌∷◌, refl, false, ℤ, Option, option_map}
 use Rattle.std.proofs.Common.{ap, inl}
 use Rattle.entities.specs.declared.entity.Entity.{Entity}
 use Rattle.saveload.specs.Conversion.{Conversion, IsFaithful}
+use Rattle.saveload.specs.JsonNumbers.{whole_json, whole_from, whole_whole, whole_shallow}
+use Rattle.serde_json.specs.Data.{Data, depth}
+use Rattle.serde_json.specs.Written.{has_float}
 
 -- such a value is saved as the marker of its entity
 abbrev pub link_conversion : {M V : Type 0} → (V → Entity) → (Entity → V) → Conversion M V M
@@ -16,3 +19,16 @@ link_faithful target link = record {
   renamed_same = λ r q v same. ap link (same (target v) (inl refl));
   loaded_same = λ g h d same. ap link (same d (inl refl));
 }
+
+-- a value that is one whole number
+abbrev pub position_json : {V : Type 0} → (V → ℤ) → V → Data
+position_json number v = whole_json (number v)
+
+abbrev pub position_from : {V : Type 0} → (ℤ → V) → Data → Option V
+position_from of d = option_map of (whole_from d)
+
+pub position_whole : {V : Type 0} (number : V → ℤ) (v : V) → has_float (position_json number v) ≡ false
+position_whole number v = whole_whole (number v)
+
+pub position_shallow : {V : Type 0} (number : V → ℤ) (v : V) → depth (position_json number v) ≤ 123
+position_shallow number v = whole_shallow (number v)

@@ -3,7 +3,8 @@ ghost use Rattle.saveload.specs.Plain.{plain_conversion, plain_faithful};
 ghost use Rattle.saveload_tests.specs.Links.{link_conversion, link_faithful};
 
 use entities::Entity;
-use saveload::{ConvertSaveload, LoadError, Marker, SaveError};
+use saveload::{ConvertSaveload, JsonData, LoadError, Marker, SaveError};
+use serde_json::Value;
 use std::alloc::{AllocError, Global};
 use storages::{Component, VecStorage};
 
@@ -98,4 +99,24 @@ impl<M: Marker> ConvertSaveload<M> for Link {
     }
 
     ghost faithful = { link_faithful (λ v. v.0) (λ e. record { 0 = e }) };
+}
+
+impl JsonData for Position {
+    ghost use Rattle.saveload_tests.specs.Links.{position_json, position_from, position_whole, position_shallow};
+
+    ghost json = { position_json (λ p. p.0) };
+
+    ghost from = { position_from (λ z. record { 0 = z }) };
+
+    fn to_value(&self, alloc: Global) -> Result<Value, AllocError> {
+        self.0.to_value(alloc)
+    }
+
+    fn from_value(alloc: Global, value: &Value) -> Result<Option<Self>, AllocError> {
+        Ok(i64::from_value(alloc, value)?.map(|number| Position(number)))
+    }
+
+    ghost whole = { position_whole (λ p. p.0) };
+
+    ghost shallow = { position_shallow (λ p. p.0) };
 }

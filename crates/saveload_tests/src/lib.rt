@@ -4,6 +4,8 @@
 #[cfg(test)]
 mod components;
 #[cfg(test)]
+mod json_tests;
+#[cfg(test)]
 mod marker_tests;
 #[cfg(test)]
 mod saving_tests;

@@ -1,12 +1,13 @@
 //! Entities with a position, a velocity and some with a number.
 
+use crate::fresh::Fresh;
 use crate::joining::spots::{Sparse, Spot, Spotted};
-use crate::moving::{empty, number_of};
+use crate::moving::{give, number_of};
 use crate::random::mix;
-use anyhow::{Result, bail};
-use entities::EntitiesRes;
+use anyhow::Result;
+use entities::{EntitiesRes, Entity};
 use std::alloc::Global;
-use storages::{MaskedStorage, WriteStorage};
+use storages::MaskedStorage;
 
 /// Entities, with storages.
 #[derive(Drop)]
@@ -21,36 +22,39 @@ pub struct Crowd<P: Spotted, V: Spotted> {
     pub sparse: MaskedStorage<Sparse>,
 }
 
-impl<P: Spotted, V: Spotted> Crowd<P, V> {
-    /// So many, every `step`th of which has a number.
-    pub fn populate(alloc: Global, count: u32, step: u32) -> Result<Self> {
-        let mut entities = EntitiesRes::new(alloc);
-        let mut positions = empty::<P>(alloc)?;
-        let mut velocities = empty::<V>(alloc)?;
-        let mut sparse = empty::<Sparse>(alloc)?;
-        for number in 0..count {
-            let entity = entities.alloc_mut().allocate()?;
-            let mut view = WriteStorage::new(&entities, &mut positions);
-            if view.insert(entity, P::of(Spot::position(number))).is_err() {
-                bail!("no position was inserted");
-            }
-            let mut view = WriteStorage::new(&entities, &mut velocities);
-            if view.insert(entity, V::of(Spot::velocity(number))).is_err() {
-                bail!("no velocity was inserted");
-            }
-            if step != 0 && number % step == 0 {
-                let mut view = WriteStorage::new(&entities, &mut sparse);
-                if view.insert(entity, Sparse(u64::from(entity.id()))).is_err() {
-                    bail!("no number was inserted");
-                }
-            }
-        }
+impl<P: Spotted, V: Spotted> Fresh for Crowd<P, V> {
+    fn fresh(alloc: Global) -> Result<Self> {
+        let ((positions, velocities), sparse) = Fresh::fresh(alloc)?;
         Ok(Crowd {
-            entities,
+            entities: EntitiesRes::new(alloc),
             positions,
             velocities,
             sparse,
         })
+    }
+}
+
+impl<P: Spotted, V: Spotted> Crowd<P, V> {
+    /// An entity of its own, with a position and a velocity.
+    fn bear(&mut self, number: u32) -> Result<Entity> {
+        let entity = self.entities.alloc_mut().allocate()?;
+        let position = P::of(Spot::position(number));
+        give(&self.entities, &mut self.positions, entity, position)?;
+        let velocity = V::of(Spot::velocity(number));
+        give(&self.entities, &mut self.velocities, entity, velocity)?;
+        Ok(entity)
+    }
+
+    /// So many, every `step`th of which has a number.
+    pub fn populate(&mut self, count: u32, step: u32) -> Result<()> {
+        for number in 0..count {
+            let entity = self.bear(number)?;
+            if step != 0 && number % step == 0 {
+                let value = Sparse(u64::from(entity.id()));
+                give(&self.entities, &mut self.sparse, entity, value)?;
+            }
+        }
+        Ok(())
     }
 
     /// A checksum of the entities below `count` that have a position, ascending, with their positions.

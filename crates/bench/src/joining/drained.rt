@@ -36,8 +36,8 @@ impl Workload for Drains {
         u64::from(self.count)
     }
 
-    fn prepare(&self, alloc: Global) -> Result<Self::State> {
-        Crowd::populate(alloc, self.count, 0)
+    fn prepare(&self, _alloc: Global, state: &mut Self::State) -> Result<()> {
+        state.populate(self.count, 0)
     }
 
     fn work(&self, state: &mut Self::State) -> Result<u64> {

@@ -1,10 +1,10 @@
 //! Data on all entities, joined with eight storages in turn, each of which has one entity in eight.
 
-use crate::moving::empty;
+use crate::fresh::Fresh;
 use crate::random::mix;
 use crate::workload::{Plan, Workload, report};
 use anyhow::{Result, bail};
-use joins::{Join, JoinMut};
+use joins::JoinMut;
 use std::alloc::Global;
 use std::io::Print;
 use std::time::Clock;
@@ -40,27 +40,34 @@ struct Fragments {
     passes: u64,
 }
 
-// Data for each index.
-fn data_of(alloc: Global, count: u32) -> Result<MaskedStorage<Data>> {
-    let mut data = empty::<Data>(alloc)?;
+impl Fresh for Fragmented {
+    fn fresh(alloc: Global) -> Result<Self> {
+        Ok(Fragmented {
+            data: Fresh::fresh(alloc)?,
+            fragments: Vec::new(alloc),
+        })
+    }
+}
+
+// Puts data at each index.
+fn put_data(data: &mut MaskedStorage<Data>, count: u32) -> Result<()> {
     for id in 0..count {
         if id < 16_777_216 && data.put(id, Data(u64::from(id))).is_err() {
             bail!("no data was put");
         }
     }
-    Ok(data)
+    Ok(())
 }
 
-// Fragments for each eighth index, from one on.
-fn fragments_from(alloc: Global, first: u32, count: u32) -> Result<MaskedStorage<Fragment>> {
-    let mut fragments = empty::<Fragment>(alloc)?;
+// Puts fragments at each eighth index, from one on.
+fn put_fragments(fragments: &mut MaskedStorage<Fragment>, first: u32, count: u32) -> Result<()> {
     for id in 0..count {
         let fragment = Fragment(u64::from(id) % 13);
         if id % 8 == first && id < 16_777_216 && fragments.put(id, fragment).is_err() {
             bail!("no fragment was put");
         }
     }
-    Ok(fragments)
+    Ok(())
 }
 
 // Changes the data beside the fragments of a storage.
@@ -76,12 +83,13 @@ fn join_with(data: &mut MaskedStorage<Data>, fragments: &MaskedStorage<Fragment>
     }
 }
 
-// A checksum of the data.
-fn checksum_of(data: &MaskedStorage<Data>) -> u64 {
+// A checksum of the data below `count`.
+fn checksum_of(data: &MaskedStorage<Data>, count: u32) -> u64 {
     let mut sum = 0;
-    let mut all = data.join();
-    while let Some(data) = all.next() {
-        sum = mix(sum, data.0);
+    for id in 0..count {
+        if let Some(data) = data.get(id) {
+            sum = mix(sum, data.0);
+        }
     }
     sum
 }
@@ -93,15 +101,16 @@ impl Workload for Fragments {
         u64::from(self.count).saturating_mul(self.passes)
     }
 
-    fn prepare(&self, alloc: Global) -> Result<Self::State> {
-        let mut fragments = Vec::new(alloc);
-        for first in 0..8u32 {
-            fragments.push(fragments_from(alloc, first, self.count)?)?;
+    fn prepare(&self, alloc: Global, state: &mut Self::State) -> Result<()> {
+        for _ in 0..8u32 {
+            state.fragments.push(Fresh::fresh(alloc)?)?;
         }
-        Ok(Fragmented {
-            data: data_of(alloc, self.count)?,
-            fragments,
-        })
+        let mut first: u32 = 0;
+        for fragments in &mut state.fragments {
+            put_fragments(fragments, first, self.count)?;
+            first = first.wrapping_add(1);
+        }
+        put_data(&mut state.data, self.count)
     }
 
     fn work(&self, state: &mut Self::State) -> Result<u64> {
@@ -116,7 +125,7 @@ impl Workload for Fragments {
     }
 
     fn checksum(&self, state: &Self::State, _answer: u64) -> u64 {
-        checksum_of(&state.data)
+        checksum_of(&state.data, self.count)
     }
 }
 

@@ -1,27 +1,19 @@
 //! Positions that go on by velocities, in threads and by a cursor: little work for each.
 
+use crate::fresh::Fresh;
 use crate::joining::crowd::Crowd;
+use crate::joining::looking::read_sum;
 use crate::joining::spots::{VecPosition, VecVelocity, bits_of};
 use crate::random::mix;
 use crate::workload::{Best, Plan};
 use anyhow::Result;
-use joins::{Join, JoinMut};
+use joins::JoinMut;
 use joins_parallel::par_update;
 use std::alloc::{Alloc, Global};
 use std::io::Print;
 use std::thread::Threads;
 use std::time::{Clock, Instant};
 use storages::MaskedStorage;
-
-/// The sum of the positions to the right, which wraps.
-fn sum_of(positions: &MaskedStorage<VecPosition>) -> u64 {
-    let mut sum: u64 = 0;
-    let mut all = positions.join();
-    while let Some(position) = all.next() {
-        sum = sum.wrapping_add(bits_of(position.0.x));
-    }
-    sum
-}
 
 /// Moves each in threads.
 fn move_in_threads(
@@ -35,7 +27,7 @@ fn move_in_threads(
         Some(VecPosition(spot))
     };
     par_update(rt, positions, velocities, moved)?;
-    Ok(sum_of(positions))
+    Ok(read_sum(positions))
 }
 
 /// Moves each by a cursor.
@@ -100,18 +92,29 @@ fn report(
     plan: &Plan,
     name: &str,
 ) -> Result<()> {
-    let in_threads = name != "j_par_light_seq";
     let mut best = Best::new(name);
     for run in 0..plan.runs() {
-        let mut state = Crowd::<VecPosition, VecVelocity>::populate(rt.alloc(), plan.count, 0)?;
-        let start = Instant::now(rt)?;
-        let answer = move_all(rt, &mut state, plan.passes(), in_threads)?;
-        let nanoseconds = u64::try_from(start.elapsed(rt)?.as_nanos())?;
-        best.take(run, nanoseconds, mix(answer, state.sum(plan.count)))?;
+        let mut state = Fresh::fresh(rt.alloc())?;
+        let (nanoseconds, sum) = timed(rt, &mut state, plan, name != "j_par_light_seq")?;
+        best.take(run, nanoseconds, sum)?;
     }
     best.print(
         rt,
         plan,
         u64::from(plan.count).saturating_mul(plan.passes()),
     )
+}
+
+/// One run over a crowd that is filled first: how long all took to move, and a checksum.
+fn timed(
+    rt: &(impl Threads + Alloc<A = Global> + Sync + Clock),
+    state: &mut Crowd<VecPosition, VecVelocity>,
+    plan: &Plan,
+    in_threads: bool,
+) -> Result<(u64, u64)> {
+    state.populate(plan.count, 0)?;
+    let start = Instant::now(rt)?;
+    let answer = move_all(rt, state, plan.passes(), in_threads)?;
+    let nanoseconds = u64::try_from(start.elapsed(rt)?.as_nanos())?;
+    Ok((nanoseconds, mix(answer, state.sum(plan.count))))
 }

@@ -24,7 +24,8 @@ impl Pass for ReadSum {
     }
 }
 
-fn read_sum(positions: &MaskedStorage<VecPosition>) -> u64 {
+/// The sum of the positions to the right, which wraps.
+pub fn read_sum(positions: &MaskedStorage<VecPosition>) -> u64 {
     let mut sum: u64 = 0;
     let mut iter = JoinIter::new(positions);
     while let Some(position) = iter.next() {

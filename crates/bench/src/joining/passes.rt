@@ -3,11 +3,11 @@ ghost use Rattle.std.specs.Prelude.{◌<◌};
 
 use crate::joining::crowd::Crowd;
 use crate::joining::looking::{EntitySum, Entries, ReadSum, Restricted};
-use crate::joining::spots::Spotted;
-use crate::joining::writing::{
-    Joined3, JoinedDefault, MaybeSparse, MoveDefault, MoveDense, MoveVec, NotSparse, SparseDefault,
-    SparseOnes,
+use crate::joining::spots::{
+    DefaultPosition, DefaultVelocity, DensePosition, DenseVelocity, Spotted, VecPosition,
+    VecVelocity,
 };
+use crate::joining::writing::{Joined3, MaybeSparse, Moved, NotSparse, SparseOnes};
 use crate::joining::{drained, fragments};
 use crate::random::mix;
 use crate::workload::{Plan, Workload, report};
@@ -55,12 +55,12 @@ impl<W: Pass> Workload for Passes<W> {
         u64::from(self.shape.joined).saturating_mul(self.shape.passes)
     }
 
-    fn prepare(&self, alloc: Global) -> Result<Self::State> {
-        let mut state = Crowd::populate(alloc, self.count, self.shape.step)?;
+    fn prepare(&self, _alloc: Global, state: &mut Self::State) -> Result<()> {
+        state.populate(self.count, self.shape.step)?;
         if self.shape.warm {
-            W::pass(&mut state);
+            W::pass(state);
         }
-        Ok(state)
+        Ok(())
     }
 
     fn work(&self, state: &mut Self::State) -> Result<u64> {
@@ -146,35 +146,75 @@ fn thirds(plan: &Plan, joined: u32) -> Shape {
     }
 }
 
+/// Reports on storages of vectors of several kinds.
+fn run_kinds<R: Clock + Print>(to: &Reporter<'_, R>) -> Result<()> {
+    let (all, one) = (full(to.plan), sparse(to.plan));
+    let some = thirds(to.plan, every(to.plan.count, 3));
+    to.pass(
+        "b_join_vec",
+        all,
+        PhantomData::<Moved<VecPosition, VecVelocity>>,
+    )?;
+    to.pass(
+        "b_join_vec+default",
+        all,
+        PhantomData::<Moved<DefaultPosition, DefaultVelocity>>,
+    )?;
+    to.pass(
+        "c_join_sparse64+default",
+        one,
+        PhantomData::<SparseOnes<DefaultPosition, DefaultVelocity>>,
+    )?;
+    to.pass(
+        "o_join3+default",
+        some,
+        PhantomData::<Joined3<DefaultPosition, DefaultVelocity>>,
+    )?;
+    to.pass(
+        "b_join_dense",
+        all,
+        PhantomData::<Moved<DensePosition, DenseVelocity>>,
+    )?;
+    to.pass(
+        "c_join_sparse64",
+        one,
+        PhantomData::<SparseOnes<VecPosition, VecVelocity>>,
+    )
+}
+
+/// Reports on the ways to join one kind.
+fn run_ways<R: Clock + Print>(to: &Reporter<'_, R>) -> Result<()> {
+    let numbered = every(to.plan.count, 3);
+    let all = thirds(to.plan, to.plan.count);
+    let some = thirds(to.plan, numbered);
+    let others = thirds(to.plan, to.plan.count.saturating_sub(numbered));
+    to.pass("o_read_sum", all, PhantomData::<ReadSum>)?;
+    to.pass("o_join_entities", all, PhantomData::<EntitySum>)?;
+    to.pass("o_join_not", others, PhantomData::<NotSparse>)?;
+    to.pass(
+        "o_join3",
+        some,
+        PhantomData::<Joined3<VecPosition, VecVelocity>>,
+    )?;
+    to.pass("o_join_maybe", all, PhantomData::<MaybeSparse>)?;
+    to.pass("o_join_entries", all, PhantomData::<Entries>)?;
+    to.pass("o_join_restricted", all, PhantomData::<Restricted>)
+}
+
+/// Reports on each pass.
+fn run_all<R: Clock + Print>(to: &Reporter<'_, R>) -> Result<()> {
+    run_kinds(to)?;
+    run_ways(to)
+}
+
 /// Reports on each.
 pub fn run(rt: &(impl Clock + Print), alloc: Global, plan: &Plan, prefix: &str) -> Result<()> {
-    let to = Reporter {
+    run_all(&Reporter {
         rt,
         alloc,
         plan,
         prefix,
-    };
-    let numbered = every(plan.count, 3);
-    let all = thirds(plan, plan.count);
-    let some = thirds(plan, numbered);
-    let others = thirds(plan, plan.count.saturating_sub(numbered));
-    to.pass("b_join_vec", full(plan), PhantomData::<MoveVec>)?;
-    to.pass("b_join_vec+default", full(plan), PhantomData::<MoveDefault>)?;
-    to.pass(
-        "c_join_sparse64+default",
-        sparse(plan),
-        PhantomData::<SparseDefault>,
-    )?;
-    to.pass("o_join3+default", some, PhantomData::<JoinedDefault>)?;
-    to.pass("b_join_dense", full(plan), PhantomData::<MoveDense>)?;
-    to.pass("c_join_sparse64", sparse(plan), PhantomData::<SparseOnes>)?;
-    to.pass("o_read_sum", all, PhantomData::<ReadSum>)?;
-    to.pass("o_join_entities", all, PhantomData::<EntitySum>)?;
-    to.pass("o_join_not", others, PhantomData::<NotSparse>)?;
-    to.pass("o_join3", some, PhantomData::<Joined3>)?;
-    to.pass("o_join_maybe", all, PhantomData::<MaybeSparse>)?;
-    to.pass("o_join_entries", all, PhantomData::<Entries>)?;
-    to.pass("o_join_restricted", all, PhantomData::<Restricted>)?;
+    })?;
     drained::run(rt, alloc, plan, prefix)?;
     fragments::run(rt, alloc, plan, prefix)
 }

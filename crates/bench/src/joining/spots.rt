@@ -61,6 +61,9 @@ pub trait Spotted: Component + Drop {
 
     /// The point.
     fn point(&self) -> Spot;
+
+    /// The point, to change it.
+    fn point_mut(&mut self) -> &mut Spot;
 }
 
 /// A position in a `VecStorage`.
@@ -111,6 +114,10 @@ impl Spotted for VecPosition {
     fn point(&self) -> Spot {
         self.0
     }
+
+    fn point_mut(&mut self) -> &mut Spot {
+        &mut self.0
+    }
 }
 
 impl Spotted for VecVelocity {
@@ -120,6 +127,10 @@ impl Spotted for VecVelocity {
 
     fn point(&self) -> Spot {
         self.0
+    }
+
+    fn point_mut(&mut self) -> &mut Spot {
+        &mut self.0
     }
 }
 
@@ -131,6 +142,10 @@ impl Spotted for DensePosition {
     fn point(&self) -> Spot {
         self.0
     }
+
+    fn point_mut(&mut self) -> &mut Spot {
+        &mut self.0
+    }
 }
 
 impl Spotted for DenseVelocity {
@@ -140,6 +155,10 @@ impl Spotted for DenseVelocity {
 
     fn point(&self) -> Spot {
         self.0
+    }
+
+    fn point_mut(&mut self) -> &mut Spot {
+        &mut self.0
     }
 }
 
@@ -159,6 +178,10 @@ impl Spotted for DefaultPosition {
     fn point(&self) -> Spot {
         self.0
     }
+
+    fn point_mut(&mut self) -> &mut Spot {
+        &mut self.0
+    }
 }
 
 /// Of points without tags.
@@ -176,5 +199,9 @@ impl Spotted for DefaultVelocity {
 
     fn point(&self) -> Spot {
         self.0
+    }
+
+    fn point_mut(&mut self) -> &mut Spot {
+        &mut self.0
     }
 }

@@ -2,93 +2,67 @@
 
 use crate::joining::crowd::Crowd;
 use crate::joining::passes::Pass;
-use crate::joining::spots::{
-    DefaultPosition, DefaultVelocity, DensePosition, DenseVelocity, Sparse, VecPosition,
-    VecVelocity, bits_of,
-};
+use crate::joining::spots::{Sparse, Spotted, VecPosition, VecVelocity, bits_of};
 use joins::{JoinMut, maybe};
+use std::marker::PhantomData;
 use storages::{AntiStorage, MaskedStorage};
-
-/// The positions of dense storages go on by the velocities.
-#[derive(Drop)]
-pub struct MoveDense;
-
-impl Pass for MoveDense {
-    type Position = DensePosition;
-
-    type Velocity = DenseVelocity;
-
-    fn pass(world: &mut Crowd<DensePosition, DenseVelocity>) -> u64 {
-        move_dense(&mut world.positions, &world.velocities);
-        0
-    }
-}
-
-fn move_dense(
-    positions: &mut MaskedStorage<DensePosition>,
-    velocities: &MaskedStorage<DenseVelocity>,
-) {
-    let mut cursor = positions.join_mut(velocities);
-    while let Some(_id) = cursor.next() {
-        if let Some(velocity) = cursor.beside() {
-            if let Ok(position) = cursor.item() {
-                position.0.add(&velocity.0);
-            }
-        }
-    }
-}
 
 /// The numbers go on by the positions.
 #[derive(Drop)]
-pub struct SparseOnes;
+pub struct SparseOnes<P, V> {
+    kind: PhantomData<(P, V)>,
+}
 
-impl Pass for SparseOnes {
-    type Position = VecPosition;
+impl<P: Spotted, V: Spotted> Pass for SparseOnes<P, V> {
+    type Position = P;
 
-    type Velocity = VecVelocity;
+    type Velocity = V;
 
-    fn pass(world: &mut Crowd<VecPosition, VecVelocity>) -> u64 {
+    fn pass(world: &mut Crowd<P, V>) -> u64 {
         sparse_ones(&mut world.sparse, &world.positions);
         0
     }
 }
 
-fn sparse_ones(sparse: &mut MaskedStorage<Sparse>, positions: &MaskedStorage<VecPosition>) {
+fn sparse_ones<P: Spotted>(sparse: &mut MaskedStorage<Sparse>, positions: &MaskedStorage<P>) {
     let mut cursor = sparse.join_mut(positions);
     while let Some(_id) = cursor.next() {
         if let Some(position) = cursor.beside() {
             if let Ok(sparse) = cursor.item() {
-                sparse.0 = sparse.0.wrapping_add(bits_of(position.0.x));
+                sparse.0 = sparse.0.wrapping_add(bits_of(position.point().x));
             }
         }
     }
 }
 
-/// Joined3 storages.
+/// Three storages.
 #[derive(Drop)]
-pub struct Joined3;
+pub struct Joined3<P, V> {
+    kind: PhantomData<(P, V)>,
+}
 
-impl Pass for Joined3 {
-    type Position = VecPosition;
+impl<P: Spotted, V: Spotted> Pass for Joined3<P, V> {
+    type Position = P;
 
-    type Velocity = VecVelocity;
+    type Velocity = V;
 
-    fn pass(world: &mut Crowd<VecPosition, VecVelocity>) -> u64 {
+    fn pass(world: &mut Crowd<P, V>) -> u64 {
         three(&mut world.positions, &world.velocities, &world.sparse);
         0
     }
 }
 
-fn three(
-    positions: &mut MaskedStorage<VecPosition>,
-    velocities: &MaskedStorage<VecVelocity>,
+fn three<P: Spotted, V: Spotted>(
+    positions: &mut MaskedStorage<P>,
+    velocities: &MaskedStorage<V>,
     sparse: &MaskedStorage<Sparse>,
 ) {
     let mut cursor = positions.join_mut((velocities, sparse));
     while let Some(_id) = cursor.next() {
         if let Some((velocity, sparse)) = cursor.beside() {
             if let Ok(position) = cursor.item() {
-                position.0.x = position.0.x + (velocity.0.x + (sparse.0 & 1) as f32);
+                let position = position.point_mut();
+                position.x = position.x + (velocity.point().x + (sparse.0 & 1) as f32);
             }
         }
     }
@@ -126,113 +100,30 @@ fn maybe_sparse(positions: &mut MaskedStorage<VecPosition>, sparse: &MaskedStora
 
 /// The positions go on by the velocities.
 #[derive(Drop)]
-pub struct MoveVec;
+pub struct Moved<P, V> {
+    kind: PhantomData<(P, V)>,
+}
 
-impl Pass for MoveVec {
-    type Position = VecPosition;
+impl<P: Spotted, V: Spotted> Pass for Moved<P, V> {
+    type Position = P;
 
-    type Velocity = VecVelocity;
+    type Velocity = V;
 
-    fn pass(world: &mut Crowd<VecPosition, VecVelocity>) -> u64 {
-        move_vec(&mut world.positions, &world.velocities);
+    fn pass(world: &mut Crowd<P, V>) -> u64 {
+        move_all(&mut world.positions, &world.velocities);
         0
     }
 }
 
-fn move_vec(positions: &mut MaskedStorage<VecPosition>, velocities: &MaskedStorage<VecVelocity>) {
-    let mut cursor = positions.join_mut(velocities);
-    while let Some(_id) = cursor.next() {
-        if let Some(velocity) = cursor.beside() {
-            if let Ok(position) = cursor.item() {
-                position.0.add(&velocity.0);
-            }
-        }
-    }
-}
-
-/// The positions go on by the velocities, without tags.
-#[derive(Drop)]
-pub struct MoveDefault;
-
-impl Pass for MoveDefault {
-    type Position = DefaultPosition;
-
-    type Velocity = DefaultVelocity;
-
-    fn pass(world: &mut Crowd<DefaultPosition, DefaultVelocity>) -> u64 {
-        move_default(&mut world.positions, &world.velocities);
-        0
-    }
-}
-
-fn move_default(
-    positions: &mut MaskedStorage<DefaultPosition>,
-    velocities: &MaskedStorage<DefaultVelocity>,
+fn move_all<P: Spotted, V: Spotted>(
+    positions: &mut MaskedStorage<P>,
+    velocities: &MaskedStorage<V>,
 ) {
     let mut cursor = positions.join_mut(velocities);
     while let Some(_id) = cursor.next() {
         if let Some(velocity) = cursor.beside() {
             if let Ok(position) = cursor.item() {
-                position.0.add(&velocity.0);
-            }
-        }
-    }
-}
-
-/// The numbers go on by the positions without tags.
-#[derive(Drop)]
-pub struct SparseDefault;
-
-impl Pass for SparseDefault {
-    type Position = DefaultPosition;
-
-    type Velocity = DefaultVelocity;
-
-    fn pass(world: &mut Crowd<DefaultPosition, DefaultVelocity>) -> u64 {
-        sparse_default_ones(&mut world.sparse, &world.positions);
-        0
-    }
-}
-
-fn sparse_default_ones(
-    sparse: &mut MaskedStorage<Sparse>,
-    positions: &MaskedStorage<DefaultPosition>,
-) {
-    let mut cursor = sparse.join_mut(positions);
-    while let Some(_id) = cursor.next() {
-        if let Some(position) = cursor.beside() {
-            if let Ok(sparse) = cursor.item() {
-                sparse.0 = sparse.0.wrapping_add(bits_of(position.0.x));
-            }
-        }
-    }
-}
-
-/// Three storages, without tags.
-#[derive(Drop)]
-pub struct JoinedDefault;
-
-impl Pass for JoinedDefault {
-    type Position = DefaultPosition;
-
-    type Velocity = DefaultVelocity;
-
-    fn pass(world: &mut Crowd<DefaultPosition, DefaultVelocity>) -> u64 {
-        three_default(&mut world.positions, &world.velocities, &world.sparse);
-        0
-    }
-}
-
-fn three_default(
-    positions: &mut MaskedStorage<DefaultPosition>,
-    velocities: &MaskedStorage<DefaultVelocity>,
-    sparse: &MaskedStorage<Sparse>,
-) {
-    let mut cursor = positions.join_mut((velocities, sparse));
-    while let Some(_id) = cursor.next() {
-        if let Some((velocity, sparse)) = cursor.beside() {
-            if let Ok(position) = cursor.item() {
-                position.0.x = position.0.x + (velocity.0.x + (sparse.0 & 1) as f32);
+                position.point_mut().add(&velocity.point());
             }
         }
     }
