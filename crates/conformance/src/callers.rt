@@ -16,7 +16,11 @@ pub fn is_gone(world: &World<Small>, e: Entity) -> bool
 
 /// A phase of one entity and one pass over the entities of a world, which marks an entity. It answers the entity that the pass was given,
 /// whose birth is pending, if it was given one and the mark was made.
-pub fn born_in_a_phase(alloc: Global, world: &mut World<Small>, doomed: Entity) -> Option<Entity> {
+pub fn born_in_a_phase<S: Storages>(
+    alloc: Global,
+    world: &mut World<S>,
+    doomed: Entity,
+) -> Option<Entity> {
     let mut given = None;
     if let Ok((shared, mut passes)) = world.parts().core.parts().entities.open(alloc, 1, 1) {
         if let Some(mut pass) = passes.pop() {

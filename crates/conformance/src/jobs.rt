@@ -1,6 +1,6 @@
 //! Jobs that a world does when it is maintained.
-use crate::small::{POS, Small, TAG};
-use composed::Empty;
+use crate::small::Small;
+use crate::stories::Sample;
 use slots::{Position, Tag};
 use specs::{
     Builder, Command, Entity, Job, JobList, Reply, Storages, World, WorldJob, component, value,
@@ -8,12 +8,11 @@ use specs::{
 use specs_run::ScriptJob;
 use std::alloc::Global;
 use std::process::Abort;
-use std::test::Fail;
 
-type Busy = World<Small, ScriptJob>;
+type Busy<S> = World<S, ScriptJob>;
 
 /// How many jobs ran, how many refusals they counted, and how many wait, where none found no memory.
-fn done(world: &mut Busy, limit: u64) -> Option<(u64, u128, usize)> {
+fn done<S: Storages>(world: &mut Busy<S>, limit: u64) -> Option<(u64, u128, usize)> {
     match world.maintain(limit) {
         Ok(m) if !m.stopped => Some((m.ran, m.refused, m.left)),
         _ => None,
@@ -21,7 +20,7 @@ fn done(world: &mut Busy, limit: u64) -> Option<(u64, u128, usize)> {
 }
 
 /// Two entities, and storages for both component types.
-fn begin(world: &mut Busy) -> Option<(Entity, Entity)> {
+fn begin<P, T, S: Sample<P, T>>(world: &mut Busy<S>) -> Option<(Entity, Entity)> {
     world.register::<Position, _>().ok()?;
     world.register::<Tag, _>().ok()?;
     let first = world.create_entity().ok()?.build();
@@ -29,9 +28,9 @@ fn begin(world: &mut Busy) -> Option<(Entity, Entity)> {
     Some((first, second))
 }
 
-fn position(world: &mut Busy, e: Entity) -> Option<i64> {
-    match world.apply(Command::Get(POS, e)) {
-        Reply::Value(Some(found)) => match component::<Position, Small, _>(found) {
+fn position<P, T, S: Sample<P, T>>(world: &mut Busy<S>, e: Entity) -> Option<i64> {
+    match world.apply(Command::Get(S::pos(), e)) {
+        Reply::Value(Some(found)) => match component::<Position, S, _>(found) {
             Ok(Position(x)) => Some(x),
             Err(_) => None,
         },
@@ -39,26 +38,22 @@ fn position(world: &mut Busy, e: Entity) -> Option<i64> {
     }
 }
 
-fn is_tagged(world: &mut Busy, e: Entity) -> bool {
-    matches!(world.apply(Command::Get(TAG, e)), Reply::Value(Some(_)))
+fn is_tagged<P, T, S: Sample<P, T>>(world: &mut Busy<S>, e: Entity) -> bool {
+    matches!(
+        world.apply(Command::Get(S::tag(), e)),
+        Reply::Value(Some(_))
+    )
 }
 
-fn at(e: Entity, x: i64) -> Job<Small, ScriptJob> {
-    Job::Insert(e, value::<_, Small, _>(Position(x)))
+fn at<P, T, S: Sample<P, T>>(e: Entity, x: i64) -> Job<S, ScriptJob> {
+    Job::Insert(e, value::<_, S, _>(Position(x)))
 }
 
-fn repeats<R: Abort>(rt: &R, world: &mut Busy) {
+fn repeats<R: Abort, S: Storages>(rt: &R, world: &mut Busy<S>) {
     assert!(rt; world.parts().lazy.exec(ScriptJob::Again).is_ok());
     assert_eq!(rt; done(world, 3), Some((3, 0, 1)));
     assert_eq!(rt; world.waiting(), 1);
     assert_eq!(rt; done(world, 0), Some((0, 0, 1)));
-}
-
-#[test]
-fn a_job_that_queues_itself_waits_again(rt: HostRuntime) -> Result<(), Fail> {
-    let mut world = World::new(rt.alloc(), Small::empty());
-    repeats(&rt, &mut world);
-    Ok(())
 }
 
 /// Appends a list of one job.
@@ -92,7 +87,7 @@ fn insert_three<S: Storages, J: WorldJob<S>>(
 }
 
 /// The lists of two workers, of which the second has the last word.
-fn appends(alloc: Global, world: &mut Busy) -> Option<i64> {
+fn appends<P, T, S: Sample<P, T>>(alloc: Global, world: &mut Busy<S>) -> Option<i64> {
     let (e, _) = begin(world)?;
     let appended = append_one(alloc, world, at(e, 1)) && append_one(alloc, world, at(e, 2));
     if !appended || position(world, e).is_some() || done(world, 9) != Some((2, 0, 0)) {
@@ -101,60 +96,88 @@ fn appends(alloc: Global, world: &mut Busy) -> Option<i64> {
     position(world, e)
 }
 
-#[test]
-fn lists_run_in_the_order_of_their_appending(rt: HostRuntime) -> Result<(), Fail> {
-    let mut world = World::new(rt.alloc(), Small::empty());
-    assert_eq!(rt; appends(rt.alloc(), &mut world), Some(2));
-    Ok(())
-}
-
 /// The first pairs of a list are of entities that are alive.
-fn all_at_once(alloc: Global, world: &mut Busy) -> Option<bool> {
+fn all_at_once<P, T, S: Sample<P, T>>(alloc: Global, world: &mut Busy<S>) -> Option<bool> {
     let (first, second) = begin(world)?;
     let gone = Entity::from_parts(9, 1)?;
     let queued = insert_three(
         alloc,
         world,
-        (first, value::<_, Small, _>(Position(4))),
-        (gone, value::<_, Small, _>(Position(5))),
-        (second, value::<_, Small, _>(Tag)),
+        (first, value::<_, S, _>(Position(4))),
+        (gone, value::<_, S, _>(Position(5))),
+        (second, value::<_, S, _>(Tag)),
     );
     let counted = queued && done(world, 1) == Some((1, 1, 0));
     Some(counted && position(world, first) == Some(4) && is_tagged(world, second))
 }
 
-#[test]
-fn insertions_of_a_list_go_on_after_a_refused_one(rt: HostRuntime) -> Result<(), Fail> {
-    let mut world = World::new(rt.alloc(), Small::empty());
-    assert_eq!(rt; all_at_once(rt.alloc(), &mut world), Some(true));
-    Ok(())
-}
-
-fn takes_out(world: &mut Busy) -> Option<bool> {
+fn takes_out<P, T, S: Sample<P, T>>(world: &mut Busy<S>) -> Option<bool> {
     let (first, second) = begin(world)?;
     let queued = queue(world, at(first, 3))
-        && world.parts().lazy.remove(POS, first).is_ok()
-        && world.parts().lazy.remove(POS, second).is_ok();
+        && world.parts().lazy.remove(S::pos(), first).is_ok()
+        && world.parts().lazy.remove(S::pos(), second).is_ok();
     let put = queued && done(world, 1) == Some((1, 0, 2)) && position(world, first) == Some(3);
     Some(put && done(world, 9) == Some((2, 0, 0)) && position(world, first).is_none())
 }
 
-#[test]
-fn a_removal_waits_for_its_turn(rt: HostRuntime) -> Result<(), Fail> {
-    let mut world = World::new(rt.alloc(), Small::empty());
-    assert_eq!(rt; takes_out(&mut world), Some(true));
-    Ok(())
-}
-
-fn marks_nobody(world: &mut Busy) -> Option<bool> {
+fn marks_nobody<P, T, S: Sample<P, T>>(world: &mut Busy<S>) -> Option<bool> {
     let (first, _) = begin(world)?;
-    let queued = world.apply(Command::Queue(Job::Mark(TAG, first)));
+    let queued = world.apply(Command::Queue(Job::Mark(S::tag(), first)));
     Some(matches!(queued, Reply::Done) && done(world, 9)? == (1, 1, 0))
 }
 
+/// What is told of a world.
+#[derive(Clone, Copy)]
+enum Story {
+    Repeats,
+    Appends,
+    AllAtOnce,
+    TakesOut,
+    MarksNobody,
+}
+
+fn tell<R: Abort, P, T, S: Sample<P, T>>(rt: &R, alloc: Global, story: Story, world: &mut Busy<S>) {
+    match story {
+        Story::Repeats => repeats(rt, world),
+        Story::Appends => assert_eq!(rt; appends(alloc, world), Some(2)),
+        Story::AllAtOnce => assert_eq!(rt; all_at_once(alloc, world), Some(true)),
+        Story::TakesOut => assert_eq!(rt; takes_out(world), Some(true)),
+        Story::MarksNobody => assert_eq!(rt; marks_nobody(world), Some(true)),
+    }
+}
+
+/// Tells a story of a new world.
+fn tell_of_new<R: Abort, P, T, S: Sample<P, T> + Drop>(rt: &R, alloc: Global, story: Story) {
+    let mut world = World::new(alloc, S::empty());
+    tell(rt, alloc, story, &mut world);
+}
+
+/// The world is of these storages here alone.
+fn told<R: Abort>(rt: &R, alloc: Global, story: Story) {
+    tell_of_new::<R, _, _, Small>(rt, alloc, story);
+}
+
 #[test]
-fn a_marker_is_refused_where_no_slot_is_of_markers(rt: HostRuntime) -> Result<(), Fail> {
-    let mut world = World::new(rt.alloc(), Small::empty());
-    assert_eq!(rt; marks_nobody(&mut world), Some(true));
-    Ok(())
+fn a_job_that_queues_itself_waits_again(rt: HostRuntime) {
+    told(&rt, rt.alloc(), Story::Repeats);
+}
+
+#[test]
+fn lists_run_in_the_order_of_their_appending(rt: HostRuntime) {
+    told(&rt, rt.alloc(), Story::Appends);
+}
+
+#[test]
+fn insertions_of_a_list_go_on_after_a_refused_one(rt: HostRuntime) {
+    told(&rt, rt.alloc(), Story::AllAtOnce);
+}
+
+#[test]
+fn a_removal_waits_for_its_turn(rt: HostRuntime) {
+    told(&rt, rt.alloc(), Story::TakesOut);
+}
+
+#[test]
+fn a_marker_is_refused_where_no_slot_is_of_markers(rt: HostRuntime) {
+    told(&rt, rt.alloc(), Story::MarksNobody);
 }

@@ -18,6 +18,8 @@ mod scripts;
 mod selections;
 mod small;
 #[cfg(test)]
+mod stories;
+#[cfg(test)]
 mod typed_worlds;
 #[cfg(test)]
 mod upstream_births;

@@ -1,22 +1,26 @@
 //! Worlds by component types: registrations, views, builders.
 use composed::{Empty, Of2};
 use slots::{Health, Position};
-use specs::{Builder, Entity, Unregistered, World};
+use specs::{Builder, Entity, Has, Storages, Unregistered, World};
 use std::alloc::Global;
 use std::process::Abort;
 use std::test::Fail;
 
-type Slots = Of2<Position, Health>;
-
 /// Registers both component types.
-fn register_both(world: &mut World<Slots>) -> Result<(), Fail> {
+fn register_both<P, H, S: Has<Position, P> + Has<Health, H>>(
+    world: &mut World<S>,
+) -> Result<(), Fail> {
     world.register::<Position, _>()?;
     world.register::<Health, _>()?;
     Ok(())
 }
 
 /// An entity with a position and a health.
-fn build(world: &mut World<Slots>, x: i64, points: i64) -> Option<Entity> {
+fn build<P, H, S: Has<Position, P> + Has<Health, H>>(
+    world: &mut World<S>,
+    x: i64,
+    points: i64,
+) -> Option<Entity> {
     let builder = world.create_entity().ok()?;
     let builder = builder.with(Position(x)).ok()?;
     let builder = builder.with(Health(points)).ok()?;
@@ -24,7 +28,7 @@ fn build(world: &mut World<Slots>, x: i64, points: i64) -> Option<Entity> {
 }
 
 /// The position of an entity.
-fn position(world: &World<Slots>, e: Entity) -> Option<Position> {
+fn position<P, S: Has<Position, P>>(world: &World<S>, e: Entity) -> Option<Position> {
     match world.read_storage::<Position, _>() {
         Ok(positions) => positions.get(e).copied(),
         Err(_) => None,
@@ -32,7 +36,7 @@ fn position(world: &World<Slots>, e: Entity) -> Option<Position> {
 }
 
 /// The health of an entity.
-fn health(world: &World<Slots>, e: Entity) -> Option<Health> {
+fn health<H, S: Has<Health, H>>(world: &World<S>, e: Entity) -> Option<Health> {
     match world.read_component::<Health, _>() {
         Ok(healths) => healths.get(e).copied(),
         Err(_) => None,
@@ -40,7 +44,7 @@ fn health(world: &World<Slots>, e: Entity) -> Option<Health> {
 }
 
 /// Puts a position at an entity, by a view.
-fn place(world: &mut World<Slots>, e: Entity, x: i64) -> bool {
+fn place<P, S: Has<Position, P>>(world: &mut World<S>, e: Entity, x: i64) -> bool {
     match world.write_storage::<Position, _>() {
         Ok(mut positions) => positions.insert(e, Position(x)).is_ok() && positions.contains(e),
         Err(_) => false,
@@ -48,7 +52,11 @@ fn place(world: &mut World<Slots>, e: Entity, x: i64) -> bool {
 }
 
 /// The births of an iterator, so many.
-fn births(alloc: Global, world: &mut World<Slots>, count: usize) -> Result<Vec<Entity>, Fail> {
+fn births<S: Storages>(
+    alloc: Global,
+    world: &mut World<S>,
+    count: usize,
+) -> Result<Vec<Entity>, Fail> {
     let mut list = Vec::new(alloc);
     for item in world.create_iter().take(count) {
         list.push(item.ok().ok_or("a birth")?)?;
@@ -57,7 +65,7 @@ fn births(alloc: Global, world: &mut World<Slots>, count: usize) -> Result<Vec<E
 }
 
 /// Whether the entities are those of the first births, in order, and alive.
-fn are_the_first(world: &World<Slots>, list: &[Entity]) -> bool {
+fn are_the_first<S: Storages>(world: &World<S>, list: &[Entity]) -> bool {
     for (index, e) in list.iter().enumerate() {
         if e.id() as usize != index || e.generation().id() != 1 || !world.is_alive(*e) {
             return false;
@@ -66,16 +74,21 @@ fn are_the_first(world: &World<Slots>, list: &[Entity]) -> bool {
     true
 }
 
-#[test]
-fn five_are_born_one_after_another(rt: HostRuntime) -> Result<(), Fail> {
-    let mut world = World::new(rt.alloc(), Slots::empty());
-    let list = births(rt.alloc(), &mut world, 5)?;
+fn are_five<R: Abort, S: Storages>(
+    rt: &R,
+    alloc: Global,
+    world: &mut World<S>,
+) -> Result<(), Fail> {
+    let list = births(alloc, world, 5)?;
     assert_eq!(rt; list.len(), 5);
-    assert!(rt; are_the_first(&world, list.as_slice()));
+    assert!(rt; are_the_first(world, list.as_slice()));
     Ok(())
 }
 
-fn are_built_and_written<R: Abort>(rt: &R, world: &mut World<Slots>) -> Result<(), Fail> {
+fn are_built_and_written<R: Abort, P, H, S: Has<Position, P> + Has<Health, H>>(
+    rt: &R,
+    world: &mut World<S>,
+) -> Result<(), Fail> {
     register_both(world)?;
     let a = build(world, 1, 10).ok_or("a building")?;
     let b = build(world, 3, 30).ok_or("a building")?;
@@ -88,14 +101,8 @@ fn are_built_and_written<R: Abort>(rt: &R, world: &mut World<Slots>) -> Result<(
     Ok(())
 }
 
-#[test]
-fn entities_are_built_read_and_written(rt: HostRuntime) -> Result<(), Fail> {
-    let mut world = World::new(rt.alloc(), Slots::empty());
-    are_built_and_written(&rt, &mut world)
-}
-
 /// An entity whose builder is dropped.
-fn dropped(world: &mut World<Slots>) -> Option<Entity> {
+fn dropped<S: Storages>(world: &mut World<S>) -> Option<Entity> {
     let builder = world.create_entity().ok()?;
     let e = builder.entity();
     drop(builder);
@@ -103,22 +110,20 @@ fn dropped(world: &mut World<Slots>) -> Option<Entity> {
 }
 
 /// Whether the next maintenance lets this one die, and no other.
-fn dies_next(world: &mut World<Slots>, e: Entity) -> Result<bool, Fail> {
+fn dies_next<S: Storages>(world: &mut World<S>, e: Entity) -> Result<bool, Fail> {
     let lived = world.is_alive(e);
     let maintained = world.maintain(0)?;
     Ok(lived && maintained.deleted.as_slice() == [e].as_slice() && !world.is_alive(e))
 }
 
-#[test]
-fn a_builder_that_is_dropped_marks_its_entity(rt: HostRuntime) -> Result<(), Fail> {
-    let mut world = World::new(rt.alloc(), Slots::empty());
-    let e = dropped(&mut world).ok_or("a birth")?;
-    assert!(rt; dies_next(&mut world, e)?);
+fn marks_the_dropped<R: Abort, S: Storages>(rt: &R, world: &mut World<S>) -> Result<(), Fail> {
+    let e = dropped(world).ok_or("a birth")?;
+    assert!(rt; dies_next(world, e)?);
     Ok(())
 }
 
 /// An entity whose builder was refused a component, and the component that came back.
-fn refused(world: &mut World<Slots>) -> Option<(Entity, Position)> {
+fn refused<P, S: Has<Position, P>>(world: &mut World<S>) -> Option<(Entity, Position)> {
     let builder = world.create_entity().ok()?;
     let e = builder.entity();
     match builder.with(Position(5)) {
@@ -127,23 +132,25 @@ fn refused(world: &mut World<Slots>) -> Option<(Entity, Position)> {
     }
 }
 
-#[test]
-fn a_refused_component_comes_back_and_its_entity_is_marked(rt: HostRuntime) -> Result<(), Fail> {
-    let mut world = World::new(rt.alloc(), Slots::empty());
-    let (e, back) = refused(&mut world).ok_or("a refusal")?;
+fn marks_the_refused<R: Abort, P, S: Has<Position, P>>(
+    rt: &R,
+    world: &mut World<S>,
+) -> Result<(), Fail> {
+    let (e, back) = refused(world).ok_or("a refusal")?;
     assert_eq!(rt; back, Position(5));
-    assert!(rt; dies_next(&mut world, e)?);
+    assert!(rt; dies_next(world, e)?);
     Ok(())
 }
 
-#[test]
-fn a_type_without_a_storage_is_unregistered(rt: HostRuntime) {
-    let mut world: World<Slots> = World::new(rt.alloc(), Slots::empty());
+fn has_no_positions<R: Abort, P, S: Has<Position, P>>(rt: &R, world: &mut World<S>) {
     assert!(rt; matches!(&world.read_storage::<Position, _>(), Err(Unregistered)));
     assert!(rt; matches!(&world.write_storage::<Position, _>(), Err(Unregistered)));
 }
 
-fn lose_components<R: Abort>(rt: &R, world: &mut World<Slots>) -> Result<(), Fail> {
+fn lose_components<R: Abort, P, H, S: Has<Position, P> + Has<Health, H>>(
+    rt: &R,
+    world: &mut World<S>,
+) -> Result<(), Fail> {
     register_both(world)?;
     let a = build(world, 1, 10).ok_or("a building")?;
     let b = build(world, 2, 20).ok_or("a building")?;
@@ -162,8 +169,77 @@ fn lose_components<R: Abort>(rt: &R, world: &mut World<Slots>) -> Result<(), Fai
     Ok(())
 }
 
+/// What is told of a world.
+#[derive(Clone, Copy)]
+enum Story {
+    AreFive,
+    AreBuiltAndWritten,
+    MarksTheDropped,
+    MarksTheRefused,
+    HasNoPositions,
+    LoseComponents,
+}
+
+fn tell<R: Abort, P, H, S: Has<Position, P> + Has<Health, H>>(
+    rt: &R,
+    alloc: Global,
+    story: Story,
+    world: &mut World<S>,
+) -> Result<(), Fail> {
+    match story {
+        Story::AreFive => are_five(rt, alloc, world),
+        Story::AreBuiltAndWritten => are_built_and_written(rt, world),
+        Story::MarksTheDropped => marks_the_dropped(rt, world),
+        Story::MarksTheRefused => marks_the_refused(rt, world),
+        Story::HasNoPositions => {
+            has_no_positions(rt, world);
+            Ok(())
+        }
+        Story::LoseComponents => lose_components(rt, world),
+    }
+}
+
+/// Tells a story of a new world, over whatever storages have both component types: calls at storages of a known type are slow to prove.
+fn tell_of_new<R: Abort, P, H, S: Empty + Has<Position, P> + Has<Health, H> + Drop>(
+    rt: &R,
+    alloc: Global,
+    story: Story,
+) -> Result<(), Fail> {
+    let mut world = World::new(alloc, S::empty());
+    tell(rt, alloc, story, &mut world)
+}
+
+/// The world is of these storages here alone.
+fn told<R: Abort>(rt: &R, alloc: Global, story: Story) -> Result<(), Fail> {
+    tell_of_new::<R, _, _, Of2<Position, Health>>(rt, alloc, story)
+}
+
+#[test]
+fn five_are_born_one_after_another(rt: HostRuntime) -> Result<(), Fail> {
+    told(&rt, rt.alloc(), Story::AreFive)
+}
+
+#[test]
+fn entities_are_built_read_and_written(rt: HostRuntime) -> Result<(), Fail> {
+    told(&rt, rt.alloc(), Story::AreBuiltAndWritten)
+}
+
+#[test]
+fn a_builder_that_is_dropped_marks_its_entity(rt: HostRuntime) -> Result<(), Fail> {
+    told(&rt, rt.alloc(), Story::MarksTheDropped)
+}
+
+#[test]
+fn a_refused_component_comes_back_and_its_entity_is_marked(rt: HostRuntime) -> Result<(), Fail> {
+    told(&rt, rt.alloc(), Story::MarksTheRefused)
+}
+
+#[test]
+fn a_type_without_a_storage_is_unregistered(rt: HostRuntime) -> Result<(), Fail> {
+    told(&rt, rt.alloc(), Story::HasNoPositions)
+}
+
 #[test]
 fn components_go_without_their_entities(rt: HostRuntime) -> Result<(), Fail> {
-    let mut world = World::new(rt.alloc(), Slots::empty());
-    lose_components(&rt, &mut world)
+    told(&rt, rt.alloc(), Story::LoseComponents)
 }

@@ -1,31 +1,33 @@
 //! Tests of specs on mixed births and deaths, by their names there.
-use crate::small::{POS, Small};
+use crate::small::Small;
+use crate::stories::Sample;
 use composed::Empty;
 use slots::Position;
-use specs::{Command, Entity, Reply, SetExpr, World, component, value};
+use specs::{Command, Entity, Reply, SetExpr, Storages, World, component, value};
 use std::alloc::Global;
 use std::collections::HashSet;
+use std::process::Abort;
 use std::test::Fail;
 
 /// A world, with the entities that were ever born in it, and those that nobody deleted yet.
 #[derive(Drop)]
-struct Nursery {
-    world: World<Small>,
+struct Nursery<S: Storages> {
+    world: World<S>,
     given: HashSet<Entity>,
     living: Vec<Entity>,
 }
 
-impl Nursery {
-    fn new(alloc: Global) -> Self {
+impl<S: Storages> Nursery<S> {
+    fn new(alloc: Global, storages: S) -> Self {
         Nursery {
-            world: World::new(alloc, Small::empty()),
+            world: World::new(alloc, storages),
             given: HashSet::new(alloc),
             living: Vec::new(alloc),
         }
     }
 
     /// A birth, at once or pending. It answers whether the entity was never given before.
-    fn bear(&mut self, birth: Command<Small>) -> bool {
+    fn bear(&mut self, birth: Command<S>) -> bool {
         match self.world.apply(birth) {
             Reply::Entity(e) => {
                 matches!(self.given.insert(e), Ok(true)) && self.living.push(e).is_ok()
@@ -91,14 +93,22 @@ impl Nursery {
     }
 }
 
-#[test]
-fn mixed_create_merge(rt: HostRuntime) {
-    let mut nursery = Nursery::new(rt.alloc());
+fn bears_and_merges<R: Abort, S: Storages>(rt: &R, nursery: &mut Nursery<S>) {
     assert!(rt; nursery.bear_rounds(10));
     assert!(rt; nursery.mark_all());
     assert!(rt; nursery.bear_rounds(20));
     assert!(rt; nursery.delete_all());
     assert!(rt; nursery.bear_rounds(40));
+}
+
+fn merges<R: Abort, S: Empty + Drop>(rt: &R, alloc: Global) {
+    let mut nursery = Nursery::new(alloc, S::empty());
+    bears_and_merges(rt, &mut nursery);
+}
+
+#[test]
+fn mixed_create_merge(rt: HostRuntime) {
+    merges::<_, Small>(&rt, rt.alloc());
 }
 
 /// A linear congruential generator.
@@ -118,9 +128,9 @@ impl Random {
 }
 
 /// The position of an entity.
-fn position(world: &mut World<Small>, e: Entity) -> Option<i64> {
-    match world.apply(Command::Get(POS, e)) {
-        Reply::Value(Some(found)) => match component::<Position, Small, _>(found) {
+fn position<P, T, S: Sample<P, T>>(world: &mut World<S>, e: Entity) -> Option<i64> {
+    match world.apply(Command::Get(S::pos(), e)) {
+        Reply::Value(Some(found)) => match component::<Position, S, _>(found) {
             Ok(Position(number)) => Some(number),
             Err(_) => None,
         },
@@ -129,10 +139,10 @@ fn position(world: &mut World<Small>, e: Entity) -> Option<i64> {
 }
 
 /// A birth with a position. It answers whether nothing was refused.
-fn bear_at(world: &mut World<Small>, birth: Command<Small>, number: i64) -> bool {
+fn bear_at<P, T, S: Sample<P, T>>(world: &mut World<S>, birth: Command<S>, number: i64) -> bool {
     match world.apply(birth) {
         Reply::Entity(e) => {
-            let insert = Command::Insert(e, value::<_, Small, _>(Position(number)));
+            let insert = Command::Insert(e, value::<_, S, _>(Position(number)));
             matches!(world.apply(insert), Reply::Value(None))
         }
         _ => false,
@@ -140,8 +150,8 @@ fn bear_at(world: &mut World<Small>, birth: Command<Small>, number: i64) -> bool
 }
 
 /// The entities whose position is no greater than any before it, by index.
-fn lowest(alloc: Global, world: &mut World<Small>) -> Result<Vec<Entity>, Fail> {
-    let Ok(indices) = world.select(&SetExpr::Slot(POS)) else {
+fn lowest<P, T, S: Sample<P, T>>(alloc: Global, world: &mut World<S>) -> Result<Vec<Entity>, Fail> {
+    let Ok(indices) = world.select(&SetExpr::Slot(S::pos())) else {
         return Err("no selection".into());
     };
     let mut least = i64::MAX;
@@ -158,7 +168,7 @@ fn lowest(alloc: Global, world: &mut World<Small>) -> Result<Vec<Entity>, Fail> 
 }
 
 /// Marks the last entities of a list.
-fn mark_last(world: &mut World<Small>, mut list: Vec<Entity>, count: u32) -> bool {
+fn mark_last<S: Storages>(world: &mut World<S>, mut list: Vec<Entity>, count: u32) -> bool {
     for _ in 0..count {
         if let Some(e) = list.pop() {
             if world.parts().core.parts().entities.delete(e).is_err() {
@@ -170,7 +180,7 @@ fn mark_last(world: &mut World<Small>, mut list: Vec<Entity>, count: u32) -> boo
 }
 
 /// Births of entities that wait for a merge.
-fn bear_some(world: &mut World<Small>, random: &mut Random, count: u32) -> bool {
+fn bear_some<P, T, S: Sample<P, T>>(world: &mut World<S>, random: &mut Random, count: u32) -> bool {
     for _ in 0..count {
         if !bear_at(world, Command::CreatePending, random.number()) {
             return false;
@@ -180,7 +190,7 @@ fn bear_some(world: &mut World<Small>, random: &mut Random, count: u32) -> bool 
 }
 
 /// The first hundred, born at once.
-fn bear_first(world: &mut World<Small>, random: &mut Random) -> bool {
+fn bear_first<P, T, S: Sample<P, T>>(world: &mut World<S>, random: &mut Random) -> bool {
     for _ in 0..100 {
         if !bear_at(world, Command::Create, random.number()) {
             return false;
@@ -189,17 +199,32 @@ fn bear_first(world: &mut World<Small>, random: &mut Random) -> bool {
     true
 }
 
-#[test]
-fn stillborn_entities(rt: HostRuntime) -> Result<(), Fail> {
+fn bears_in_vain<R: Abort, P, T, S: Sample<P, T>>(
+    rt: &R,
+    alloc: Global,
+    world: &mut World<S>,
+) -> Result<(), Fail> {
     let mut random = Random(0xdead_beef);
-    let mut world = World::new(rt.alloc(), Small::empty());
-    assert!(rt; matches!(world.apply(Command::Register(POS)), Reply::Done));
-    assert!(rt; bear_first(&mut world, &mut random));
+    assert!(rt; matches!(world.apply(Command::Register(S::pos())), Reply::Done));
+    assert!(rt; bear_first(world, &mut random));
     for _ in 0..100 {
         let count = random.next() % 25;
-        let list = lowest(rt.alloc(), &mut world)?;
-        assert!(rt; mark_last(&mut world, list, count));
-        assert!(rt; bear_some(&mut world, &mut random, count));
+        let list = lowest(alloc, world)?;
+        assert!(rt; mark_last(world, list, count));
+        assert!(rt; bear_some(world, &mut random, count));
     }
     Ok(())
+}
+
+fn are_stillborn<R: Abort, P, T, S: Sample<P, T> + Drop>(
+    rt: &R,
+    alloc: Global,
+) -> Result<(), Fail> {
+    let mut world = World::new(alloc, S::empty());
+    bears_in_vain(rt, alloc, &mut world)
+}
+
+#[test]
+fn stillborn_entities(rt: HostRuntime) -> Result<(), Fail> {
+    are_stillborn::<_, _, _, Small>(&rt, rt.alloc())
 }

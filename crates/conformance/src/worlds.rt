@@ -1,9 +1,9 @@
 //! Worlds, by their calls.
-use crate::callers::{born_in_a_phase, is_gone};
-use crate::small::{POS, Slot, Small, TAG, Value};
-use composed::Empty;
+use crate::callers::born_in_a_phase;
+use crate::small::Small;
+use crate::stories::Sample;
 use slots::{Position, Tag};
-use specs::{Command, DeleteError, Entity, Refusal, Reply, SetExpr, World, value};
+use specs::{Command, DeleteError, Entity, Refusal, Reply, SetExpr, Storages, World, value};
 use std::alloc::{AllocError, Global};
 use std::process::Abort;
 use std::test::Fail;
@@ -13,14 +13,14 @@ fn entity(index: u32, generation: i32) -> Result<Entity, Fail> {
 }
 
 /// The entity that a birth at once gives.
-fn born(world: &mut World<Small>) -> Result<Entity, Fail> {
+fn born<S: Storages>(world: &mut World<S>) -> Result<Entity, Fail> {
     match world.apply(Command::Create) {
         Reply::Entity(e) => Ok(e),
         _ => Err("no birth".into()),
     }
 }
 
-fn bears_again<R: Abort>(rt: &R, world: &mut World<Small>) -> Result<(), Fail> {
+fn bears_again<R: Abort, S: Storages>(rt: &R, world: &mut World<S>) -> Result<(), Fail> {
     let first = born(world)?;
     assert_eq!(rt; first, entity(0, 1)?);
     assert_eq!(rt; world.delete_entity(first), Ok(()));
@@ -29,26 +29,20 @@ fn bears_again<R: Abort>(rt: &R, world: &mut World<Small>) -> Result<(), Fail> {
     Ok(())
 }
 
-#[test]
-fn a_deleted_index_is_born_again(rt: HostRuntime) -> Result<(), Fail> {
-    let mut world = World::new(rt.alloc(), Small::empty());
-    bears_again(&rt, &mut world)
-}
-
 /// Six commands, of which the last is refused.
-fn six(alloc: Global) -> Result<Vec<Command<Small>>, Fail> {
+fn six<P, T, S: Sample<P, T>>(alloc: Global) -> Result<Vec<Command<S>>, Fail> {
     let e = entity(0, 1)?;
-    Ok(vec![in alloc;
-        Command::Register(POS),
-        Command::Create,
-        Command::Insert(e, value::<_, Small, _>(Position(5))),
-        Command::Select(SetExpr::Slot(POS)),
-        Command::Count(POS),
-        Command::Get(TAG, e),
-    ]?)
+    let mut list = Vec::new(alloc);
+    list.push(Command::Register(S::pos()))?;
+    list.push(Command::Create)?;
+    list.push(Command::Insert(e, value::<_, S, _>(Position(5))))?;
+    list.push(Command::Select(SetExpr::Slot(S::pos())))?;
+    list.push(Command::Count(S::pos()))?;
+    list.push(Command::Get(S::tag(), e))?;
+    Ok(list)
 }
 
-fn are_the_six<R: Abort>(rt: &R, replies: &[Reply<Value>]) {
+fn are_the_six<R: Abort, V>(rt: &R, replies: &[Reply<V>]) {
     assert_eq!(rt; replies.len(), 6);
     assert!(rt; matches!(&replies[0], Reply::Done));
     assert!(rt; matches!(&replies[1], Reply::Entity(_)));
@@ -58,24 +52,28 @@ fn are_the_six<R: Abort>(rt: &R, replies: &[Reply<Value>]) {
     assert!(rt; matches!(&replies[5], Reply::Refused(Refusal::Unregistered)));
 }
 
-#[test]
-fn a_run_answers_each_command(rt: HostRuntime) -> Result<(), Fail> {
-    let mut world = World::new(rt.alloc(), Small::empty());
-    let commands = six(rt.alloc())?;
-    let replies = world.run(commands)?;
-    are_the_six(&rt, replies.as_slice());
+fn answers_six<R: Abort, P, T, S: Sample<P, T>>(
+    rt: &R,
+    alloc: Global,
+    world: &mut World<S>,
+) -> Result<(), Fail> {
+    let replies = world.run(six(alloc)?)?;
+    are_the_six(rt, replies.as_slice());
     Ok(())
 }
 
-#[test]
-fn a_run_of_nothing_has_no_reply(rt: HostRuntime) {
-    let mut world: World<Small> = World::new(rt.alloc(), Small::empty());
-    let replies = world.run(Vec::new(rt.alloc()));
-    assert!(rt; matches!(&replies, Ok(list) if list.is_empty()));
+fn answers_nothing<R: Abort, S: Storages>(
+    rt: &R,
+    alloc: Global,
+    world: &mut World<S>,
+) -> Result<(), Fail> {
+    let replies = world.run(Vec::new(alloc))?;
+    assert!(rt; replies.is_empty());
+    Ok(())
 }
 
 /// Whether a selection gives these indices.
-fn selects(world: &World<Small>, set: &SetExpr<Slot>, indices: &[u32]) -> bool {
+fn selects<S: Storages>(world: &World<S>, set: &SetExpr<S::Slot>, indices: &[u32]) -> bool {
     match world.select(set) {
         Ok(list) => list.as_slice() == indices,
         Err(_) => false,
@@ -83,101 +81,104 @@ fn selects(world: &World<Small>, set: &SetExpr<Slot>, indices: &[u32]) -> bool {
 }
 
 /// Two merged entities, of which the first has a position and both have a tag, and a pending one.
-fn populate(world: &mut World<Small>) -> Result<(), Fail> {
+fn populate<P, T, S: Sample<P, T>>(world: &mut World<S>) -> Result<(), Fail> {
     let (e, f) = (entity(0, 1)?, entity(1, 1)?);
-    let _ = world.apply(Command::Register(POS));
-    let _ = world.apply(Command::Register(TAG));
+    let _ = world.apply(Command::Register(S::pos()));
+    let _ = world.apply(Command::Register(S::tag()));
     let _ = world.apply(Command::Create);
     let _ = world.apply(Command::Create);
     let _ = world.apply(Command::CreatePending);
-    let _ = world.apply(Command::Insert(e, value::<_, Small, _>(Position(5))));
-    let _ = world.apply(Command::Insert(e, value::<_, Small, _>(Tag)));
-    let _ = world.apply(Command::Insert(f, value::<_, Small, _>(Tag)));
+    let _ = world.apply(Command::Insert(e, value::<_, S, _>(Position(5))));
+    let _ = world.apply(Command::Insert(e, value::<_, S, _>(Tag)));
+    let _ = world.apply(Command::Insert(f, value::<_, S, _>(Tag)));
     Ok(())
 }
 
-fn three(alloc: Global) -> Result<World<Small>, Fail> {
-    let mut world = World::new(alloc, Small::empty());
-    populate(&mut world)?;
-    Ok(world)
-}
-
-fn living_and_slots<R: Abort>(rt: &R, world: &World<Small>) {
-    assert!(rt; selects(world, &SetExpr::Living, &[0, 1, 2]));
-    assert!(rt; selects(world, &SetExpr::Slot(POS), &[0]));
-}
-
-#[test]
-fn a_slot_that_is_not_registered_is_refused(rt: HostRuntime) {
-    let world: World<Small> = World::new(rt.alloc(), Small::empty());
+fn refuses_positions<R: Abort, P, T, S: Sample<P, T>>(rt: &R, world: &World<S>) {
     assert!(rt;
         matches!(
-            world.select(&SetExpr::Slot(POS)),
+            world.select(&SetExpr::Slot(S::pos())),
             Err(Refusal::Unregistered)
         )
     );
 }
 
-#[test]
-fn the_living_are_merged_and_pending(rt: HostRuntime) -> Result<(), Fail> {
-    let world = three(rt.alloc())?;
-    living_and_slots(&rt, &world);
+fn living_and_slots<R: Abort, P, T, S: Sample<P, T>>(
+    rt: &R,
+    world: &mut World<S>,
+) -> Result<(), Fail> {
+    populate(world)?;
+    assert!(rt; selects(world, &SetExpr::Living, &[0, 1, 2]));
+    assert!(rt; selects(world, &SetExpr::Slot(S::pos()), &[0]));
     Ok(())
 }
 
-type Set = SetExpr<Slot>;
-
-/// The sets of two slots, of which the first entity has both, and the second the latter.
-fn two_slots(alloc: Global) -> Result<(Box<Set>, Box<Set>), AllocError> {
-    let pos = Box::new(alloc, SetExpr::Slot(POS))?;
-    let tag = Box::new(alloc, SetExpr::Slot(TAG))?;
+/// The sets of two slots.
+fn two_slots<K: Copy>(
+    alloc: Global,
+    pos: K,
+    tag: K,
+) -> Result<(Box<SetExpr<K>>, Box<SetExpr<K>>), AllocError> {
+    let pos = Box::new(alloc, SetExpr::Slot(pos))?;
+    let tag = Box::new(alloc, SetExpr::Slot(tag))?;
     Ok((pos, tag))
 }
 
-fn conjunction(alloc: Global) -> Result<Set, AllocError> {
-    let (pos, tag) = two_slots(alloc)?;
+fn conjunction<K: Copy>(alloc: Global, pos: K, tag: K) -> Result<SetExpr<K>, AllocError> {
+    let (pos, tag) = two_slots(alloc, pos, tag)?;
     Ok(SetExpr::And(pos, tag))
 }
 
-fn disjunction(alloc: Global) -> Result<Set, AllocError> {
-    let (pos, tag) = two_slots(alloc)?;
+fn disjunction<K: Copy>(alloc: Global, pos: K, tag: K) -> Result<SetExpr<K>, AllocError> {
+    let (pos, tag) = two_slots(alloc, pos, tag)?;
     Ok(SetExpr::Or(pos, tag))
 }
 
-fn exclusive(alloc: Global) -> Result<Set, AllocError> {
-    let (pos, tag) = two_slots(alloc)?;
+fn exclusive<K: Copy>(alloc: Global, pos: K, tag: K) -> Result<SetExpr<K>, AllocError> {
+    let (pos, tag) = two_slots(alloc, pos, tag)?;
     Ok(SetExpr::Xor(pos, tag))
 }
 
 /// What has no position, but a tag.
-fn complement(alloc: Global) -> Result<Set, AllocError> {
-    let (pos, tag) = two_slots(alloc)?;
+fn complement<K: Copy>(alloc: Global, pos: K, tag: K) -> Result<SetExpr<K>, AllocError> {
+    let (pos, tag) = two_slots(alloc, pos, tag)?;
     let bare = Box::new(alloc, SetExpr::Not(tag))?;
     let either = Box::new(alloc, SetExpr::Or(pos, bare))?;
     Ok(SetExpr::Not(either))
 }
 
-fn living_without_position(alloc: Global) -> Result<Set, AllocError> {
-    let pos = Box::new(alloc, SetExpr::Slot(POS))?;
+fn living_without_position<K: Copy>(alloc: Global, pos: K) -> Result<SetExpr<K>, AllocError> {
+    let pos = Box::new(alloc, SetExpr::Slot(pos))?;
     let living = Box::new(alloc, SetExpr::Living)?;
     Ok(SetExpr::Xor(living, pos))
 }
 
-#[test]
-fn each_expression_selects_its_set(rt: HostRuntime) -> Result<(), Fail> {
-    let world = three(rt.alloc())?;
-    assert!(rt; selects(&world, &conjunction(rt.alloc())?, &[0]), "and");
-    assert!(rt; selects(&world, &disjunction(rt.alloc())?, &[0, 1]), "or");
-    assert!(rt; selects(&world, &exclusive(rt.alloc())?, &[1]), "xor");
-    assert!(rt; selects(&world, &complement(rt.alloc())?, &[1]), "not");
+/// The first entity has both components, and the second the tag.
+fn selects_each<R: Abort, P, T, S: Sample<P, T>>(
+    rt: &R,
+    alloc: Global,
+    world: &mut World<S>,
+) -> Result<(), Fail> {
+    populate(world)?;
+    let (pos, tag) = (S::pos(), S::tag());
+    assert!(rt; selects(world, &conjunction(alloc, pos, tag)?, &[0]), "and");
     assert!(rt;
-        selects(&world, &living_without_position(rt.alloc())?, &[1, 2]),
+        selects(world, &disjunction(alloc, pos, tag)?, &[0, 1]),
+        "or"
+    );
+    assert!(rt; selects(world, &exclusive(alloc, pos, tag)?, &[1]), "xor");
+    assert!(rt; selects(world, &complement(alloc, pos, tag)?, &[1]), "not");
+    assert!(rt;
+        selects(world, &living_without_position(alloc, pos)?, &[1, 2]),
         "living"
     );
     Ok(())
 }
 
-fn refuses_the_first_stale<R: Abort>(rt: &R, world: &mut World<Small>) -> Result<(), Fail> {
+fn refuses_the_first_stale<R: Abort, S: Storages>(
+    rt: &R,
+    world: &mut World<S>,
+) -> Result<(), Fail> {
     let (e, f) = (born(world)?, born(world)?);
     match world.delete_entities(&[e, f, e]) {
         Err(DeleteError::WrongGeneration(wrong)) => {
@@ -191,67 +192,142 @@ fn refuses_the_first_stale<R: Abort>(rt: &R, world: &mut World<Small>) -> Result
     Ok(())
 }
 
-#[test]
-fn a_refused_list_names_the_first_that_is_stale(rt: HostRuntime) -> Result<(), Fail> {
-    let mut world = World::new(rt.alloc(), Small::empty());
-    refuses_the_first_stale(&rt, &mut world)
-}
-
 /// Whether maintaining a world tells these dead.
-fn maintains(world: &mut World<Small>, dead: &[Entity]) -> bool {
+fn maintains<S: Storages>(world: &mut World<S>, dead: &[Entity]) -> bool {
     match world.maintain(0) {
         Ok(maintained) => maintained.deleted.as_slice() == dead,
         Err(_) => false,
     }
 }
 
-fn ends_at_maintain<R: Abort>(rt: &R, world: &mut World<Small>) -> Result<(), Fail> {
-    let e = world
-        .parts()
-        .core
-        .parts()
-        .entities
-        .create()
-        .ok()
-        .ok_or("a birth")?;
+/// An entity whose birth is pending.
+fn raised<S: Storages>(world: &mut World<S>) -> Result<Entity, Fail> {
+    let entities = &mut world.parts().core.parts().entities;
+    Ok(entities.create().ok().ok_or("a birth")?)
+}
+
+fn ends_at_maintain<R: Abort, S: Storages>(rt: &R, world: &mut World<S>) -> Result<(), Fail> {
+    let e = raised(world)?;
     assert!(rt; world.entities().is_alive(e) && !world.is_alive(e));
     assert_eq!(rt; world.parts().core.parts().entities.delete(e), Ok(()));
     assert!(rt; maintains(world, &[e]));
     assert!(rt; !world.entities().is_alive(e));
-    let again = world
-        .parts()
-        .core
-        .parts()
-        .entities
-        .create()
-        .ok()
-        .ok_or("a birth")?;
+    let again = raised(world)?;
     assert_eq!(rt; again, entity(0, 2)?);
     assert!(rt; maintains(world, &[]));
     assert!(rt; world.is_alive(again));
     Ok(())
 }
 
-#[test]
-fn marks_and_pending_births_end_at_maintain(rt: HostRuntime) -> Result<(), Fail> {
-    let mut world = World::new(rt.alloc(), Small::empty());
-    ends_at_maintain(&rt, &mut world)
-}
-
-fn takes_up_a_phase<R: Abort>(rt: &R, alloc: Global, world: &mut World<Small>) -> Result<(), Fail> {
+fn takes_up_a_phase<R: Abort, P, T, S: Sample<P, T>>(
+    rt: &R,
+    alloc: Global,
+    world: &mut World<S>,
+) -> Result<(), Fail> {
+    populate(world)?;
     let doomed = entity(1, 1)?;
     let given = born_in_a_phase(alloc, world, doomed).ok_or("an entity, and a mark")?;
     assert_eq!(rt; given, entity(3, 1)?);
-    assert!(rt; world.entities().is_alive(given) && is_gone(world, given));
+    assert!(rt; world.entities().is_alive(given) && S::is_gone(world, given));
     assert!(rt; world.is_alive(doomed));
     assert!(rt; maintains(world, &[doomed]));
     assert!(rt; world.is_alive(given) && !world.is_alive(doomed));
-    assert!(rt; selects(world, &SetExpr::Slot(TAG), &[0]));
+    assert!(rt; selects(world, &SetExpr::Slot(S::tag()), &[0]));
     Ok(())
+}
+
+/// What is told of a world.
+#[derive(Clone, Copy)]
+enum Story {
+    BearsAgain,
+    AnswersSix,
+    AnswersNothing,
+    RefusesPositions,
+    LivingAndSlots,
+    SelectsEach,
+    RefusesTheFirstStale,
+    EndsAtMaintain,
+    TakesUpAPhase,
+}
+
+fn tell<R: Abort, P, T, S: Sample<P, T>>(
+    rt: &R,
+    alloc: Global,
+    story: Story,
+    world: &mut World<S>,
+) -> Result<(), Fail> {
+    match story {
+        Story::BearsAgain => bears_again(rt, world),
+        Story::AnswersSix => answers_six(rt, alloc, world),
+        Story::AnswersNothing => answers_nothing(rt, alloc, world),
+        Story::RefusesPositions => {
+            refuses_positions(rt, world);
+            Ok(())
+        }
+        Story::LivingAndSlots => living_and_slots(rt, world),
+        Story::SelectsEach => selects_each(rt, alloc, world),
+        Story::RefusesTheFirstStale => refuses_the_first_stale(rt, world),
+        Story::EndsAtMaintain => ends_at_maintain(rt, world),
+        Story::TakesUpAPhase => takes_up_a_phase(rt, alloc, world),
+    }
+}
+
+/// Tells a story of a new world.
+fn tell_of_new<R: Abort, P, T, S: Sample<P, T> + Drop>(
+    rt: &R,
+    alloc: Global,
+    story: Story,
+) -> Result<(), Fail> {
+    let mut world = World::new(alloc, S::empty());
+    tell(rt, alloc, story, &mut world)
+}
+
+/// The world is of these storages here alone.
+fn told<R: Abort>(rt: &R, alloc: Global, story: Story) -> Result<(), Fail> {
+    tell_of_new::<R, _, _, Small>(rt, alloc, story)
+}
+
+#[test]
+fn a_deleted_index_is_born_again(rt: HostRuntime) -> Result<(), Fail> {
+    told(&rt, rt.alloc(), Story::BearsAgain)
+}
+
+#[test]
+fn a_run_answers_each_command(rt: HostRuntime) -> Result<(), Fail> {
+    told(&rt, rt.alloc(), Story::AnswersSix)
+}
+
+#[test]
+fn a_run_of_nothing_has_no_reply(rt: HostRuntime) -> Result<(), Fail> {
+    told(&rt, rt.alloc(), Story::AnswersNothing)
+}
+
+#[test]
+fn a_slot_that_is_not_registered_is_refused(rt: HostRuntime) -> Result<(), Fail> {
+    told(&rt, rt.alloc(), Story::RefusesPositions)
+}
+
+#[test]
+fn the_living_are_merged_and_pending(rt: HostRuntime) -> Result<(), Fail> {
+    told(&rt, rt.alloc(), Story::LivingAndSlots)
+}
+
+#[test]
+fn each_expression_selects_its_set(rt: HostRuntime) -> Result<(), Fail> {
+    told(&rt, rt.alloc(), Story::SelectsEach)
+}
+
+#[test]
+fn a_refused_list_names_the_first_that_is_stale(rt: HostRuntime) -> Result<(), Fail> {
+    told(&rt, rt.alloc(), Story::RefusesTheFirstStale)
+}
+
+#[test]
+fn marks_and_pending_births_end_at_maintain(rt: HostRuntime) -> Result<(), Fail> {
+    told(&rt, rt.alloc(), Story::EndsAtMaintain)
 }
 
 #[test]
 fn what_a_phase_left_is_taken_up_by_maintain(rt: HostRuntime) -> Result<(), Fail> {
-    let mut world = three(rt.alloc())?;
-    takes_up_a_phase(&rt, rt.alloc(), &mut world)
+    told(&rt, rt.alloc(), Story::TakesUpAPhase)
 }
