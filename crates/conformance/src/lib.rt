@@ -26,6 +26,8 @@ mod upstream_births;
 #[cfg(test)]
 mod upstream_entities;
 #[cfg(test)]
+mod upstream_lazy;
+#[cfg(test)]
 mod upstream_storages;
 #[cfg(test)]
 mod worlds;

@@ -9,3 +9,4 @@ pub mod Sound
 pub mod Loaded
 pub mod Renaming
 pub mod JsonLists
+pub mod JsonTexts

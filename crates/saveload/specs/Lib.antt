@@ -13,3 +13,5 @@ pub mod Law
 pub mod Json
 pub mod JsonNumbers
 pub mod JsonTuples
+pub mod Uuids
+pub mod JsonUuids

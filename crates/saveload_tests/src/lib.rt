@@ -10,4 +10,6 @@ mod marker_tests;
 #[cfg(test)]
 mod saving_tests;
 #[cfg(test)]
+mod uuid_tests;
+#[cfg(test)]
 mod worlds;

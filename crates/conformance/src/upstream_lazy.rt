@@ -1,0 +1,117 @@
+//! Tests of specs on lazy updates, by their names there.
+use crate::small::Small;
+use crate::stories::Sample;
+use slots::{Position, Tag};
+use specs::{Command, Entity, Reply, Storages, World, value};
+use specs_run::ScriptJob;
+use std::alloc::Global;
+use std::process::Abort;
+
+type Busy<S> = World<S, ScriptJob>;
+
+/// Storages for both component types, and two entities whose births are pending.
+fn begin<P, T, S: Sample<P, T>>(world: &mut Busy<S>) -> Option<(Entity, Entity)> {
+    world.register::<Position, _>().ok()?;
+    world.register::<Tag, _>().ok()?;
+    Some((raised(world)?, raised(world)?))
+}
+
+/// An entity whose birth is pending.
+fn raised<S: Storages>(world: &mut Busy<S>) -> Option<Entity> {
+    match world.apply(Command::CreatePending) {
+        Reply::Entity(e) => Some(e),
+        _ => None,
+    }
+}
+
+fn has<S: Storages>(world: &mut Busy<S>, slot: S::Slot, e: Entity) -> bool {
+    matches!(world.apply(Command::Get(slot, e)), Reply::Value(Some(_)))
+}
+
+/// How many jobs ran, where none was refused and none waits.
+fn ran<S: Storages>(world: &mut Busy<S>) -> Option<u64> {
+    match world.maintain(u64::MAX) {
+        Ok(m) if m.refused == 0 && m.left == 0 => Some(m.ran),
+        _ => None,
+    }
+}
+
+fn inserts<P, T, S: Sample<P, T>>(alloc: Global, world: &mut Busy<S>) -> Option<bool> {
+    let (e1, e2) = begin(world)?;
+    let one = value::<_, S, _>(Position(1));
+    let one = world.parts().lazy.insert(e1, one).is_ok();
+    let mut pairs = Vec::new(alloc);
+    pairs.push((e1, value::<_, S, _>(Tag))).ok()?;
+    pairs.push((e2, value::<_, S, _>(Tag))).ok()?;
+    let all = world.parts().lazy.insert_all(pairs).is_ok();
+    let before = has(world, S::pos(), e1);
+    let counted = ran(world) == Some(2);
+    Some(
+        one && all
+            && !before
+            && counted
+            && has(world, S::pos(), e1)
+            && has(world, S::tag(), e1)
+            && has(world, S::tag(), e2),
+    )
+}
+
+fn removes<P, T, S: Sample<P, T>>(world: &mut Busy<S>) -> Option<bool> {
+    let (e, _) = begin(world)?;
+    let placed = world.apply(Command::Insert(e, value::<_, S, _>(Position(1))));
+    let queued = world.parts().lazy.remove(S::pos(), e).is_ok();
+    let before = has(world, S::pos(), e);
+    Some(
+        matches!(placed, Reply::Value(None))
+            && queued
+            && before
+            && ran(world) == Some(1)
+            && !has(world, S::pos(), e),
+    )
+}
+
+/// A job that creates an entity; one more lives afterwards than before.
+fn executes<P, T, S: Sample<P, T>>(world: &mut Busy<S>) -> Option<bool> {
+    let (_, last) = begin(world)?;
+    let queued = world.parts().lazy.exec(ScriptJob::Create).is_ok();
+    let next = world.entities().entity(last.id().wrapping_add(1));
+    let before = world.entities().is_alive(next);
+    Some(queued && !before && ran(world) == Some(1) && world.entities().is_alive(next))
+}
+
+/// What is told of a world.
+#[derive(Clone, Copy)]
+enum Story {
+    Inserts,
+    Removes,
+    Executes,
+}
+
+fn told_of<P, T, S: Sample<P, T> + Drop>(alloc: Global, story: Story) -> Option<bool> {
+    let mut world = World::new(alloc, S::empty());
+    match story {
+        Story::Inserts => inserts(alloc, &mut world),
+        Story::Removes => removes(&mut world),
+        Story::Executes => executes(&mut world),
+    }
+}
+
+/// The world is of these storages here alone.
+fn told<R: Abort>(rt: &R, alloc: Global, story: Story) {
+    assert_eq!(rt; told_of::<_, _, Small>(alloc, story), Some(true));
+}
+
+#[test]
+fn lazy_insertion(rt: HostRuntime) {
+    told(&rt, rt.alloc(), Story::Inserts);
+}
+
+#[test]
+fn lazy_removal(rt: HostRuntime) {
+    told(&rt, rt.alloc(), Story::Removes);
+}
+
+#[test]
+fn lazy_execution(rt: HostRuntime) {
+    told(&rt, rt.alloc(), Story::Executes);
+}
