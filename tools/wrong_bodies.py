@@ -12,7 +12,7 @@ An edit that reaches beyond its function (a constant) has a line 'alone: WHY', a
 Edits of one crate that change different functions are applied together, so that one check tries up to ten of them. Each is judged by itself: the check
 must have a line for its function that says that it is not proved, for itself and not for a function that it calls, and name the goal.
 A missing step of a proof shows nothing, so a goal is not counted where a proof file only names what the edit took away.
-What a group did not show is tried alone. Run at the top of the repository; --alone tries each edit alone, and --explain only tells, of each edit
+What a group did not show is tried alone; of the one edit of a crate its function alone is checked first. Run at the top of the repository; --alone tries each edit alone, and --explain only tells, of each edit
 alone, which functions the check refuses for themselves, and at which goals: for writing an edit's lines 'fn:' and 'clause:'."""
 import concurrent.futures
 import os
@@ -81,8 +81,9 @@ def groups_of(edits):
     return [it[0] for it in groups]
 
 
-def checked(room, group):
-    """What the check says of the crate with the edits of the group, or why they cannot stand together."""
+def checked(room, group, only=False):
+    """What the check says of the crate, or of the edits' functions alone and what they call, with the edits of the group; nothing where
+    they cannot stand together."""
     crate = f"{room}/crates/{group[0].crate}"
     texts = {}
     for edit in group:
@@ -100,8 +101,9 @@ def checked(room, group):
             kept[file] = it.read()
         with open(f"{crate}/{file}", "w", encoding="utf-8") as it:
             it.write(text)
+    words = [word for edit in group for word in ("--only", edit.function)] if only else []
     try:
-        ran = subprocess.run(["rt", "check", "--jobs", "1"], cwd=crate, stdin=subprocess.DEVNULL, stdout=subprocess.PIPE, stderr=subprocess.STDOUT, errors="replace")
+        ran = subprocess.run(["rt", "check", "--jobs", "1", *words], cwd=crate, stdin=subprocess.DEVNULL, stdout=subprocess.PIPE, stderr=subprocess.STDOUT, errors="replace")
     finally:
         for file, text in kept.items():
             with open(f"{crate}/{file}", "w", encoding="utf-8") as it:
@@ -160,10 +162,10 @@ def try_crate(crate, edits, how):
         if how == "--explain":
             return [(it, True, explained(checked(top, [it]), it)) for it in edits]
         for group in [[it] for it in edits] if how == "--alone" else groups_of(edits):
-            said = checked(top, group)
+            said = checked(top, group, only=len(edits) == 1)
             for edit in group:
                 well, text = judge(said, edit)
-                if not well and len(group) > 1:
+                if not well and (len(group) > 1 or len(edits) == 1):
                     well, text = judge(checked(top, [edit]), edit)
                 told.append((edit, well, text))
     return told
