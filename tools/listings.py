@@ -1,22 +1,32 @@
 #!/usr/bin/env python3
 """Puts listings of proved code into pages: the block of code behind a line `<!-- listing FILE: NAME -->` is the item NAME of FILE (of an impl 'TRAIT for TYPE'), with its lines before it.
+The block behind `<!-- file FILE -->` is the whole file, and that behind `<!-- output NAME -->` what the example NAME prints; the picture docs/orbits.svg is what `orbits` prints.
 
     python3 tools/listings.py [--check]      writes each page of docs/ anew; --check only says whether that would change one
 
-An item begins at the first of its comment and attribute lines, and ends at the first line that is `}` or ends with `;` at its own depth."""
+An item begins at the first of its comment and attribute lines, and ends at the first line that is `}` or ends with `;` at its own depth.
+What the examples print is crates/examples/stdout, which the gate compares with what they do."""
 import glob
 import os
 import re
 import sys
 
 os.chdir(os.path.join(os.path.dirname(os.path.abspath(__file__)), ".."))
-MARK = re.compile(r"^<!-- listing (\S+): (.+) -->$")
+LISTING = re.compile(r"^<!-- listing (\S+): (.+) -->$")
+FILE = re.compile(r"^<!-- file (\S+) -->$")
+OUTPUT = re.compile(r"^<!-- output (\S+) -->$")
+PRINTED = "crates/examples/stdout"
+PICTURES = {"docs/orbits.svg": "orbits"}
+
+
+def read(path):
+    with open(path, encoding="utf-8") as it:
+        return it.read()
 
 
 def item(path, name):
     """The lines of an item of a file."""
-    with open(path, encoding="utf-8") as it:
-        lines = it.read().split("\n")
+    lines = read(path).split("\n")
     head = re.compile(rf"(pub )?(fn|struct|enum|type|trait|const) {re.escape(name)}\b|impl\b.* {re.escape(name)} {{")
     found = [k for k, line in enumerate(lines) if head.match(line)]
     if not found:
@@ -29,34 +39,51 @@ def item(path, name):
     return lines[first : last + 1]
 
 
+def output(name):
+    """The lines that an example prints."""
+    lines = read(PRINTED).split("\n")
+    if f"== {name}" not in lines:
+        raise SystemExit(f"{PRINTED} has nothing of {name}")
+    rest = lines[lines.index(f"== {name}") + 1 :]
+    return rest[: next((k for k, line in enumerate(rest) if line.startswith("== ") or not line), len(rest))]
+
+
+def block(line):
+    """The block that belongs behind a line of a page, or none."""
+    if mark := LISTING.match(line):
+        return ["```rust", *item(mark[1], mark[2]), "```"]
+    if mark := FILE.match(line):
+        return ["```", *read(mark[1]).rstrip("\n").split("\n"), "```"]
+    if mark := OUTPUT.match(line):
+        return ["```", *output(mark[1]), "```"]
+    return None
+
+
 def made(text):
     """The page with its listings made anew."""
     lines, out, k = text.split("\n"), [], 0
     while k < len(lines):
         out.append(lines[k])
-        mark = MARK.match(lines[k])
+        new = block(lines[k])
         k += 1
-        if mark:
+        if new:
             if k < len(lines) and lines[k].startswith("```"):
                 k = next(j for j in range(k + 1, len(lines)) if lines[j] == "```") + 1
-            out += ["```rust", *item(mark[1], mark[2]), "```"]
+            out += new
     return "\n".join(out)
 
 
 def main():
-    changed = []
-    for page in sorted(glob.glob("docs/*.md")):
-        with open(page, encoding="utf-8") as it:
-            text = it.read()
-        new = made(text)
-        if new != text:
-            changed.append(page)
-            if "--check" not in sys.argv[1:]:
-                with open(page, "w", encoding="utf-8") as it:
-                    it.write(new)
-    if "--check" in sys.argv[1:] and changed:
-        print(f"listings of {', '.join(changed)} are not those of the code: python3 tools/listings.py writes them anew")
-        return 1
+    pages = {page: made(read(page)) for page in sorted(glob.glob("docs/*.md"))}
+    pages |= {picture: "\n".join(output(name)) + "\n" for picture, name in PICTURES.items()}
+    changed = [page for page, new in pages.items() if not os.path.exists(page) or read(page) != new]
+    if "--check" in sys.argv[1:]:
+        if changed:
+            print(f"listings of {', '.join(changed)} are not those of the code: python3 tools/listings.py writes them anew")
+        return 1 if changed else 0
+    for page in changed:
+        with open(page, "w", encoding="utf-8") as it:
+            it.write(pages[page])
     return 0
 
 

@@ -4,9 +4,10 @@
     python3 tools/random_scripts.py [COUNT] [SEED]      COUNT: how many scripts (10000); SEED: that of the first (1)
 
 Script k is made from seed SEED + k. A birth may take any free index, so the model follows the entity that the program printed, if the rule
-allows it. A job that creates an entity does not tell which: the model keeps every world that the replies so far allow. A reply that none of
+allows it. A job that creates an entity does not tell which, nor does a load: the model keeps every world that the replies so far allow. A reply that none of
 them gives is printed, with its script and its seed, and the status is 1."""
 import copy
+import json
 import os
 import random
 import subprocess
@@ -16,11 +17,15 @@ TOP = os.path.dirname(os.path.dirname(os.path.abspath(__file__)))
 LIMIT = 1 << 24
 LAST_GENERATION = (1 << 31) - 1
 NUMBERS = ["pos", "vel", "def", "map", "tree", "hp"]
-SLOTS = NUMBERS + ["tag", "link"]
+WRITTEN = NUMBERS + ["tag", "link"]
+SLOTS = WRITTEN + ["id"]
+SAVED = ["pos", "link", "id"]
+IDS = 1 << 64
 TRACKED = {"hp"}
 UNREADABLE = ["frob", "create ", " create", "delete", "delete 0", "insert pos 0:1", "insert tag 0:1 5", "select", "select and pos",
-              "select pos pos", "emit hp", "maintain -1", "reader", "entity 4294967296", "alive 0:0", "get id 0:1", "delete-all 0:1",
-              "job", "job again 1", "job create pending", "job remove pos", "job insert tag 0:1 5", "job delete 0:1", "maintain"]
+              "select pos pos", "emit hp", "maintain -1", "reader", "entity 4294967296", "alive 0:0", "insert id 0:1 0", "delete-all 0:1",
+              "job", "job again 1", "job create pending", "job remove pos", "job insert tag 0:1 5", "job delete 0:1", "maintain",
+              "label", "label 0:1 1:1", "job label", "save 0", "save-all ", "load", "load ", "load  []", "load [] "]
 
 
 class Slot:
@@ -51,6 +56,7 @@ class Members:
 class World:
     def __init__(self):
         self.births, self.merged, self.pending, self.marked, self.slots, self.jobs = {}, set(), set(), set(), {}, []
+        self.ids, self.next_id = {}, 0
 
     def living(self):
         return self.merged | self.pending
@@ -153,6 +159,8 @@ class World:
                         for world, more, others in self.with_pending(i).after_jobs(limit - ran)]
             if kind == "again":
                 self.jobs.append(["again"])
+            elif kind == "label":
+                refused += self.label(*rest).startswith("error")
             elif kind == "insert":
                 refused += self.insert(*rest).startswith("error")
             else:
@@ -169,6 +177,95 @@ class World:
     def job(self, *words):
         self.jobs.append(list(words))
         return "ok"
+
+    def label(self, word):
+        slot, e = self.slots.get("id"), entity(word)
+        if slot is None:
+            return "error: unregistered"
+        if not self.is_alive(e):
+            return "error: not alive"
+        if e[0] not in slot.values:
+            if self.next_id == IDS:
+                return "error: ids exhausted"
+            slot.values[e[0]] = str(self.next_id)
+            self.ids[self.next_id] = e
+            self.next_id += 1
+        return slot.values[e[0]]
+
+    def saves(self):
+        return all(name in self.slots for name in SAVED)
+
+    def link_of(self, i):
+        """The entity that an index is linked to, if it is linked."""
+        return entity(self.slots["link"].values.get(i, ""))
+
+    def saved(self, indices):
+        """The text of the entities of indices, or the refusal of the first that has no marker."""
+        records = []
+        for i in indices:
+            target, place = self.link_of(i), self.slots["pos"].values.get(i)
+            if target and not (self.is_alive(target) and target[0] in self.slots["id"].values):
+                return f"error: unmarked {target[0]}:{target[1]}"
+            link = f"[{self.slots['id'].values[target[0]]}]" if target else "null"
+            records.append(f'{{"components":[{f"[{place}]" if place else "null"},{link}],"marker":{self.slots["id"].values[i]}}}')
+        return f"[{','.join(records)}]"
+
+    def save(self):
+        return self.saved(sorted(self.slots["id"].values)) if self.saves() else "error: unregistered"
+
+    def save_all(self):
+        if not self.saves():
+            return "error: unregistered"
+        indices = sorted(self.slots["id"].values)
+        for i in indices:
+            target = self.link_of(i)
+            if target and not self.is_alive(target):
+                return f"error: unmarked {target[0]}:{target[1]}"
+            if target and target[0] not in self.slots["id"].values:
+                refused = self.label(f"{target[0]}:{target[1]}")
+                if refused.startswith("error"):
+                    return refused
+                indices.append(target[0])
+        return self.saved(indices)
+
+    def named(self, number):
+        """Each world in which a marker names an entity, with the entity: a mapped one that agrees, else a new one."""
+        known = self.ids.get(number)
+        if known and self.is_alive(known) and self.slots["id"].values.get(known[0]) == str(number):
+            return [(self, known)]
+        worlds = []
+        for i in self.next_born():
+            world = self.with_pending(i)
+            world.ids[number] = i, world.births[i]
+            world.slots["id"].values[i] = str(number)
+            world.next_id = max(world.next_id, number + 1)
+            worlds.append((world, (i, world.births[i])))
+        return worlds
+
+    def with_record(self, place, link, number):
+        """Each world in which a record is loaded."""
+        worlds = []
+        for world, e in self.named(number):
+            for after, target in world.named(link) if link is not None else [(world, None)]:
+                after = copy.deepcopy(after)
+                for name, value in ("pos", place), ("link", target and f"{target[0]}:{target[1]}"):
+                    after.slots[name].values.pop(e[0], None)
+                    if value is not None:
+                        after.slots[name].values[e[0]] = str(value)
+                worlds.append(after)
+        return worlds
+
+    def loaded(self, text):
+        """Each world that may come of a load, with its reply."""
+        if not self.saves():
+            return [(self, "error: unregistered")]
+        records = records_of(text)
+        if records is None:
+            return [(self, "error: not the form")]
+        worlds = [self]
+        for record in records:
+            worlds = [after for world in worlds for after in world.with_record(*record)]
+        return [(world, "ok") for world in worlds]
 
     def alive(self, word):
         e = entity(word)
@@ -268,11 +365,49 @@ def wrong(action, e, actual):
             f"it should be Generation({actual})")
 
 
+def is_number(value, least, most):
+    return isinstance(value, int) and not isinstance(value, bool) and least <= value <= most
+
+
+def place_of(value, least, most):
+    """The one number of a place, None of an empty one; anything else is no place."""
+    if value is None:
+        return None
+    if not isinstance(value, list) or len(value) != 1 or not is_number(value[0], least, most):
+        raise ValueError
+    return value[0]
+
+
+def record_of(value):
+    if not isinstance(value, dict) or set(value) != {"components", "marker"} or not is_number(value["marker"], 0, IDS - 1):
+        raise ValueError
+    components = value["components"]
+    if not isinstance(components, list) or len(components) != 2:
+        raise ValueError
+    return place_of(components[0], -(1 << 63), (1 << 63) - 1), place_of(components[1], 0, IDS - 1), value["marker"]
+
+
+def no_constant(_name):
+    raise ValueError
+
+
+def records_of(text):
+    """The records of a text, or None where it is not of the form."""
+    try:
+        value = json.loads(text, parse_int=lambda digits: float(0) if digits == "-0" else int(digits), parse_constant=no_constant)
+        return [record_of(it) for it in value] if isinstance(value, list) else None
+    except (ValueError, RecursionError):
+        return None
+
+
 class Script:
     """Lines, of which each is made as if the program had taken the least free index at each birth."""
 
     def __init__(self, seed):
         self.random, self.world, self.lines = random.Random(seed), World(), []
+        self.saving = self.random.randrange(2) == 0
+        for name in SAVED if self.saving else []:
+            self.add(f"register {name}")
         for _ in range(self.random.randrange(60)):
             self.add(self.line())
         self.unreadable = self.random.randrange(8) == 0
@@ -316,7 +451,26 @@ class Script:
         return f"select and living {line}" if members and members.inverted else f"select {line}"
 
     def a_slot(self):
-        return self.random.choice(["hp", "hp", self.random.choice(SLOTS)])
+        return self.random.choice(["pos", "link", "link", "id", "hp"] if self.saving else ["hp", "hp", self.random.choice(SLOTS)])
+
+    def a_written_slot(self):
+        slot = self.a_slot()
+        return "link" if slot == "id" else slot
+
+    def a_record(self):
+        place, link = self.random.choice(["null", "[5]", "[-7]"]), self.random.choice(["null", f"[{self.an_id()}]", f"[{self.an_id()}]"])
+        return f'{{"components":[{place},{link}],"marker":{self.an_id()}}}'
+
+    def an_id(self):
+        return self.random.choice([0, 0, 1, 1, 2, 3, self.random.randrange(9), IDS - 1 if self.random.randrange(9) == 0 else 4])
+
+    def a_text(self):
+        """A saved list, or one with a character that is changed, dropped or doubled."""
+        text = f"[{','.join(self.a_record() for _ in range(self.random.randrange(4)))}]"
+        if self.random.randrange(4) == 0:
+            k = self.random.randrange(len(text))
+            text = text[:k] + self.random.choice(["", text[k] * 2, self.random.choice('0-.e,:[]{}"n 9')]) + text[k + 1:]
+        return text.strip(" ") or "[]"
 
     def a_limit(self):
         """How many jobs may run: few, where one queues itself."""
@@ -324,14 +478,17 @@ class Script:
         return self.random.choice([0, 1, 2, 3, 9 if endless else (1 << 64) - 1])
 
     def a_job(self):
-        slot, e = self.a_slot(), self.an_entity()
-        return "job " + self.random.choice([f"insert {slot} {e} {self.a_value(slot)}", f"insert {slot} {e} {self.a_value(slot)}", f"remove {slot} {e}",
+        slot, e = self.a_written_slot(), self.an_entity()
+        return "job " + self.random.choice([f"label {e}", f"insert {slot} {e} {self.a_value(slot)}", f"insert {slot} {e} {self.a_value(slot)}", f"remove {slot} {e}",
                                             "create", "again"])
 
     def line(self):
         slot, e, r = self.a_slot(), self.an_entity(), self.random
-        return r.choice(["create", "create", "create pending", f"register {slot}", f"register {slot}", f"insert {slot} {e} {self.a_value(slot)}",
-                         f"insert {slot} {e} {self.a_value(slot)}", f"insert {slot} {e} {self.a_value(slot)}", f"get {slot} {e}", f"remove {slot} {e}",
+        if self.saving and r.randrange(3) == 0:
+            return r.choice([f"label {e}", f"label {e}", "save", "save-all", f"load {self.a_text()}", f"insert link {e} {self.an_entity()}"])
+        written = self.a_written_slot()
+        return r.choice(["create", "create", "create pending", f"register {slot}", f"register {slot}", f"insert {written} {e} {self.a_value(written)}",
+                         f"insert {written} {e} {self.a_value(written)}", f"insert {written} {e} {self.a_value(written)}", f"label {e}", f"get {slot} {e}", f"remove {slot} {e}",
                          f"clear {slot}", f"count {slot}", f"mark {e}", f"alive {e}", f"living {e}", f"maintain {self.a_limit()}", self.a_job(), self.a_job(),
                          f"entity {r.choice([0, 1, 2, 3, LIMIT, (1 << 32) - 1])}", "delete " + " ".join([e] + [self.an_entity() for _ in range(r.randrange(3))]),
                          "delete-all" if r.randrange(4) == 0 else "", self.a_selection(), self.a_selection(), f"reader {slot}", f"events {slot} {r.randrange(3)}",
@@ -343,9 +500,11 @@ def judged(world, line, printed):
     words = line.split(" ")
     if words[0] == "maintain":
         return world.maintained(words[1])
+    if words[0] == "load":
+        return world.loaded(line[len("load "):])
     if words[0] == "create":
         return [(world, world.create(*words[1:], printed=printed))]
-    name = {"living": "living_line", "delete-all": "delete_all"}.get(words[0], words[0])
+    name = {"living": "living_line", "delete-all": "delete_all", "save-all": "save_all"}.get(words[0], words[0])
     return [(world, getattr(world, name)(*words[1:]))]
 
 

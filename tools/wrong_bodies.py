@@ -9,11 +9,18 @@ check leaves open in that function must be: a clause's name, or the name of anot
 clauses (a loop without an end, a step that a table of shared words forbids), 'says: TEXT' stands in the place of the clause: what the check must say.
 An edit that reaches beyond its function (a constant) has a line 'alone: WHY', and no other edit in its group.
 
-Edits of one crate that change different functions are applied together, so that one check tries up to ten of them. Each is judged by itself: the check
-must have a line for its function that says that it is not proved, for itself and not for a function that it calls, and name the goal.
+Edits of one crate that change different functions are applied together, so that one check tries up to twenty of them. It checks the functions of
+the edits and what these call, and no other (`rt check --only`). Each edit is judged by itself: the check must have a line for its function that
+says that it is not proved, for itself and not for a function that it calls, and name the goal.
 A missing step of a proof shows nothing, so a goal is not counted where a proof file only names what the edit took away.
-What a group did not show is tried alone; of the one edit of a crate its function alone is checked first. Run at the top of the repository; --alone tries each edit alone, and --explain only tells, of each edit
-alone, which functions the check refuses for themselves, and at which goals: for writing an edit's lines 'fn:' and 'clause:'."""
+What a group did not show is tried again without the others, then alone, and last by a check of the whole crate.
+
+There are as many lanes as processors, or RT_JOBS. A lane takes the crate that has the most left, makes a room for it (a copy of the tree), and tries
+one group after another there. What a group's check proved and the next did not change is kept in the room. Where every crate has its lane, the next
+lane makes a second room for the crate that has the most left, so that all lanes end at about one time. The verdicts come as they are found.
+
+Run at the top of the repository; --alone tries each edit alone, and --explain only tells, of each edit alone, which functions the check of the whole
+crate refuses for themselves, and at which goals: for writing an edit's lines 'fn:' and 'clause:'."""
 import concurrent.futures
 import os
 import re
@@ -21,9 +28,9 @@ import shutil
 import subprocess
 import sys
 import tempfile
+import threading
 
-GROUP = 10
-PARTS = ("src", "specs", "proofs")
+GROUP = 20
 LOST = re.compile(r"has no field|is not in scope|has no `|was not admitted|is no name")
 
 
@@ -67,36 +74,52 @@ class Edit:
         return None
 
 
-def groups_of(edits):
-    """The edits in groups of which no two change one function or one text."""
+def edits_of(wanted):
+    """The edits of each crate, or those that are wanted."""
+    found = {}
+    for crate in sorted(os.listdir("crates")):
+        folder = f"crates/{crate}/wrong"
+        names = sorted(os.listdir(folder)) if os.path.isdir(folder) else []
+        edits = [Edit(f"{folder}/{it}") for it in names if it.endswith(".edit")]
+        edits = [it for it in edits if not wanted or crate in wanted or it.name in wanted]
+        if edits:
+            found[crate] = edits
+    return found
+
+
+def applied(folder, edits):
+    """The texts of the crate's files that the edits change, by file; nothing where the edits cannot stand together."""
+    texts = {}
+    for edit in edits:
+        for file, old, new in edit.changes:
+            if file not in texts:
+                with open(f"{folder}/{file}", encoding="utf-8") as it:
+                    texts[file] = it.read()
+            if texts[file].count(old) != 1:
+                return None
+            texts[file] = texts[file].replace(old, new)
+    return texts
+
+
+def groups_of(crate, edits):
+    """The crate's edits in groups that stand together, of which no two change one function."""
     groups = []
     for edit in edits:
-        keys = {edit.function, *((file, old) for file, old, _ in edit.changes)}
-        home = next((it for it in groups if not edit.alone and not it[0][0].alone and len(it[0]) < GROUP and not keys & it[1]), None)
-        if home is None:
-            groups.append(([edit], keys))
+        for group in [] if edit.alone else groups:
+            is_free = len(group) < GROUP and all(not it.alone and it.function != edit.function for it in group)
+            if is_free and applied(f"crates/{crate}", [*group, edit]) is not None:
+                group.append(edit)
+                break
         else:
-            home[0].append(edit)
-            home[1].update(keys)
-    return [it[0] for it in groups]
+            groups.append([edit])
+    return groups
 
 
-def checked(room, group, only=False):
-    """What the check says of the crate, or of the edits' functions alone and what they call, with the edits of the group; nothing where
-    they cannot stand together."""
+def checked(room, group, only=True):
+    """What the check says of the edits' functions and what they call, or of the whole crate, with the edits of the group."""
     crate = f"{room}/crates/{group[0].crate}"
-    texts = {}
-    for edit in group:
-        for file, old, new in edit.changes:
-            text = texts.get(file)
-            if text is None:
-                with open(f"{crate}/{file}", encoding="utf-8") as it:
-                    text = it.read()
-            if text.count(old) != 1:
-                return None
-            texts[file] = text.replace(old, new)
     kept = {}
-    for file, text in texts.items():
+    for file, text in applied(crate, group).items():
         with open(f"{crate}/{file}", encoding="utf-8") as it:
             kept[file] = it.read()
         with open(f"{crate}/{file}", "w", encoding="utf-8") as it:
@@ -126,8 +149,6 @@ def refused(said, crate):
 
 def judge(said, edit):
     """Whether the edit is refused as it must be, and what to say."""
-    if said is None:
-        return False, "cannot stand in its group"
     goals = refused(said, edit.crate).get(edit.function)
     if goals is None:
         return False, "NOT REFUSED"
@@ -139,13 +160,39 @@ def judge(said, edit):
     return True, f"refused: {hit}"
 
 
+def below(crate):
+    """The crates of the repository that this one uses, and those that they use."""
+    uses = {}
+    with open("crates.txt", encoding="utf-8") as it:
+        for line in it:
+            left, _, right = line.partition("#")[0].partition(":")
+            if left.strip():
+                uses[left.split()[0]] = right.split()
+    found, next_ones = set(), [crate]
+    while next_ones:
+        for it in uses.get(next_ones.pop(), []):
+            if it in uses and it not in found:
+                found.add(it)
+                next_ones.append(it)
+    return found
+
+
+def linked(old, new):
+    """One file under two names, or a copy where the disk is another."""
+    try:
+        os.link(old, new)
+    except OSError:
+        shutil.copy2(old, new)
+
+
 def room_for(crate, top):
-    """A copy of the tree: its texts, what is built of each crate, and what is kept of this one."""
+    """A copy of the tree: its texts, what is built of the crates below this one, and what is kept of this one."""
     shutil.copytree(".", top, ignore=lambda at, names: [it for it in names if it in (".git", "out") and (at == "." or at.startswith("./crates"))], dirs_exist_ok=True)
-    for name in os.listdir("crates"):
-        for part in ("rlib", "incremental"):
-            if os.path.isdir(f"crates/{name}/out/{part}") and (part == "rlib" or name == crate):
-                shutil.copytree(f"crates/{name}/out/{part}", f"{top}/crates/{name}/out/{part}")
+    for name in below(crate):
+        if os.path.isdir(f"crates/{name}/out/rlib"):
+            shutil.copytree(f"crates/{name}/out/rlib", f"{top}/crates/{name}/out/rlib", copy_function=linked)
+    if os.path.isdir(f"crates/{crate}/out/incremental"):
+        shutil.copytree(f"crates/{crate}/out/incremental", f"{top}/crates/{crate}/out/incremental")
 
 
 def explained(said, edit):
@@ -154,21 +201,55 @@ def explained(said, edit):
     return "; ".join(f"fn {name}: {', '.join(goals) or 'no goal is named'}" for name, goals in found.items()) or "NOT REFUSED"
 
 
-def try_crate(crate, edits, how):
-    """Each edit of the crate with its verdict."""
-    told = []
-    with tempfile.TemporaryDirectory(prefix="wrong-bodies-") as top:
-        room_for(crate, top)
-        if how == "--explain":
-            return [(it, True, explained(checked(top, [it]), it)) for it in edits]
-        for group in [[it] for it in edits] if how == "--alone" else groups_of(edits):
-            said = checked(top, group, only=len(edits) == 1)
-            for edit in group:
-                well, text = judge(said, edit)
-                if not well and (len(group) > 1 or len(edits) == 1):
-                    well, text = judge(checked(top, [edit]), edit)
-                told.append((edit, well, text))
-    return told
+def tried(room, group, how):
+    """Each edit of the group with its verdict."""
+    if how == "--explain":
+        return [(it, True, explained(checked(room, [it], only=False), it)) for it in group]
+    said = checked(room, group)
+    told = {it: judge(said, it) for it in group}
+    rest = [it for it in group if not told[it][0]]
+    if len(group) == 1 and rest:
+        told[group[0]] = judge(checked(room, group, only=False), group[0])
+    elif rest:
+        for some in [rest] if len(rest) < len(group) else [[it] for it in rest]:
+            told.update((edit, (well, text)) for edit, well, text in tried(room, some, how))
+    return [(it, *told[it]) for it in group]
+
+
+class Work:
+    """The groups that no lane has taken yet, by crate."""
+
+    def __init__(self, groups):
+        self.groups, self.lanes, self.lock = groups, dict.fromkeys(groups, 0), threading.Lock()
+
+    def crate(self):
+        """The crate that has the most left for each lane at work in it; none, where nothing is left."""
+        with self.lock:
+            found = max((it for it in self.groups if self.groups[it]), key=lambda it: self.weight(it) / (self.lanes[it] + 1), default=None)
+            if found:
+                self.lanes[found] += 1
+            return found
+
+    def weight(self, crate):
+        """About how long the crate's groups take."""
+        return sum(len(it) for it in self.groups[crate])
+
+    def group(self, crate):
+        """The crate's next group; none, where none is left."""
+        with self.lock:
+            if self.groups[crate]:
+                return self.groups[crate].pop(0)
+            self.lanes[crate] -= 1
+            return None
+
+
+def lane(work, how, tell):
+    """Tries the groups of one crate in a room of its own, and then those of the next, until none is left."""
+    while crate := work.crate():
+        with tempfile.TemporaryDirectory(prefix="wrong-bodies-") as top:
+            room_for(crate, top)
+            while group := work.group(crate):
+                tell(tried(top, group, how))
 
 
 def main(words):
@@ -176,31 +257,28 @@ def main(words):
     if how not in ("", "--alone", "--explain"):
         print(__doc__)
         return 2
-    wanted = [it for it in words if not it.startswith("--")]
-    found = {}
-    for crate in sorted(os.listdir("crates")):
-        folder = f"crates/{crate}/wrong"
-        names = sorted(os.listdir(folder)) if os.path.isdir(folder) else []
-        edits = [Edit(f"{folder}/{it}") for it in names if it.endswith(".edit")]
-        edits = [it for it in edits if not wanted or crate in wanted or it.name in wanted]
-        if edits:
-            found[crate] = edits
+    found = edits_of([it for it in words if not it.startswith("--")])
     faults = [(it, it.fault(how)) for edits in found.values() for it in edits if it.fault(how)]
     for edit, why in faults:
         print(f"wrong body {edit.name}: BAD EDIT: {why}")
     if faults:
         print(f"0 passed, {len(faults)} failed")
         return 1
+    verdicts = []
+
+    def tell(told):
+        for edit, well, text in told:
+            print(f"wrong body {edit.name}: {text}", flush=True)
+            verdicts.append(well)
+
+    work = Work({crate: groups_of(crate, edits) if how == "" else [[it] for it in edits] for crate, edits in found.items()})
     lanes = int(os.environ.get("RT_JOBS") or len(os.sched_getaffinity(0)))
-    passed = failed = 0
     with concurrent.futures.ThreadPoolExecutor(lanes) as pool:
-        order = sorted(found, key=lambda it: -len(found[it]))
-        for told in pool.map(lambda it: try_crate(it, found[it], how), order):
-            for edit, well, text in told:
-                print(f"wrong body {edit.name}: {text}", flush=True)
-                passed, failed = passed + well, failed + (not well)
-    print(f"{passed} passed, {failed} failed")
-    return 1 if failed else 0
+        for it in [pool.submit(lane, work, how, tell) for _ in range(lanes)]:
+            it.result()
+    passed = sum(verdicts)
+    print(f"{passed} passed, {len(verdicts) - passed} failed")
+    return 0 if passed == len(verdicts) else 1
 
 
 if __name__ == "__main__":

@@ -9,6 +9,7 @@ mod cursors;
 mod entries;
 mod jobs;
 mod joined;
+mod labels;
 mod own_world;
 mod phases;
 mod placed;
@@ -29,6 +30,7 @@ pub use cursors::{
 pub use entries::{ninety_at, taken, three_and_found};
 pub use jobs::{Again, Late, Spread, queue};
 pub use joined::{all_healed, all_points, counted, in_both, points_at, same_again, words_for_one};
+pub use labels::{labelled, queued_with};
 pub use own_world::{
     Frozen, Game, Leader, Load, Parts, Place, Speed, load_slot, loaded, moved_and_found, new_game,
     put_and_found,

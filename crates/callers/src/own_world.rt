@@ -67,7 +67,7 @@ pub type Game = World<Parts>;
 pub fn new_game(alloc: Global) -> Game
     ensures { OnlyLiving (state_of ⟦<Parts as Storages>⟧.table result) }
 {
-    Game::new(alloc, Parts::empty())
+    Game::new(alloc, Parts::empty(alloc))
 }
 
 /// The slot of a component type, by the type's name.

@@ -19,7 +19,7 @@ pub fn lived<S: Empty + Drop>(
 ) -> Result<World<S>, AllocError>
     ensures { IfOk result (λ world. OnlyLiving (state_of S.table world)) }
 {
-    let mut world = World::new(alloc, S::empty());
+    let mut world = World::new(alloc, S::empty(alloc));
     let _replies = world.run(commands)?;
     Ok(world)
 }

@@ -5,7 +5,7 @@ ghost use Rattle.composed.specs.declared.either.Either.TheVariants.{First, Rest}
 
 use crate::either::Either;
 use hibits::BitSet;
-use specs::{ComponentEvent, EntitiesRes, Entity, ReaderId, Refusal, Storages};
+use specs::{ComponentEvent, EntitiesRes, Entity, MarkError, ReaderId, Refusal, Storages};
 use std::alloc::{AllocError, Global};
 
 /// The storages of both. A call goes to the part that its slot or its value names, and costs what it costs there.
@@ -31,6 +31,8 @@ impl<A: Storages, B: Storages> Storages for Both<A, B> {
     ghost room = { λ s. of_either (A.room s.first) (B.room s.rest) };
 
     ghost exact = { exact_by _ A.Slot.eq B.Slot.eq (λ x y. refl) (λ x y. refl) (λ x y. refl) (λ x y. refl) A.exact B.exact };
+
+    ghost marks = { of_either A.marks B.marks };
 
     ghost place = { place_of_both A.place B.place };
 
@@ -113,6 +115,18 @@ impl<A: Storages, B: Storages> Storages for Both<A, B> {
         }
     }
 
+    fn mark(
+        &mut self,
+        entities: &EntitiesRes,
+        slot: Self::Slot,
+        e: Entity,
+    ) -> Result<Option<bool>, MarkError> {
+        match slot {
+            Either::First(slot) => self.first.mark(entities, slot, e),
+            Either::Rest(slot) => self.rest.mark(entities, slot, e),
+        }
+    }
+
     fn register_reader(&mut self, slot: Self::Slot) -> Result<ReaderId, Refusal> {
         match slot {
             Either::First(slot) => self.first.register_reader(slot),
@@ -120,14 +134,14 @@ impl<A: Storages, B: Storages> Storages for Both<A, B> {
         }
     }
 
-    fn events(
+    fn read(
         &mut self,
         slot: Self::Slot,
         reader: &ReaderId,
     ) -> Result<Vec<ComponentEvent>, Refusal> {
         match slot {
-            Either::First(slot) => self.first.events(slot, reader),
-            Either::Rest(slot) => self.rest.events(slot, reader),
+            Either::First(slot) => self.first.read(slot, reader),
+            Either::Rest(slot) => self.rest.read(slot, reader),
         }
     }
 
@@ -138,10 +152,10 @@ impl<A: Storages, B: Storages> Storages for Both<A, B> {
         }
     }
 
-    fn emit(&mut self, slot: Self::Slot, on: bool) -> Result<(), Refusal> {
+    fn set_event_emission(&mut self, slot: Self::Slot, on: bool) -> Result<(), Refusal> {
         match slot {
-            Either::First(slot) => self.first.emit(slot, on),
-            Either::Rest(slot) => self.rest.emit(slot, on),
+            Either::First(slot) => self.first.set_event_emission(slot, on),
+            Either::Rest(slot) => self.rest.set_event_emission(slot, on),
         }
     }
 

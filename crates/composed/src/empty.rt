@@ -3,14 +3,17 @@ ghost use Rattle.std.specs.Prelude.{◌≡◌, None};
 ghost use Rattle.specs.specs.Reached.{HasNoValue};
 
 use crate::both::Both;
+use crate::marking::Marking;
 use crate::only::Only;
+use saveload::{SimpleMarker, SimpleMarkerAllocator};
 use specs::{Duplicate, Storages};
+use std::alloc::Global;
 use storages::{Component, MaybeTracked};
 
 /// A struct of storages that can be made empty.
 pub trait Empty: Storages + Sized {
-    /// No component type is registered.
-    fn empty() -> Self
+    /// No component type is registered. It takes no memory.
+    fn empty(alloc: Global) -> Self
         ensures none { (slot : Self.Slot) → Self.table result slot ≡ None }
         ensures empty { HasNoValue (Self.table result) };
 }
@@ -20,17 +23,24 @@ where
     T::Storage: MaybeTracked<T>,
 {
     #[tactic(auto, using(crate::proofs::Parts::has_no_value))]
-    fn empty() -> Self {
+    fn empty(_alloc: Global) -> Self {
         Only::new()
+    }
+}
+
+impl<T> Empty for Marking<SimpleMarker<T>, SimpleMarkerAllocator<T>> {
+    #[tactic(auto, using(crate::proofs::Parts::has_no_value))]
+    fn empty(alloc: Global) -> Self {
+        Marking::new(alloc)
     }
 }
 
 impl<A: Empty, B: Empty> Empty for Both<A, B> {
     #[tactic(auto, using(crate::proofs::Parts::has_no_value))]
-    fn empty() -> Self {
+    fn empty(alloc: Global) -> Self {
         Both {
-            first: A::empty(),
-            rest: B::empty(),
+            first: A::empty(alloc),
+            rest: B::empty(alloc),
         }
     }
 }

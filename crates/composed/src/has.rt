@@ -3,7 +3,9 @@ ghost use Rattle.specs.specs.Field.{field_column};
 
 use crate::both::Both;
 use crate::either::Either;
+use crate::marking::Marking;
 use crate::only::{Only, Sole};
+use saveload::{Marker, MarkerAllocator};
 use specs::{Duplicate, Field, Has, Storages};
 use std::marker::PhantomData;
 use storages::{Component, MaskedStorage, MaybeTracked};
@@ -40,6 +42,28 @@ impl<T: Component> Field<MaskedStorage<T>, Here> for Only<T> {
 
     fn set_field(&mut self, other: MaskedStorage<T>) {
         self.field = Some(other);
+    }
+}
+
+impl<M: Marker, A> Field<MaskedStorage<M>, Here> for Marking<M, A> {
+    ghost use Rattle.std.specs.Prelude.{Some, refl};
+
+    ghost part = { λ s. s.markers.field };
+
+    ghost with_part = { λ s w. record s { markers = record { field = Some w } } };
+
+    ghost puts = { λ s w. refl };
+
+    fn field(&self) -> Option<&MaskedStorage<M>> {
+        self.markers.field()
+    }
+
+    fn field_mut(&mut self) -> Option<&mut MaskedStorage<M>> {
+        self.markers.field_mut()
+    }
+
+    fn set_field(&mut self, other: MaskedStorage<M>) {
+        self.markers.set_field(other);
     }
 }
 
@@ -110,6 +134,38 @@ where
     }
 
     ghost sees = { λ s. sees_only (field_column s.field) };
+
+    ghost only = { λ s w. elim [ Sole ↦ inl refl ] };
+
+    ghost places = { λ t. refl };
+}
+
+impl<M: Marker + Duplicate, A: MarkerAllocator<M>> Has<M, Here> for Marking<M, A>
+where
+    M::Storage: MaybeTracked<M>,
+{
+    ghost use Rattle.composed.specs.declared.only.Sole.TheVariants.{Sole};
+    ghost use Rattle.composed.specs.Places.{sees_only};
+    ghost use Rattle.specs.specs.Field.{field_column};
+    ghost use Rattle.std.proofs.Common.{refl, inl};
+
+    ghost the_slot = { Sole };
+
+    ghost as_value = { λ t. t };
+
+    fn slot() -> Sole {
+        Sole::Sole
+    }
+
+    fn value(component: M) -> M {
+        component
+    }
+
+    fn component(value: M) -> Result<M, M> {
+        Ok(value)
+    }
+
+    ghost sees = { λ s. sees_only (field_column s.markers.field) };
 
     ghost only = { λ s w. elim [ Sole ↦ inl refl ] };
 

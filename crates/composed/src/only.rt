@@ -1,6 +1,8 @@
 //! A struct of storages for one component type.
 use hibits::BitSet;
-use specs::{ComponentEvent, Duplicate, EntitiesRes, Entity, ReaderId, Refusal, Storages, field};
+use specs::{
+    ComponentEvent, Duplicate, EntitiesRes, Entity, MarkError, ReaderId, Refusal, Storages, field,
+};
 use std::alloc::{AllocError, Global};
 use storages::{Component, MaskedStorage, MaybeTracked};
 
@@ -33,7 +35,7 @@ impl<T: Component + Duplicate> Storages for Only<T>
 where
     T::Storage: MaybeTracked<T>,
 {
-    ghost use Rattle.std.specs.Prelude.{refl};
+    ghost use Rattle.std.specs.Prelude.{refl, false};
     ghost use Rattle.composed.specs.Exact.{sole_is};
     ghost use Rattle.specs.specs.Field.{field_column, field_room};
     ghost use Rattle.composed.specs.declared.only.Sole.TheVariants.{Sole};
@@ -47,6 +49,8 @@ where
     ghost room = { λ s _. field_room s.field };
 
     ghost exact = { λ a b. (λ _. sole_is a b, λ _. refl) };
+
+    ghost marks = { λ _. false };
 
     ghost place = { λ _. Sole };
 
@@ -97,11 +101,24 @@ where
         field::clear(&mut self.field)
     }
 
+    fn mark(
+        &mut self,
+        _entities: &EntitiesRes,
+        _slot: Sole,
+        _e: Entity,
+    ) -> Result<Option<bool>, MarkError> {
+        if self.field.is_some() {
+            Err(MarkError::NoMarker)
+        } else {
+            Err(MarkError::Unregistered)
+        }
+    }
+
     fn register_reader(&mut self, _slot: Sole) -> Result<ReaderId, Refusal> {
         field::register_reader(&mut self.field)
     }
 
-    fn events(&mut self, _slot: Sole, reader: &ReaderId) -> Result<Vec<ComponentEvent>, Refusal> {
+    fn read(&mut self, _slot: Sole, reader: &ReaderId) -> Result<Vec<ComponentEvent>, Refusal> {
         field::events(&mut self.field, reader)
     }
 
@@ -109,7 +126,7 @@ where
         field::drop_reader(&mut self.field, reader)
     }
 
-    fn emit(&mut self, _slot: Sole, on: bool) -> Result<(), Refusal> {
+    fn set_event_emission(&mut self, _slot: Sole, on: bool) -> Result<(), Refusal> {
         field::emit(&mut self.field, on)
     }
 

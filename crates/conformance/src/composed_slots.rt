@@ -56,7 +56,7 @@ impl<S: Wards> Clinic<S> {
     fn new(alloc: Global) -> Self {
         Clinic {
             entities: EntitiesRes::new(alloc),
-            slots: S::empty(),
+            slots: S::empty(alloc),
         }
     }
 

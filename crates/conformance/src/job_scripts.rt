@@ -66,7 +66,7 @@ fn a_job_that_no_line_tells_is_not_read(rt: HostRuntime) {
     assert_runs(
         &rt,
         rt.alloc(),
-        "job create\njob label 0:1\n",
+        "job create\njob mark 0:1\n",
         2,
         "ok\n",
         "line 2: cannot read\n",

@@ -148,7 +148,7 @@ fn tell<R: Abort, P, T, S: Sample<P, T>>(rt: &R, alloc: Global, story: Story, wo
 
 /// Tells a story of a new world.
 fn tell_of_new<R: Abort, P, T, S: Sample<P, T> + Drop>(rt: &R, alloc: Global, story: Story) {
-    let mut world = World::new(alloc, S::empty());
+    let mut world = World::new(alloc, S::empty(alloc));
     tell(rt, alloc, story, &mut world);
 }
 

@@ -13,6 +13,8 @@ mod jobs;
 #[cfg(test)]
 mod runs;
 #[cfg(test)]
+mod saving_scripts;
+#[cfg(test)]
 mod scripts;
 #[cfg(test)]
 mod selections;

@@ -205,7 +205,7 @@ fn tell_of_new<R: Abort, P, H, S: Empty + Has<Position, P> + Has<Health, H> + Dr
     alloc: Global,
     story: Story,
 ) -> Result<(), Fail> {
-    let mut world = World::new(alloc, S::empty());
+    let mut world = World::new(alloc, S::empty(alloc));
     tell(rt, alloc, story, &mut world)
 }
 

@@ -102,7 +102,7 @@ fn bears_and_merges<R: Abort, S: Storages>(rt: &R, nursery: &mut Nursery<S>) {
 }
 
 fn merges<R: Abort, S: Empty + Drop>(rt: &R, alloc: Global) {
-    let mut nursery = Nursery::new(alloc, S::empty());
+    let mut nursery = Nursery::new(alloc, S::empty(alloc));
     bears_and_merges(rt, &mut nursery);
 }
 
@@ -220,7 +220,7 @@ fn are_stillborn<R: Abort, P, T, S: Sample<P, T> + Drop>(
     rt: &R,
     alloc: Global,
 ) -> Result<(), Fail> {
-    let mut world = World::new(alloc, S::empty());
+    let mut world = World::new(alloc, S::empty(alloc));
     bears_in_vain(rt, alloc, &mut world)
 }
 

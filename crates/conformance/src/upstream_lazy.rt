@@ -79,20 +79,49 @@ fn executes<P, T, S: Sample<P, T>>(world: &mut Busy<S>) -> Option<bool> {
     Some(queued && !before && ran(world) == Some(1) && world.entities().is_alive(next))
 }
 
+/// An entity that is built with a component, which comes with the next maintain.
+fn builds<P, T, S: Sample<P, T>>(world: &mut Busy<S>) -> Option<bool> {
+    begin(world)?;
+    let builder = world.parts().create_entity().ok()?;
+    let builder = builder.with(value::<_, S, _>(Position(1))).ok()?;
+    let e = builder.build();
+    let before = has(world, S::pos(), e);
+    let lives = world.entities().is_alive(e);
+    Some(lives && !before && ran(world) == Some(1) && has(world, S::pos(), e))
+}
+
+/// The entity of a builder that is not built.
+fn unbuilt<S: Storages>(world: &mut Busy<S>) -> Option<Entity> {
+    let builder = world.parts().create_entity().ok()?;
+    Some(builder.entity())
+}
+
+/// Such an entity dies with the next maintain.
+fn drops<P, T, S: Sample<P, T>>(world: &mut Busy<S>) -> Option<bool> {
+    begin(world)?;
+    let e = unbuilt(world)?;
+    let lived = world.entities().is_alive(e);
+    Some(lived && ran(world) == Some(0) && !world.entities().is_alive(e))
+}
+
 /// What is told of a world.
 #[derive(Clone, Copy)]
 enum Story {
     Inserts,
     Removes,
     Executes,
+    Builds,
+    Drops,
 }
 
 fn told_of<P, T, S: Sample<P, T> + Drop>(alloc: Global, story: Story) -> Option<bool> {
-    let mut world = World::new(alloc, S::empty());
+    let mut world = World::new(alloc, S::empty(alloc));
     match story {
         Story::Inserts => inserts(alloc, &mut world),
         Story::Removes => removes(&mut world),
         Story::Executes => executes(&mut world),
+        Story::Builds => builds(&mut world),
+        Story::Drops => drops(&mut world),
     }
 }
 
@@ -114,4 +143,14 @@ fn lazy_removal(rt: HostRuntime) {
 #[test]
 fn lazy_execution(rt: HostRuntime) {
     told(&rt, rt.alloc(), Story::Executes);
+}
+
+#[test]
+fn what_is_built_lazily_comes_with_the_next_maintain(rt: HostRuntime) {
+    told(&rt, rt.alloc(), Story::Builds);
+}
+
+#[test]
+fn a_lazy_builder_that_is_dropped_marks_its_entity(rt: HostRuntime) {
+    told(&rt, rt.alloc(), Story::Drops);
 }

@@ -278,7 +278,7 @@ fn tell_of_new<R: Abort, P, T, S: Sample<P, T> + Drop>(
     alloc: Global,
     story: Story,
 ) -> Result<(), Fail> {
-    let mut world = World::new(alloc, S::empty());
+    let mut world = World::new(alloc, S::empty(alloc));
     tell(rt, alloc, story, &mut world)
 }
 

@@ -4,58 +4,62 @@ use crate::cursor_walks::{
     sum_of_entries,
 };
 use crate::worlds::{
-    Chosen, Number, Place, Position, Velocity, World, comes_true, first_at, put_all,
+    Chosen, Number, Numbered, Place, Position, Velocity, World, comes_true, first_at, put_all,
 };
 use entities::Entity;
 use hibits::BitSetAll;
 use joins::{JoinIter, JoinLiving, JoinMut, Restrict, WriteJoin};
+use std::alloc::AllocError;
 use std::test::Fail;
 use storages::ComponentEvent::{Inserted, Modified, Removed};
 use storages::{
-    AntiStorage, Component, ComponentEvent, MaskedStorage, NotLent, ReaderId, WriteStorage,
+    AntiStorage, Component, ComponentEvent, MaskedStorage, NotLent, ReaderId, Tracked, WriteStorage,
 };
 
-// What a storage of positions has at the indices 0, 1 and 2.
-fn positions_of(
-    positions: &MaskedStorage<Position>,
-) -> (Option<Position>, Option<Position>, Option<Position>) {
+// The numbers of the indices 0 to 3.
+fn numbers_of<N: Numbered>(
+    numbers: &MaskedStorage<N>,
+) -> (Option<i32>, Option<i32>, Option<i32>, Option<i32>) {
     (
-        positions.get(0).copied(),
-        positions.get(1).copied(),
-        positions.get(2).copied(),
+        number_of(numbers, 0),
+        number_of(numbers, 1),
+        number_of(numbers, 2),
+        number_of(numbers, 3),
     )
 }
 
+// The number of an index.
+fn number_of<N: Numbered>(numbers: &MaskedStorage<N>, index: u32) -> Option<i32> {
+    match numbers.get(index) {
+        Some(found) => Some(found.number()),
+        None => None,
+    }
+}
+
 // Two positions of which one has a velocity go on.
-fn goes_on(world: &mut World<Position, Velocity>) -> Result<bool, Fail> {
-    let there = put_all(&mut world.first, [0, 1].as_slice(), Position { x: 0, y: 0 })
-        && put_all(&mut world.second, [0].as_slice(), Velocity { x: 5, y: 2 });
+fn goes_on<P: Numbered, V: Numbered, C: Component>(
+    world: &mut World<P, V, C>,
+) -> Result<bool, Fail> {
+    let there = put_all(&mut world.first, [0, 1].as_slice(), P::of(3))
+        && put_all(&mut world.second, [0].as_slice(), V::of(5));
     go_on(&mut world.first, &world.second);
-    Ok(
-        there
-            && positions_of(&world.first)
-                == (
-                    Some(Position { x: 5, y: 2 }),
-                    Some(Position { x: 0, y: 0 }),
-                    None,
-                ),
-    )
+    Ok(there && numbers_of(&world.first) == (Some(8), Some(3), None, None))
 }
 
 #[test]
 fn positions_go_on_where_there_is_a_velocity(rt: HostRuntime) -> Result<(), Fail> {
-    assert!(rt; comes_true(rt.alloc(), 2, goes_on)?);
+    assert!(rt; comes_true(rt.alloc(), 2, goes_on::<Position, Velocity, Chosen>)?);
     Ok(())
 }
 
 // Ten components, of which none stands beside its absence.
-fn is_never_absent<T: Component + Copy + Default + Drop>(
-    world: &mut World<T, Chosen>,
+fn is_never_absent<T: Numbered, B: Component, C: Component>(
+    world: &mut World<T, B, C>,
 ) -> Result<bool, Fail> {
     let there = put_all(
         &mut world.first,
         [0, 1, 2, 3, 4, 5, 6, 7, 8, 9].as_slice(),
-        T::default(),
+        T::of(0),
     );
     let storage = &world.first;
     Ok(there && counted(storage) == 10 && counted((storage, AntiStorage(storage.mask()))) == 0)
@@ -63,23 +67,25 @@ fn is_never_absent<T: Component + Copy + Default + Drop>(
 
 #[test]
 fn vec_test_anti(rt: HostRuntime) -> Result<(), Fail> {
-    assert!(rt; comes_true(rt.alloc(), 0, is_never_absent::<Position>)?);
+    assert!(rt; comes_true(rt.alloc(), 0, is_never_absent::<Position, Velocity, Chosen>)?);
     Ok(())
 }
 
 #[test]
 fn default_vec_test_anti(rt: HostRuntime) -> Result<(), Fail> {
-    assert!(rt; comes_true(rt.alloc(), 0, is_never_absent::<Place>)?);
+    assert!(rt; comes_true(rt.alloc(), 0, is_never_absent::<Place, Velocity, Chosen>)?);
     Ok(())
 }
 
 // Three positions.
-fn three_there(positions: &mut MaskedStorage<Position>) -> bool {
-    put_all(positions, [1, 2, 4].as_slice(), Position { x: 7, y: 7 })
+fn three_there<P: Numbered>(positions: &mut MaskedStorage<P>) -> bool {
+    put_all(positions, [1, 2, 4].as_slice(), P::of(7))
 }
 
 // Of three positions one is taken, once.
-fn one_is_taken(world: &mut World<Position, Velocity>) -> Result<bool, Fail> {
+fn one_is_taken<P: Numbered, V: Numbered, C: Component>(
+    world: &mut World<P, V, C>,
+) -> Result<bool, Fail> {
     let there = three_there(&mut world.first);
     let (list, once) = drained_at(world.alloc, &mut world.first, 2)?;
     Ok(
@@ -94,12 +100,14 @@ fn one_is_taken(world: &mut World<Position, Velocity>) -> Result<bool, Fail> {
 
 #[test]
 fn a_drain_takes_what_it_is_asked_for(rt: HostRuntime) -> Result<(), Fail> {
-    assert!(rt; comes_true(rt.alloc(), 0, one_is_taken)?);
+    assert!(rt; comes_true(rt.alloc(), 0, one_is_taken::<Position, Velocity, Chosen>)?);
     Ok(())
 }
 
 // Three positions are taken beside their entities.
-fn all_are_taken(world: &mut World<Position, Velocity>) -> Result<bool, Fail> {
+fn all_are_taken<P: Numbered, V: Numbered, C: Component>(
+    world: &mut World<P, V, C>,
+) -> Result<bool, Fail> {
     let there = three_there(&mut world.first);
     let list = drained(world.alloc, &mut world.first, &world.entities)?;
     Ok(there && are(&list, [(1, 1), (2, 1), (4, 1)].as_slice()) && counted(&world.first) == 0)
@@ -116,99 +124,90 @@ fn are(list: &[Entity], wanted: &[(u32, i32)]) -> bool {
 
 #[test]
 fn basic_drain(rt: HostRuntime) -> Result<(), Fail> {
-    assert!(rt; comes_true(rt.alloc(), 5, all_are_taken)?);
+    assert!(rt; comes_true(rt.alloc(), 5, all_are_taken::<Position, Velocity, Chosen>)?);
     Ok(())
 }
 
-// The numbers of the indices 0 to 3.
-fn numbers_of(
-    numbers: &MaskedStorage<Number>,
-) -> (
-    Option<Number>,
-    Option<Number>,
-    Option<Number>,
-    Option<Number>,
-) {
-    (
-        numbers.get(0).copied(),
-        numbers.get(1).copied(),
-        numbers.get(2).copied(),
-        numbers.get(3).copied(),
-    )
-}
-
 // Of four entities the last dies; all but the first are chosen, and the second has a number.
-fn chosen_are_there(world: &mut World<Number, Chosen>) -> Result<bool, Fail> {
+fn chosen_are_there<N: Numbered, B: Numbered, C: Component>(
+    world: &mut World<N, B, C>,
+) -> Result<bool, Fail> {
     let dead = first_at(3)?;
     Ok(
         world.entities.alloc_mut().kill(&[dead]).is_ok()
-            && put_all(&mut world.first, [1].as_slice(), Number(8))
-            && put_all(&mut world.second, [1, 2, 3].as_slice(), Chosen),
+            && put_all(&mut world.first, [1].as_slice(), N::of(8))
+            && put_all(&mut world.second, [1, 2, 3].as_slice(), B::of(0)),
     )
 }
 
 // The numbers of the chosen are counted up to 10, and from 0 again.
-fn chosen_are_counted(world: &mut World<Number, Chosen>) -> Result<bool, Fail> {
+fn chosen_are_counted<N: Numbered, B: Numbered, C: Component>(
+    world: &mut World<N, B, C>,
+) -> Result<bool, Fail> {
     let there = chosen_are_there(world)?;
     increase(&world.entities, &mut world.first, &world.second, 10)?;
-    let once = numbers_of(&world.first) == (None, Some(Number(9)), Some(Number(1)), None);
+    let once = numbers_of(&world.first) == (None, Some(9), Some(1), None);
     increase(&world.entities, &mut world.first, &world.second, 10)?;
-    let twice = numbers_of(&world.first) == (None, Some(Number(0)), Some(Number(2)), None);
+    let twice = numbers_of(&world.first) == (None, Some(0), Some(2), None);
     Ok(there && once && twice)
 }
 
 #[test]
 fn entries_are_those_of_the_living(rt: HostRuntime) -> Result<(), Fail> {
-    assert!(rt; comes_true(rt.alloc(), 4, chosen_are_counted)?);
+    assert!(rt; comes_true(rt.alloc(), 4, chosen_are_counted::<Number, Position, Chosen>)?);
     Ok(())
 }
 
 // The sum of the numbers of 30 entities, of which the first 15 have their indices, and the others get 2.
-fn numbers_are_summed(world: &mut World<Number, Chosen>) -> Result<bool, Fail> {
+fn numbers_are_summed<N: Numbered, B: Numbered, C: Component>(
+    world: &mut World<N, B, C>,
+) -> Result<bool, Fail> {
+    let mut number = 0;
     for index in 0..15u32 {
-        if world.first.put(index, Number(index)).is_err() {
+        if world.first.put(index, N::of(number)).is_err() {
             return Ok(false);
         }
+        number = number.wrapping_add(1);
     }
-    Ok(sum_of_entries(&world.entities, &mut world.first, Number(2))? == 135)
+    Ok(sum_of_entries(&world.entities, &mut world.first, N::of(2))? == 135)
 }
 
 #[test]
 fn entries(rt: HostRuntime) -> Result<(), Fail> {
-    assert!(rt; comes_true(rt.alloc(), 30, numbers_are_summed)?);
+    assert!(rt; comes_true(rt.alloc(), 30, numbers_are_summed::<Number, Position, Chosen>)?);
     Ok(())
 }
 
 // Three positions are shown, and lent the same.
-fn are_shown_and_lent(world: &mut World<Position, Velocity>) -> Result<bool, Fail> {
-    let there = put_all(
-        &mut world.first,
-        [0, 3].as_slice(),
-        Position { x: 10, y: 0 },
-    ) && put_all(&mut world.first, [2].as_slice(), Position { x: 12, y: 0 });
+fn are_shown_and_lent<P: Numbered, V: Numbered, C: Component>(
+    world: &mut World<P, V, C>,
+) -> Result<bool, Fail> {
+    let there = put_all(&mut world.first, [0, 3].as_slice(), P::of(10))
+        && put_all(&mut world.first, [2].as_slice(), P::of(12));
     let list = shown_and_lent(world.alloc, &world.entities, &mut world.first)?.ok_or("another")?;
     Ok(there && list.as_slice() == [10, 12, 10].as_slice())
 }
 
 #[test]
 fn restricted_storage(rt: HostRuntime) -> Result<(), Fail> {
-    assert!(rt; comes_true(rt.alloc(), 4, are_shown_and_lent)?);
+    assert!(rt; comes_true(rt.alloc(), 4, are_shown_and_lent::<Position, Velocity, Chosen>)?);
     Ok(())
 }
 
 // What is shown of the entity of an index beside two positions.
-fn shown_beside(world: &World<Position, Velocity>, index: u32) -> Result<Vec<(i32, i32)>, Fail> {
+fn shown_beside<P: Numbered, V: Numbered, C: Component>(
+    world: &World<P, V, C>,
+    index: u32,
+) -> Result<Vec<(i32, i32)>, Fail> {
     let one = first_at(index)?;
     Ok(beside_one(world.alloc, &world.entities, &world.first, one)?)
 }
 
 // Another is shown where it has a position.
-fn others_are_shown(world: &mut World<Position, Velocity>) -> Result<bool, Fail> {
-    let there = put_all(
-        &mut world.first,
-        [0, 3].as_slice(),
-        Position { x: 10, y: 0 },
-    );
+fn others_are_shown<P: Numbered, V: Numbered, C: Component>(
+    world: &mut World<P, V, C>,
+) -> Result<bool, Fail> {
+    let there = put_all(&mut world.first, [0, 3].as_slice(), P::of(10));
     let some = shown_beside(world, 3)?;
     let none = shown_beside(world, 1)?;
     Ok(
@@ -220,43 +219,35 @@ fn others_are_shown(world: &mut World<Position, Velocity>) -> Result<bool, Fail>
 
 #[test]
 fn a_restricted_storage_shows_others(rt: HostRuntime) -> Result<(), Fail> {
-    assert!(rt; comes_true(rt.alloc(), 4, others_are_shown)?);
+    assert!(rt; comes_true(rt.alloc(), 4, others_are_shown::<Position, Velocity, Chosen>)?);
     Ok(())
 }
 
 // Of three positions and two velocities those of the third are exchanged.
-fn are_exchanged(world: &mut World<Position, Velocity>) -> Result<bool, Fail> {
-    let there = put_all(
-        &mut world.first,
-        [0, 1, 2].as_slice(),
-        Position { x: 1, y: 2 },
-    ) && put_all(
-        &mut world.second,
-        [0, 2].as_slice(),
-        Velocity { x: 3, y: 4 },
-    ) && put_all(&mut world.chosen, [1, 2].as_slice(), Chosen);
+fn are_exchanged<P: Numbered, V: Numbered, C: Numbered>(
+    world: &mut World<P, V, C>,
+) -> Result<bool, Fail> {
+    let there = put_all(&mut world.first, [0, 1, 2].as_slice(), P::of(1))
+        && put_all(&mut world.second, [0, 2].as_slice(), V::of(3))
+        && put_all(&mut world.chosen, [1, 2].as_slice(), C::of(0));
     exchange(&mut world.first, &mut world.second, &world.chosen);
     Ok(
         there
-            && positions_of(&world.first)
-                == (
-                    Some(Position { x: 1, y: 2 }),
-                    Some(Position { x: 1, y: 2 }),
-                    Some(Position { x: 3, y: 4 }),
-                )
-            && world.second.get(0).copied() == Some(Velocity { x: 3, y: 4 })
-            && world.second.get(2).copied() == Some(Velocity { x: 1, y: 2 }),
+            && numbers_of(&world.first) == (Some(1), Some(1), Some(3), None)
+            && numbers_of(&world.second) == (Some(3), None, Some(1), None),
     )
 }
 
 #[test]
 fn two_storages_are_exchanged(rt: HostRuntime) -> Result<(), Fail> {
-    assert!(rt; comes_true(rt.alloc(), 3, are_exchanged)?);
+    assert!(rt; comes_true(rt.alloc(), 3, are_exchanged::<Position, Velocity, Place>)?);
     Ok(())
 }
 
 // A cursor before its first index, at it, and past its last.
-fn stands_nowhere(cursor: &mut WriteJoin<'_, Position, &MaskedStorage<Velocity>>) -> bool {
+fn stands_nowhere<P: Numbered, V: Numbered>(
+    cursor: &mut WriteJoin<'_, P, &MaskedStorage<V>>,
+) -> bool {
     matches!(cursor.item(), Err(NotLent::Absent))
         && cursor.beside().is_none()
         && cursor.next() == Some(1)
@@ -271,26 +262,27 @@ fn stands_nowhere(cursor: &mut WriteJoin<'_, Position, &MaskedStorage<Velocity>>
 }
 
 // A cursor over two, of which both have the second alone.
-fn lends_only_where_it_stands(world: &mut World<Position, Velocity>) -> Result<bool, Fail> {
+fn lends_only_where_it_stands<P: Numbered, V: Numbered, C: Component>(
+    world: &mut World<P, V, C>,
+) -> Result<bool, Fail> {
     Ok(
-        put_all(&mut world.first, [0, 1].as_slice(), Position { x: 1, y: 2 })
-            && put_all(
-                &mut world.second,
-                [1, 2].as_slice(),
-                Velocity { x: 3, y: 4 },
-            )
+        put_all(&mut world.first, [0, 1].as_slice(), P::of(1))
+            && put_all(&mut world.second, [1, 2].as_slice(), V::of(3))
             && stands_nowhere(&mut world.first.join_mut(&world.second)),
     )
 }
 
 #[test]
 fn a_cursor_lends_nothing_where_it_does_not_stand(rt: HostRuntime) -> Result<(), Fail> {
-    assert!(rt; comes_true(rt.alloc(), 3, lends_only_where_it_stands)?);
+    assert!(rt; comes_true(rt.alloc(), 3, lends_only_where_it_stands::<Position, Velocity, Chosen>)?);
     Ok(())
 }
 
 // Whether the first reader reads just these events.
-fn reads(numbers: &mut MaskedStorage<Number>, wanted: &[ComponentEvent]) -> bool {
+fn reads<N: Numbered>(numbers: &mut MaskedStorage<N>, wanted: &[ComponentEvent]) -> bool
+where
+    N::Storage: Tracked<N>,
+{
     match numbers.read(&ReaderId::of(0)) {
         Ok(events) => events.as_slice() == wanted,
         Err(_) => false,
@@ -298,42 +290,59 @@ fn reads(numbers: &mut MaskedStorage<Number>, wanted: &[ComponentEvent]) -> bool
 }
 
 // The numbers 1, 6 and 2 at the indices 0 to 2.
-fn three_numbers(numbers: &mut MaskedStorage<Number>) -> bool {
-    put_all(numbers, [0].as_slice(), Number(1))
-        && put_all(numbers, [1].as_slice(), Number(6))
-        && put_all(numbers, [2].as_slice(), Number(2))
+fn three_numbers<N: Numbered>(numbers: &mut MaskedStorage<N>) -> bool {
+    put_all(numbers, [0].as_slice(), N::of(1))
+        && put_all(numbers, [1].as_slice(), N::of(6))
+        && put_all(numbers, [2].as_slice(), N::of(2))
 }
 
 // The low ones of three numbers are raised, and told.
-fn low_ones_are_told(world: &mut World<Number, Chosen>) -> Result<bool, Fail> {
+fn low_ones_are_told<N: Numbered, B: Numbered, C: Component>(
+    world: &mut World<N, B, C>,
+) -> Result<bool, Fail>
+where
+    N::Storage: Tracked<N>,
+{
     let there = three_numbers(&mut world.first) && world.first.register_reader().is_ok();
     raise_low(&world.entities, &mut world.first, 5);
     Ok(
         there
             && reads(&mut world.first, [Modified(0), Modified(2)].as_slice())
-            && numbers_of(&world.first)
-                == (Some(Number(2)), Some(Number(6)), Some(Number(3)), None),
+            && numbers_of(&world.first) == (Some(2), Some(6), Some(3), None),
     )
 }
 
 #[test]
 fn a_restricted_storage_tells_what_was_written(rt: HostRuntime) -> Result<(), Fail> {
-    assert!(rt; comes_true(rt.alloc(), 4, low_ones_are_told)?);
+    assert!(rt; comes_true(rt.alloc(), 4, low_ones_are_told::<Number, Position, Chosen>)?);
     Ok(())
 }
 
+// The number that a drain gives.
+fn taken<N: Numbered>(item: Result<Option<N>, AllocError>) -> Option<i32> {
+    match item {
+        Ok(Some(found)) => Some(found.number()),
+        _ => None,
+    }
+}
+
 // Of two numbers the second is taken out.
-fn second_is_taken(numbers: &mut MaskedStorage<Number>) -> bool {
+fn second_is_taken<N: Numbered>(numbers: &mut MaskedStorage<N>) -> bool {
     let mut cursor = numbers.drain();
     cursor.next() == Some(0)
         && cursor.next() == Some(1)
-        && matches!(cursor.item(), Ok(Some(Number(7))))
+        && taken(cursor.item()) == Some(7)
 }
 
 // An entry, a write and a removal by cursors.
-fn all_are_told(world: &mut World<Number, Chosen>) -> Result<bool, Fail> {
-    let there = put_all(&mut world.first, [1].as_slice(), Number(6))
-        && put_all(&mut world.second, [0, 1].as_slice(), Chosen)
+fn all_are_told<N: Numbered, B: Numbered, C: Component>(
+    world: &mut World<N, B, C>,
+) -> Result<bool, Fail>
+where
+    N::Storage: Tracked<N>,
+{
+    let there = put_all(&mut world.first, [1].as_slice(), N::of(6))
+        && put_all(&mut world.second, [0, 1].as_slice(), B::of(0))
         && world.first.register_reader().is_ok();
     increase(&world.entities, &mut world.first, &world.second, 10)?;
     Ok(
@@ -349,30 +358,30 @@ fn all_are_told(world: &mut World<Number, Chosen>) -> Result<bool, Fail> {
 
 #[test]
 fn cursors_tell_their_events(rt: HostRuntime) -> Result<(), Fail> {
-    assert!(rt; comes_true(rt.alloc(), 4, all_are_told)?);
+    assert!(rt; comes_true(rt.alloc(), 4, all_are_told::<Number, Position, Chosen>)?);
     Ok(())
 }
 
 // Through a view: a position is lent, and another taken out.
-fn through_a_view(
-    view: &mut WriteStorage<'_, Position>,
-    velocities: &MaskedStorage<Velocity>,
+fn through_a_view<P: Numbered, V: Numbered>(
+    view: &mut WriteStorage<'_, P>,
+    velocities: &MaskedStorage<V>,
 ) -> bool {
     let mut cursor = view.join_mut(velocities);
     let found = cursor.next();
     match cursor.item() {
-        Ok(position) => *position = Position { x: 9, y: 9 },
+        Ok(position) => *position = P::of(9),
         Err(_) => return false,
     }
     let mut cursor = view.drain();
     let other = cursor.next();
-    matches!(cursor.item(), Ok(Some(Position { x: 1, y: 1 })))
+    taken(cursor.item()) == Some(1)
         && found == Some(1)
         && other == Some(0)
 }
 
 // Through a view: the places of the living, and a look at another's position.
-fn places_of_a_view(view: &mut WriteStorage<'_, Position>, one: Entity) -> bool {
+fn places_of_a_view<P: Numbered>(view: &mut WriteStorage<'_, P>, one: Entity) -> bool {
     let mut cursor = view.entries();
     if cursor.next() != Some(0) || cursor.item().is_err() {
         return false;
@@ -385,22 +394,32 @@ fn places_of_a_view(view: &mut WriteStorage<'_, Position>, one: Entity) -> bool 
     there && lent && iter.next().is_some()
 }
 
+// The number of an entity.
+fn number_at<P: Numbered>(view: &WriteStorage<'_, P>, one: Entity) -> Option<i32> {
+    match view.get(one) {
+        Some(found) => Some(found.number()),
+        None => None,
+    }
+}
+
 // The cursors of a view of two positions, of which the second has a velocity.
-fn by_a_view(world: &mut World<Position, Velocity>) -> Result<bool, Fail> {
+fn by_a_view<P: Numbered, V: Numbered, C: Component>(
+    world: &mut World<P, V, C>,
+) -> Result<bool, Fail> {
     let one = first_at(1)?;
-    let there = put_all(&mut world.first, [0, 1].as_slice(), Position { x: 1, y: 1 })
-        && put_all(&mut world.second, [1].as_slice(), Velocity { x: 3, y: 4 });
+    let there = put_all(&mut world.first, [0, 1].as_slice(), P::of(1))
+        && put_all(&mut world.second, [1].as_slice(), V::of(3));
     let mut view = WriteStorage::new(&world.entities, &mut world.first);
     Ok(
         there
             && through_a_view(&mut view, &world.second)
             && places_of_a_view(&mut view, one)
-            && view.get(one).copied() == Some(Position { x: 9, y: 9 }),
+            && number_at(&view, one) == Some(9),
     )
 }
 
 #[test]
 fn cursors_of_views(rt: HostRuntime) -> Result<(), Fail> {
-    assert!(rt; comes_true(rt.alloc(), 2, by_a_view)?);
+    assert!(rt; comes_true(rt.alloc(), 2, by_a_view::<Position, Velocity, Chosen>)?);
     Ok(())
 }

@@ -2,7 +2,7 @@
 ghost use Rattle.std.specs.Prelude.{◌≡◌};
 ghost use Rattle.joins.specs.CursorOfTwo.{first_name, second_name, rest};
 
-use crate::worlds::{Chosen, Health, Number, Position, Velocity};
+use crate::worlds::Numbered;
 use entities::{EntitiesRes, Entity};
 use hibits::BitSetAll;
 use joins::{
@@ -10,69 +10,68 @@ use joins::{
     WriteJoin2, maybe,
 };
 use std::alloc::{AllocError, Global};
-use storages::MaskedStorage;
+use storages::{Component, MaskedStorage};
 
 /// Adds its velocity to each position, where there is one.
-pub fn go_on(positions: &mut MaskedStorage<Position>, velocities: &MaskedStorage<Velocity>) {
+pub fn go_on<P: Numbered, V: Numbered>(positions: &mut MaskedStorage<P>, velocities: &MaskedStorage<V>) {
     let mut cursor = positions.join_mut(maybe(velocities));
     while let Some(_id) = cursor.next() {
         if let Some(Some(velocity)) = cursor.beside() {
             if let Ok(position) = cursor.item() {
-                position.x = position.x.wrapping_add(velocity.x);
-                position.y = position.y.wrapping_add(velocity.y);
+                position.add(velocity.number());
             }
         }
     }
 }
 
 /// Takes its change from each health that has one.
-pub fn subtract(healths: &mut MaskedStorage<Health>, changes: &ChangeSet<i32>) {
+pub fn subtract<H: Numbered>(healths: &mut MaskedStorage<H>, changes: &ChangeSet<i32>) {
     let mut cursor = healths.join_mut(changes);
     while let Some(_id) = cursor.next() {
         if let Some(change) = cursor.beside() {
             if let Ok(health) = cursor.item() {
-                health.0 = health.0.wrapping_sub(*change);
+                health.add(change.wrapping_neg());
             }
         }
     }
 }
 
 /// The same of a change set that is given up.
-pub fn subtract_all(healths: &mut MaskedStorage<Health>, changes: ChangeSet<i32>) {
+pub fn subtract_all<H: Numbered>(healths: &mut MaskedStorage<H>, changes: ChangeSet<i32>) {
     let mut cursor = healths.join_mut(changes);
     while let Some(_id) = cursor.next() {
         if let Some(change) = cursor.beside() {
             if let Ok(health) = cursor.item() {
-                health.0 = health.0.wrapping_sub(change);
+                health.add(change.wrapping_neg());
             }
         }
     }
 }
 
 /// Each change becomes no more than the health beside it.
-pub fn no_more_than(changes: &mut ChangeSet<i32>, healths: &MaskedStorage<Health>) {
+pub fn no_more_than<H: Numbered>(changes: &mut ChangeSet<i32>, healths: &MaskedStorage<H>) {
     let mut cursor = changes.join_mut(healths);
     while let Some(_id) = cursor.next() {
         if let Some(health) = cursor.beside() {
             if let Some(change) = cursor.item() {
-                *change = (*change).min(health.0);
+                *change = (*change).min(health.number());
             }
         }
     }
 }
 
 /// The sum of the numbers of the living, each of which gets one where it has none.
-pub fn sum_of_entries(
+pub fn sum_of_entries<N: Numbered>(
     entities: &EntitiesRes,
-    numbers: &mut MaskedStorage<Number>,
-    new: Number,
-) -> Result<u32, AllocError> {
-    let mut sum: u32 = 0;
+    numbers: &mut MaskedStorage<N>,
+    new: N,
+) -> Result<i32, AllocError> {
+    let mut sum: i32 = 0;
     let mut cursor = EntryJoin::over(entities, numbers);
     while let Some(id) = cursor.next() {
         if let Ok(masked) = cursor.item() {
             match masked.entry(id).or_insert(new) {
-                Ok(number) => sum = sum.wrapping_add(number.0),
+                Ok(number) => sum = sum.wrapping_add(number.number()),
                 Err((e, _)) => return Err(e),
             }
         }
@@ -81,9 +80,9 @@ pub fn sum_of_entries(
 }
 
 /// The indices of a drain, of which it takes the component of one out, twice. Answers whether the second time there was none.
-pub fn drained_at(
+pub fn drained_at<P: Component + Drop>(
     alloc: Global,
-    positions: &mut MaskedStorage<Position>,
+    positions: &mut MaskedStorage<P>,
     at: u32,
 ) -> Result<(Vec<u32>, bool), AllocError> {
     let mut list = Vec::new(alloc);
@@ -101,9 +100,9 @@ pub fn drained_at(
 }
 
 /// The entities of which a component was taken out.
-pub fn drained(
+pub fn drained<P: Component + Drop>(
     alloc: Global,
-    positions: &mut MaskedStorage<Position>,
+    positions: &mut MaskedStorage<P>,
     entities: &EntitiesRes,
 ) -> Result<Vec<Entity>, AllocError> {
     let mut list = Vec::new(alloc);
@@ -132,19 +131,19 @@ where
 }
 
 /// Increases the number of each chosen entity that lives, from 0 where it has none, and resets it at a limit.
-pub fn increase(
+pub fn increase<N: Numbered, C: Component>(
     entities: &EntitiesRes,
-    numbers: &mut MaskedStorage<Number>,
-    chosen: &MaskedStorage<Chosen>,
-    limit: u32,
+    numbers: &mut MaskedStorage<N>,
+    chosen: &MaskedStorage<C>,
+    limit: i32,
 ) -> Result<(), AllocError> {
     let mut cursor = EntryJoin::new(entities, numbers, chosen);
     while let Some(id) = cursor.next() {
         if let Ok(masked) = cursor.item() {
-            match masked.entry(id).or_insert(Number(0)) {
+            match masked.entry(id).or_insert(N::of(0)) {
                 Ok(number) => {
-                    let next = number.0.wrapping_add(1);
-                    *number = Number(if next >= limit { 0 } else { next });
+                    let next = number.number().wrapping_add(1);
+                    *number = N::of(if next >= limit { 0 } else { next });
                 }
                 Err((e, _)) => return Err(e),
             }
@@ -154,38 +153,41 @@ pub fn increase(
 }
 
 /// Increases the numbers that are below a limit, and only looks at the others.
-pub fn raise_low(entities: &EntitiesRes, numbers: &mut MaskedStorage<Number>, limit: u32) {
+pub fn raise_low<N: Numbered>(entities: &EntitiesRes, numbers: &mut MaskedStorage<N>, limit: i32) {
     let mut cursor = RestrictedStorageMut::over(entities, numbers);
     while let Some(_id) = cursor.next() {
         if is_low(&cursor, limit) {
             if let Ok(number) = cursor.get_mut_unchecked() {
-                number.0 = number.0.wrapping_add(1);
+                number.add(1);
             }
         }
     }
 }
 
 // Whether the number at a cursor is below a limit.
-fn is_low(cursor: &RestrictedStorageMut<'_, '_, Number, BitSetAll>, limit: u32) -> bool {
+fn is_low<N: Numbered>(cursor: &RestrictedStorageMut<'_, '_, N, BitSetAll>, limit: i32) -> bool {
     match cursor.get_unchecked() {
-        Some(number) => number.0 < limit,
+        Some(number) => number.number() < limit,
         None => false,
     }
 }
 
 /// The numbers as they are shown, of which each is lent the same; and `None` where one is not.
-pub fn shown_and_lent(
+pub fn shown_and_lent<P: Numbered>(
     alloc: Global,
     entities: &EntitiesRes,
-    positions: &mut MaskedStorage<Position>,
+    positions: &mut MaskedStorage<P>,
 ) -> Result<Option<Vec<i32>>, AllocError> {
     let mut list = Vec::new(alloc);
     let mut cursor = RestrictedStorageMut::over(entities, positions);
     while let Some(_id) = cursor.next() {
         let shown = shown(&cursor);
-        let lent = cursor.get_mut_unchecked().ok().copied();
+        let lent = match cursor.get_mut_unchecked() {
+            Ok(position) => Some(position.number()),
+            Err(_) => None,
+        };
         match lent {
-            Some(position) if shown == lent => list.push(position.x)?,
+            Some(number) if shown == lent => list.push(number)?,
             _ => return Ok(None),
         }
     }
@@ -193,15 +195,18 @@ pub fn shown_and_lent(
 }
 
 // The position at a cursor.
-fn shown(cursor: &RestrictedStorageMut<'_, '_, Position, BitSetAll>) -> Option<Position> {
-    cursor.get_unchecked().copied()
+fn shown<P: Numbered>(cursor: &RestrictedStorageMut<'_, '_, P, BitSetAll>) -> Option<i32> {
+    match cursor.get_unchecked() {
+        Some(position) => Some(position.number()),
+        None => None,
+    }
 }
 
 /// Each position beside that of one entity, to read.
-pub fn beside_one(
+pub fn beside_one<P: Numbered>(
     alloc: Global,
     entities: &EntitiesRes,
-    positions: &MaskedStorage<Position>,
+    positions: &MaskedStorage<P>,
     one: Entity,
 ) -> Result<Vec<(i32, i32)>, AllocError> {
     let mut list = Vec::new(alloc);
@@ -209,19 +214,19 @@ pub fn beside_one(
     let mut iter = JoinIter::new(&restricted);
     while let Some(paired) = iter.next() {
         let other = match paired.get(one) {
-            Some(position) => position.x,
+            Some(position) => position.number(),
             None => -1,
         };
-        list.push((paired.get_unchecked().x, other))?;
+        list.push((paired.get_unchecked().number(), other))?;
     }
     Ok(list)
 }
 
 /// Exchanges positions and velocities where an entity is chosen.
-pub fn exchange(
-    positions: &mut MaskedStorage<Position>,
-    velocities: &mut MaskedStorage<Velocity>,
-    chosen: &MaskedStorage<Chosen>,
+pub fn exchange<P: Numbered, V: Numbered, C: Component>(
+    positions: &mut MaskedStorage<P>,
+    velocities: &mut MaskedStorage<V>,
+    chosen: &MaskedStorage<C>,
 ) {
     let mut cursor = WriteJoin2::new(positions, velocities, chosen);
     while let Some(_id) = cursor.next() {
@@ -230,24 +235,26 @@ pub fn exchange(
 }
 
 // Exchanges what stands at a cursor.
-fn exchange_here(cursor: &mut WriteJoin2<'_, '_, Position, Velocity, &MaskedStorage<Chosen>>)
+fn exchange_here<P: Numbered, V: Numbered, C: Component>(
+    cursor: &mut WriteJoin2<'_, '_, P, V, &MaskedStorage<C>>,
+)
     ensures first_reference { first_name cursor.new ≡ first_name cursor.old }
     ensures second_reference { second_name cursor.new ≡ second_name cursor.old }
     ensures rest { rest cursor.new ≡ rest cursor.old }
 {
     let old = match cursor.first() {
-        Ok(position) => *position,
+        Ok(position) => position.number(),
         Err(_) => return,
     };
     let new = match cursor.second() {
         Ok(velocity) => {
-            let before = *velocity;
-            *velocity = Velocity { x: old.x, y: old.y };
+            let before = velocity.number();
+            *velocity = V::of(old);
             before
         }
         Err(_) => return,
     };
     if let Ok(position) = cursor.first() {
-        *position = Position { x: new.x, y: new.y };
+        *position = P::of(new);
     }
 }

@@ -7,63 +7,116 @@ use storages::{
     NullStorage, TryDefault, VecStorage,
 };
 
-/// Where an entity is, or how fast it goes.
-#[derive(Clone, Copy, PartialEq, Eq, Default)]
-pub struct Position {
-    /// To the right.
-    pub x: i32,
-    /// Up.
-    pub y: i32,
+/// A component that is a number.
+pub trait Numbered: Component + Copy + Drop {
+    /// The component of a number.
+    fn of(number: i32) -> Self;
+
+    /// The number.
+    fn number(self) -> i32;
+
+    /// Adds, past the greatest number from the least on.
+    fn add(&mut self, number: i32);
 }
+
+/// Where an entity is.
+#[derive(Clone, Copy, Default)]
+pub struct Position(
+    /// The number.
+    pub i32,
+);
 
 impl Component for Position {
     type Storage = VecStorage<Self>;
 }
 
-/// How fast an entity goes.
-#[derive(Clone, Copy, PartialEq, Eq, Default)]
-pub struct Velocity {
-    /// To the right.
-    pub x: i32,
-    /// Up.
-    pub y: i32,
+impl Numbered for Position {
+    fn of(number: i32) -> Self {
+        Position(number)
+    }
+
+    fn number(self) -> i32 {
+        self.0
+    }
+
+    fn add(&mut self, number: i32) {
+        self.0 = self.0.wrapping_add(number);
+    }
 }
+
+/// How fast an entity goes.
+#[derive(Clone, Copy, Default)]
+pub struct Velocity(
+    /// The number.
+    pub i32,
+);
 
 impl Component for Velocity {
     type Storage = DenseVecStorage<Self>;
 }
 
+impl Numbered for Velocity {
+    fn of(number: i32) -> Self {
+        Velocity(number)
+    }
+
+    fn number(self) -> i32 {
+        self.0
+    }
+
+    fn add(&mut self, number: i32) {
+        self.0 = self.0.wrapping_add(number);
+    }
+}
+
 /// A number whose changes are told.
-#[derive(Clone, Copy, PartialEq, Eq, Default)]
+#[derive(Clone, Copy, Default)]
 pub struct Number(
     /// The number.
-    pub u32,
+    pub i32,
 );
 
 impl Component for Number {
     type Storage = FlaggedStorage<Self, VecStorage<Self>>;
 }
 
-/// What an entity has left.
-#[derive(Clone, Copy, PartialEq, Eq, Default)]
-pub struct Health(
-    /// The points.
-    pub i32,
-);
+impl Numbered for Number {
+    fn of(number: i32) -> Self {
+        Number(number)
+    }
 
-impl Component for Health {
-    type Storage = DenseVecStorage<Self>;
+    fn number(self) -> i32 {
+        self.0
+    }
+
+    fn add(&mut self, number: i32) {
+        self.0 = self.0.wrapping_add(number);
+    }
 }
 
 /// A place in a row.
-#[derive(Clone, Copy, PartialEq, Eq, Default)]
+#[derive(Clone, Copy, Default)]
 pub struct Place(
-    /// The place.
-    pub u32,
+    /// The number.
+    pub i32,
 );
 
 impl Component for Place {
     type Storage = DefaultVecStorage<Self>;
+}
+
+impl Numbered for Place {
+    fn of(number: i32) -> Self {
+        Place(number)
+    }
+
+    fn number(self) -> i32 {
+        self.0
+    }
+
+    fn add(&mut self, number: i32) {
+        self.0 = self.0.wrapping_add(number);
+    }
 }
 
 /// What a chosen entity has.
@@ -87,7 +140,7 @@ fn empty<T: Component>(alloc: Global) -> Result<MaskedStorage<T>, Fail> {
 
 /// Entities, and storages of two components.
 #[derive(Drop)]
-pub struct World<A: Component, B: Component> {
+pub struct World<A: Component, B: Component, C: Component> {
     /// Where lists get their memory.
     pub alloc: Global,
     /// The entities.
@@ -97,7 +150,7 @@ pub struct World<A: Component, B: Component> {
     /// Another.
     pub second: MaskedStorage<B>,
     /// Those that are chosen.
-    pub chosen: MaskedStorage<Chosen>,
+    pub chosen: MaskedStorage<C>,
 }
 
 /// A world that a story can be told of.
@@ -106,7 +159,7 @@ pub trait Told: Sized {
     fn with_entities(alloc: Global, count: u32) -> Result<Self, Fail>;
 }
 
-impl<A: Component, B: Component> Told for World<A, B> {
+impl<A: Component, B: Component, C: Component> Told for World<A, B, C> {
     fn with_entities(alloc: Global, count: u32) -> Result<Self, Fail> {
         let mut entities = EntitiesRes::new(alloc);
         for _ in 0..count {

@@ -10,3 +10,4 @@ pub mod Loaded
 pub mod Renaming
 pub mod JsonLists
 pub mod JsonTexts
+pub mod Remapped

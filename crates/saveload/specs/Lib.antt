@@ -7,11 +7,13 @@ pub mod Plain
 pub mod Places
 pub mod Tuples
 pub mod Saved
+pub mod Remapping
 pub mod Closing
 pub mod Loads
 pub mod Law
 pub mod Json
 pub mod JsonNumbers
+pub mod Wrapped
 pub mod JsonTuples
 pub mod Uuids
 pub mod JsonUuids

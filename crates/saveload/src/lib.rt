@@ -17,6 +17,7 @@ mod mark_error;
 mod marker;
 mod marking;
 mod places;
+mod remapping;
 mod save;
 mod serialize_tuples;
 mod simple;

@@ -8,12 +8,13 @@ ghost use Rattle.storages.specs.Limit.{IsIndex};
 ghost use Rattle.storages.specs.Slot.{IsSame};
 ghost use Rattle.storages.specs.WriteView.{slot, entities_of, found, storage_name};
 ghost use Rattle.saveload.specs.Naming.{naming, ids_in, Names, NamesNone, put_id, put_at};
+ghost use Rattle.saveload.specs.Remapping.{living_ids};
 ghost use Rattle.saveload.specs.Marking.{MarksNew, IsOfIds, MayHaveGiven};
 
 use crate::mark_error::MarkError;
 use entities::{CreateError, EntitiesRes, Entity};
 use hibits::Index;
-use std::alloc::AllocError;
+use std::alloc::{AllocError, Global};
 use storages::{Component, MaskedStorage, WriteStorage};
 
 /// A component that names its entity by an id. Two markers of one id may differ in what else they hold.
@@ -99,6 +100,17 @@ pub trait MarkerAllocator<M: Marker> {
         }
         Ok(made)
     }
+
+    /// Forgets each id but those of the entities that live and have a marker: of two markers with one id that of the higher index is kept. A
+    /// refused call forgets none.
+    fn maintain(
+        &mut self,
+        alloc: Global,
+        entities: &EntitiesRes,
+        storage: &MaskedStorage<M>,
+    ) -> Result<(), AllocError>
+        ensures ok { OnOk result (mapping self.new ≡ living_ids M.id_of M.Identifier.eq (population entities.now) storage.now) }
+        ensures err { OnErr result (mapping self.new ≡ mapping self.old) };
 
     /// Gives an entity that is alive a marker of a new id, if it has none. The answer is whether it is new, and none for an
     /// entity that isn't alive; the marker is then found in the storage.

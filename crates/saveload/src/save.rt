@@ -56,7 +56,7 @@ pub fn serialize_recursive<M: Marker + Copy, A: MarkerAllocator<M>, P: Serialize
 }
 
 // The entities that are alive and have a marker, ascending.
-fn marked<M: Marker>(
+pub(crate) fn marked<M: Marker>(
     alloc: Global,
     entities: &EntitiesRes,
     markers: &MaskedStorage<M>,

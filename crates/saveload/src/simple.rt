@@ -6,15 +6,18 @@ ghost use Rattle.storages.specs.Slot.{IsSame};
 ghost use Rattle.storages.specs.WriteView.{slot, entities_of, found, storage_name};
 ghost use Rattle.saveload.specs.Naming.{put_id};
 ghost use Rattle.saveload.specs.Marking.{MarksNew, MayHaveGiven, IsOfIds};
+ghost use Rattle.saveload.specs.Remapping.{living_ids};
 ghost use Rattle.saveload.specs.Numbers.{same_numbers};
 
 use crate::mark_error::MarkError;
 use crate::marker::{Marker, MarkerAllocator};
-use entities::Entity;
+use crate::remapping::remapped;
+use entities::{EntitiesRes, Entity};
 use std::alloc::{AllocError, Global};
 use std::collections::HashMap;
+use std::fmt;
 use std::marker::PhantomData;
-use storages::{Component, DenseVecStorage, WriteStorage};
+use storages::{Component, DenseVecStorage, MaskedStorage, WriteStorage};
 
 /// A marker that is a number, of a kind `T`. Ports `specs::saveload::SimpleMarker`.
 pub struct SimpleMarker<T> {
@@ -48,6 +51,12 @@ impl<T> Clone for SimpleMarker<T> {
 }
 
 impl<T> Copy for SimpleMarker<T> {}
+
+impl<T> fmt::Display for SimpleMarker<T> {
+    fn fmt<W: fmt::Write>(&self, f: &mut fmt::Formatter<W>) -> fmt::Result {
+        self.id.fmt(f)
+    }
+}
 
 impl<T> Component for SimpleMarker<T> {
     type Storage = DenseVecStorage<Self>;
@@ -133,6 +142,21 @@ impl<T> MarkerAllocator<SimpleMarker<T>> for SimpleMarkerAllocator<T> {
 
     fn retrieve_entity_internal(&self, id: u64) -> Option<Entity> {
         self.mapping.get(&id).copied()
+    }
+
+    /// As the trait says. The next id stays.
+    fn maintain(
+        &mut self,
+        alloc: Global,
+        entities: &EntitiesRes,
+        storage: &MaskedStorage<SimpleMarker<T>>,
+    ) -> Result<(), AllocError>
+        ensures ok { OnOk result (given self.new ≡ living_ids number_of_marker (⟦<u64 as PartialEq>⟧.eq) (population entities.now) storage.now) }
+        ensures err { OnErr result (given self.new ≡ given self.old) }
+        ensures next { self.new.next ≡ self.old.next }
+    {
+        self.mapping = remapped(alloc, entities, storage)?;
+        Ok(())
     }
 
     /// As the trait says. Where memory is refused, no id is given.

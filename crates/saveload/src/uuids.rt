@@ -11,12 +11,13 @@ ghost use Rattle.std.specs.HashMap as hash;
 
 use crate::mark_error::MarkError;
 use crate::marker::{Marker, MarkerAllocator};
-use entities::Entity;
+use crate::remapping::remapped;
+use entities::{EntitiesRes, Entity};
 use rand_core::Rng;
 use std::alloc::{AllocError, Global};
 use std::collections::HashMap;
 use std::marker::PhantomData;
-use storages::{Component, VecStorage, WriteStorage};
+use storages::{Component, MaskedStorage, VecStorage, WriteStorage};
 use uuid::Uuid;
 
 /// A marker that is an identifier of sixteen bytes, drawn from a generator `R`. Ports `specs::saveload::UuidMarker`.
@@ -161,6 +162,16 @@ impl<R: Rng> MarkerAllocator<UuidMarker<R>> for UuidMarkerAllocator<R> {
 
     fn retrieve_entity_internal(&self, id: Uuid) -> Option<Entity> {
         self.mapping.get(&id).copied()
+    }
+
+    fn maintain(
+        &mut self,
+        alloc: Global,
+        entities: &EntitiesRes,
+        storage: &MaskedStorage<UuidMarker<R>>,
+    ) -> Result<(), AllocError> {
+        self.mapping = remapped(alloc, entities, storage)?;
+        Ok(())
     }
 
     /// As the trait says. Where memory is refused, no identifier is mapped; the bytes that were drawn are used up.

@@ -1,6 +1,6 @@
 //! Components that are saved.
 ghost use Rattle.saveload.specs.Plain.{plain_conversion, plain_faithful};
-ghost use Rattle.saveload_tests.specs.Links.{link_conversion, link_faithful};
+ghost use Rattle.saveload.specs.Wrapped.{link_conversion, link_faithful};
 
 use entities::Entity;
 use saveload::{ConvertSaveload, JsonData, LoadError, Marker, SaveError};
@@ -102,7 +102,7 @@ impl<M: Marker> ConvertSaveload<M> for Link {
 }
 
 impl JsonData for Position {
-    ghost use Rattle.saveload_tests.specs.Links.{position_json, position_from, position_whole, position_shallow};
+    ghost use Rattle.saveload.specs.Wrapped.{position_json, position_from, position_whole, position_shallow};
 
     ghost json = { position_json (λ p. p.0) };
 

@@ -116,3 +116,32 @@ fn a_builder_marks_its_entity(rt: HostRuntime) -> Result<(), Fail> {
     assert!(rt; comes_true(rt.alloc(), 0, built_in_turn)?);
     Ok(())
 }
+
+// One of three dies, another loses its marker, and only the third is known then.
+fn known_after_maintain(world: &mut World) -> Result<bool, Fail> {
+    let marked = is_marked_now(world, 0) && is_marked_now(world, 1) && is_marked_now(world, 2);
+    let third = world.entities.entity(2);
+    let first = world.entities.entity(0);
+    world.entities.alloc_mut().kill([first].as_slice())?;
+    let lost = world.markers.drop(1).is_ok();
+    let before = world.allocator.retrieve_entity_internal(1);
+    world
+        .allocator
+        .maintain(world.alloc, &world.entities, &world.markers)?;
+    Ok(
+        marked
+            && lost
+            && before.is_some()
+            && world.allocator.retrieve_entity_internal(0) == None
+            && world.allocator.retrieve_entity_internal(1) == None
+            && world.allocator.retrieve_entity_internal(2) == Some(third)
+            && is_marked_now(world, 1)
+            && id_at(world, 1) == Some(3),
+    )
+}
+
+#[test]
+fn maintain_forgets_all_but_the_living_with_markers(rt: HostRuntime) -> Result<(), Fail> {
+    assert!(rt; comes_true(rt.alloc(), 3, known_after_maintain)?);
+    Ok(())
+}

@@ -2,7 +2,11 @@
 #![tactic(auto)]
 
 mod components;
+mod saved;
 mod slots;
 
 pub use components::{Defense, Health, Link, Mapped, Position, Tag, Treed, Velocity};
-pub use slots::{DEF, HP, LINK, MAP, POS, Slot, Slots, TAG, TREE, VEL, Value};
+pub use slots::{
+    DEF, HP, ID, LINK, Label, Labels, MAP, POS, Saved, SavedPlaces, SavedSlots, Slot, Slots, TAG,
+    TREE, VEL, Value,
+};

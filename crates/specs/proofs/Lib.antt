@@ -7,6 +7,7 @@ pub mod Runs
 pub mod Gone
 pub mod Values
 pub mod Shown
+pub mod Marked
 pub mod AllDie
 mod Telling
 pub mod Leading

@@ -1,7 +1,7 @@
 -- What a table shows of a change of one of its parts.
 use Rattle.std.proofs.Common.{◌≡◌, ◌≢◌, ℕ, ◌==◌, Bool, true, false, cond, refl, sym, ap, ◌∙◌, inl, inr, subst, Option, Some, None}
 use mathlib.Core.Path.{fun_ext}
-use Rattle.std.specs.Prelude.{List, is_some, ◌⊎◌, MatchOption, Result, Ok, Err, OnOk, OnErr, IfOk, IfErr}
+use Rattle.std.specs.Prelude.{List, IsSome, is_some, ◌⊎◌, MatchOption, Result, Ok, Err, OnOk, OnErr, IfOk, IfErr}
 use Rattle.std.specs.Option.{option_map}
 use Rattle.entities.specs.declared.entity.Entity.{Entity}
 use Rattle.entities.specs.Population.{Population, index_of}
@@ -23,6 +23,9 @@ use Rattle.entities.specs.Deaths.{has_index}
 use Rattle.std.proofs.lemmas.Bool.{false≢true}
 use Rattle.specs.specs.Field.{FieldInserts, FieldRemoves, FieldClears}
 use Rattle.specs.specs.Shows.{each_as, column_as, Shows}
+use Rattle.specs.specs.Marks.{GivesMarker, MarkerIsRefused, LacksMarker, HasMarker}
+use Rattle.saveload.specs.declared.mark_error.MarkError.{MarkError}
+use Rattle.saveload.specs.declared.mark_error.MarkError.TheVariants as failure
 
 if_as : {V W : Type 0} (f : V → W) (b : Bool) (x y : Option V) → option_map f (cond b x y) ≡ cond b (option_map f x) (option_map f y)
 if_as f true x y = refl
@@ -95,6 +98,36 @@ module _ {K L V W : Type 0} {slot : K → L} {value : V → W} {t t' : Table K V
     told = ap (option_map value) i.told;
     put = rw at (becomes_this (slot (place x)) _ _ (put_as i.column (index_of e) x) (shown_becomes (place x) _ i.put));
   }
+
+  some_as : (k : K) → IsSome (t k) → IsSome (u (slot k))
+  some_as k h = ap is_some (s.before k) ∙ has_as (column_as value) (t k) ∙ h
+
+  registered_as : (k : K) (c : Column V) → t k ≡ Some c → u (slot k) ≡ Some (column_as value c)
+  registered_as k c h = s.before k ∙ ap (option_map (column_as value)) h
+
+  lacks_as : (p : Population) (k : K) (e : Entity) → LacksMarker p (t k) e → LacksMarker p (u (slot k)) e
+  lacks_as p k e l = record { column = column_as value l.column; registered = registered_as k l.column l.registered; alive = l.alive; absent = ap (option_map value) l.absent }
+
+  pub shown_gives : (p : Population) (k : K) (e : Entity) (given : Option Bool) → GivesMarker p t k e given t' → GivesMarker p u (slot k) e given u'
+  shown_gives p k e None g = (some_as k g.0, g.1, shown_same g.2)
+  shown_gives p k e (Some false) g =
+      let has = g.0 in
+      (record { column = column_as value has.column; registered = registered_as k has.column has.registered; alive = has.alive; present = has_as value (has.column.values (index_of e)) ∙ has.present }, shown_same g.1)
+  shown_gives p k e (Some true) g = record {
+    column = column_as value g.column;
+    registered = registered_as k g.column g.registered;
+    alive = g.alive;
+    absent = ap (option_map value) g.absent;
+    value = value g.value;
+    put = becomes_this (slot k) _ _ (put_as g.column (index_of e) g.value) (shown_becomes k _ g.put);
+  }
+
+  pub shown_marker_refused : (b : Bool) (p : Population) (k : K) (e : Entity) (r : MarkError) → MarkerIsRefused b p t k e r → MarkerIsRefused b p u (slot k) e r
+  shown_marker_refused b p k e failure.Unregistered h = s.before k ∙ ap (option_map (column_as value)) h
+  shown_marker_refused b p k e failure.NoMarker h = (some_as k h.0, h.1)
+  shown_marker_refused b p k e failure.IdsExhausted h = (lacks_as p k e h.0, h.1)
+  shown_marker_refused b p k e failure.IdTaken h = (lacks_as p k e h.0, h.1)
+  shown_marker_refused b p k e failure.OutOfMemory h = (lacks_as p k e h.0, h.1)
 
   pub shown_removes : (p : Population) (k : K) (e : Entity) (found : Option V) → Removes p t k e found t' → Removes p u (slot k) e (option_map value found) u'
   shown_removes p k e found r = record {

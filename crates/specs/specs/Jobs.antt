@@ -1,9 +1,12 @@
 -- What jobs do, one by one and one after another.
-use Rattle.std.specs.Prelude.{◌≡◌, ◌≢◌, ℕ, zero, suc, ◌+◌, ◌≤◌, ◌<◌, Bool, true, false, ◌⊎◌, if◌then◌else◌, List, [], ◌∷◌, ◌++◌, Option, MatchOption}
+use Rattle.std.specs.Prelude.{◌≡◌, ◌≢◌, ℕ, zero, suc, ◌+◌, ◌≤◌, ◌<◌, Bool, true, false, ◌⊎◌, if◌then◌else◌, List, [], ◌∷◌, ◌++◌, Option, Some, None, MatchOption}
 use Rattle.entities.specs.declared.entity.Entity.{Entity}
 use Rattle.specs.specs.declared.command.Refusal.{Refusal}
 use Rattle.specs.specs.declared.command.Refusal.TheVariants.{OutOfMemory}
 use Rattle.specs.specs.Table.{Inserts, InsertIsRefused, Removes, RemovalWantsMemory}
+use Rattle.specs.specs.Marks.{GivesMarker, MarkerIsRefused}
+use Rattle.saveload.specs.declared.mark_error.MarkError.{MarkError}
+use Rattle.saveload.specs.declared.mark_error.MarkError.TheVariants.{OutOfMemory as NoMemory}
 use Rattle.specs.specs.State.{State, OnTable}
 use Rattle.specs.specs.declared.job.Job.{Job}
 use Rattle.specs.specs.declared.job.Job.TheVariants.{Insert, InsertAll, Remove, Mark, Own}
@@ -43,13 +46,23 @@ pub record KeepsRest {K V : Type 0} (place : V → K) (old : State K V) (pairs :
 abbrev pub RemoveStep : {K V : Type 0} → State K V → K → Entity → State K V → Type 0
 RemoveStep {K} {V} old slot e new = MatchOption (old.table slot) (new ≡ old) (λ _. (found : Option V) × OnTable (λ t t'. Removes old.people t slot e found t') old new)
 
-module _ {S J K V : Type 0} (place : V → K) (does : J → State K V → List (Job S J K V) → State K V → Type 0) where
-  -- A job, how many refusals it counts, and the further jobs that it queues. No slot is of markers, so a mark is refused.
+-- A marker where there was none, or one that was there, in a slot that holds markers; or its refusal for another cause than memory, which is counted,
+-- as is an entity that is not alive. `marks` tells which slots hold markers.
+abbrev pub MarkStep : {K V : Type 0} → (K → Bool) → State K V → K → Entity → Bool → State K V → Type 0
+MarkStep marks old slot e false new = (marks slot ≡ true) × (given : Bool) × OnTable (λ t t'. GivesMarker old.people t slot e (Some given) t') old new
+MarkStep marks old slot e true new = ((marks slot ≡ true) × OnTable (λ t t'. GivesMarker old.people t slot e None t') old new) ⊎ (((r : MarkError) × MarkerIsRefused (marks slot) old.people old.table slot e r × (r ≢ NoMemory)) × (new ≡ old))
+
+-- a mark that wants memory
+abbrev pub MarkWantsRoom : {K V : Type 0} → (K → Bool) → State K V → K → Entity → Type 0
+MarkWantsRoom marks s slot e = MarkerIsRefused (marks slot) s.people s.table slot e NoMemory
+
+module _ {S J K V : Type 0} (place : V → K) (marks : K → Bool) (does : J → State K V → List (Job S J K V) → State K V → Type 0) where
+  -- a job, how many refusals it counts, and the further jobs that it queues
   abbrev pub JobStep : State K V → Job S J K V → ℕ → List (Job S J K V) → State K V → Type 0
   JobStep old (Insert e value) refused more new = (more ≡ []) × (counted : Bool) × (refused ≡ count_of counted) × InsertStep place old e value counted new
   JobStep old (InsertAll pairs) refused more new = (more ≡ []) × InsertsAll place old pairs.items refused new
   JobStep old (Remove slot e) refused more new = (more ≡ []) × (refused ≡ 0) × RemoveStep old slot e new
-  JobStep old (Mark slot e) refused more new = (more ≡ []) × (refused ≡ 1) × (new ≡ old)
+  JobStep old (Mark slot e) refused more new = (more ≡ []) × (counted : Bool) × (refused ≡ count_of counted) × MarkStep marks old slot e counted new
   JobStep old (Own j) refused more new = (refused ≡ 0) × does j old more new
 
   -- a job that finds no memory, and what is kept of it
@@ -57,6 +70,7 @@ module _ {S J K V : Type 0} (place : V → K) (does : J → State K V → List (
   JobStops old (Insert e value) refused kept new = (kept ≡ Insert e value) × (refused ≡ 0) × InsertWantsRoom place old e value × (new ≡ old)
   JobStops old (InsertAll pairs) refused (InsertAll rest) new = KeepsRest place old pairs.items refused rest.items new
   JobStops old (Remove slot e) refused kept new = (kept ≡ Remove slot e) × (refused ≡ 0) × RemovalWantsMemory old.people (old.table slot) e × (new ≡ old)
+  JobStops old (Mark slot e) refused kept new = (kept ≡ Mark slot e) × (refused ≡ 0) × MarkWantsRoom marks old slot e × (new ≡ old)
   JobStops old (Own j) refused kept new = (kept ≡ Own j) × (refused ≡ 0) × (new ≡ old)
   JobStops old job refused kept new = ⊥
 

@@ -2,6 +2,7 @@ pub mod Column
 pub mod Readers
 pub mod Maps
 pub mod Table
+pub mod Marks
 pub mod Sets
 pub mod People
 pub mod State
@@ -19,6 +20,7 @@ pub mod Finds
 pub mod Writing
 pub mod Registering
 pub mod Building
+pub mod LazyBuilding
 pub mod Creating
 pub mod Dropping
 pub mod Leading

@@ -18,7 +18,7 @@ pub enum Job<S: Storages, J = NoJob> {
     InsertAll(Vec<(Entity, S::Value)>),
     /// Takes the value of an entity out of a slot. Where the slot is not registered it does nothing.
     Remove(S::Slot, Entity),
-    /// Gives an entity a marker in a slot of markers. No slot is one yet, so it is refused.
+    /// Gives an entity a marker in a slot of markers, if it has none.
     Mark(S::Slot, Entity),
     /// A job of the user's.
     Own(J),
@@ -112,6 +112,16 @@ impl<S: Storages, J: Drop> LazyUpdate<S, J> {
     {
         self.jobs.reserve(1)?;
         let _ = self.jobs.push_back(Job::Remove(slot, e));
+        Ok(())
+    }
+
+    /// Queues a mark, in a slot of markers.
+    pub fn mark(&mut self, slot: S::Slot, e: Entity) -> Result<(), AllocError>
+        ensures ok { OnOk result (queued self.new ≡ queued self.old ++ Mark slot e ∷ []) }
+        ensures err { OnErr result (queued self.new ≡ queued self.old) }
+    {
+        self.jobs.reserve(1)?;
+        let _ = self.jobs.push_back(Job::Mark(slot, e));
         Ok(())
     }
 

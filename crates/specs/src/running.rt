@@ -4,7 +4,7 @@ ghost use Rattle.std.specs.Option.{option_to_list};
 ghost use Rattle.std.specs.Vec.{vec_len};
 ghost use Rattle.specs.specs.State.{core_state};
 ghost use Rattle.specs.specs.Queue.{queued};
-ghost use Rattle.specs.specs.Jobs.{InsertStep, InsertWantsRoom, InsertsAll, KeepsRest, RemoveStep, count_of, JobStep, JobStops, RunsJobs};
+ghost use Rattle.specs.specs.Jobs.{InsertStep, InsertWantsRoom, InsertsAll, KeepsRest, RemoveStep, MarkStep, MarkWantsRoom, count_of, JobStep, JobStops, RunsJobs};
 ghost use Rattle.specs.specs.Table.{RemovalWantsMemory};
 ghost use Rattle.specs.specs.declared.job.Job.{Job};
 
@@ -14,6 +14,7 @@ use crate::job::{Job, LazyUpdate};
 use crate::slots::Storages;
 use crate::world_job::WorldJob;
 use entities::Entity;
+use saveload::MarkError;
 use std::alloc::AllocError;
 use std::collections::VecDeque;
 
@@ -96,6 +97,20 @@ fn remove_one<S: Storages>(core: &mut Core<S>, slot: S::Slot, e: Entity) -> Resu
     }
 }
 
+/// A mark: whether it was refused for another cause than memory, as it is where the entity is not alive. It is an error where it finds no memory.
+fn mark_one<S: Storages>(core: &mut Core<S>, slot: S::Slot, e: Entity) -> Result<bool, AllocError>
+    ensures ok { IfOk result (λ counted. MarkStep S.marks (core_state S.table core.old) slot e counted (core_state S.table core.new)) }
+    ensures wants { OnErr result (MarkWantsRoom S.marks (core_state S.table core.old) slot e) }
+    ensures err { OnErr result (core_state S.table core.new ≡ core_state S.table core.old) }
+{
+    let Parts { entities, storages } = &mut core.parts;
+    match storages.mark(entities, slot, e) {
+        Ok(given) => Ok(given.is_none()),
+        Err(MarkError::OutOfMemory) => Err(AllocError),
+        Err(_) => Ok(true),
+    }
+}
+
 /// How much a refusal counts.
 fn count_of(counted: bool) -> u64
     ensures { result ≡ count_of counted }
@@ -110,8 +125,8 @@ pub(crate) fn run_one<S: Storages, J: WorldJob<S>>(
     job: Job<S, J>,
 ) -> Outcome<S, J>
     ensures done { MatchOption result.kept
-        ((more : List (Job S J S.Slot S.Value)) × (queued queue.new ≡ queued queue.old ++ more) × JobStep S.place J.does (core_state S.table core.old) job result.refused more (core_state S.table core.new))
-        (λ kept. (queued queue.new ≡ queued queue.old) × JobStops S.place J.does (core_state S.table core.old) job result.refused kept (core_state S.table core.new)) }
+        ((more : List (Job S J S.Slot S.Value)) × (queued queue.new ≡ queued queue.old ++ more) × JobStep S.place S.marks J.does (core_state S.table core.old) job result.refused more (core_state S.table core.new))
+        (λ kept. (queued queue.new ≡ queued queue.old) × JobStops S.place S.marks J.does (core_state S.table core.old) job result.refused kept (core_state S.table core.new)) }
 {
     match job {
         Job::Insert(e, value) => match insert_one(core, e, value) {
@@ -148,9 +163,15 @@ pub(crate) fn run_one<S: Storages, J: WorldJob<S>>(
                 kept: Some(Job::Remove(slot, e)),
             },
         },
-        Job::Mark(_slot, _e) => Outcome {
-            refused: 1,
-            kept: None,
+        Job::Mark(slot, e) => match mark_one(core, slot, e) {
+            Ok(counted) => Outcome {
+                refused: count_of(counted),
+                kept: None,
+            },
+            Err(_) => Outcome {
+                refused: 0,
+                kept: Some(Job::Mark(slot, e)),
+            },
         },
         Job::Own(own) => match own.update(core, queue) {
             Ok(()) => Outcome {
@@ -188,7 +209,7 @@ pub(crate) fn run_jobs<S: Storages, J: WorldJob<S>>(
     queue: &mut LazyUpdate<S, J>,
     limit: u64,
 ) -> Ending
-    ensures { RunsJobs S.place J.does result.stopped limit result.ran result.refused
+    ensures { RunsJobs S.place S.marks J.does result.stopped limit result.ran result.refused
         (core_state S.table core.old) (option_to_list first.old ++ queued queue.old)
         (core_state S.table core.new) (option_to_list first.new ++ queued queue.new) }
 {

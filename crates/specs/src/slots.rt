@@ -1,16 +1,18 @@
 //! What a world asks of a struct of storages.
-ghost use Rattle.std.specs.Prelude.{◌≡◌, ℕ, Bool, Option, None, IfOk, OnOk, IfErr, OnErr, IsTrue, ◌↔◌, IsOk, IsSome, MatchOption, length};
+ghost use Rattle.std.specs.Prelude.{◌≡◌, ℕ, Bool, Option, None, true, IfOk, OnOk, IfErr, OnErr, IsTrue, ◌↔◌, IsOk, IsSome, MatchOption, length};
 ghost use Rattle.std.specs.Bool.{Decides};
 ghost use Rattle.std.specs.Option.{option_map};
 ghost use Rattle.entities.specs.Census.{population};
 ghost use Rattle.storages.specs.Meaning.{HasRoom};
 ghost use Rattle.specs.specs.Column.{Column, WantsNone, without_values};
+ghost use Rattle.specs.specs.Marks.{GivesMarker, MarkerIsRefused};
 ghost use Rattle.specs.specs.Readers.{RegistersReader, RegisterReaderIsRefused, ReadsEvents, DropsReader, ReaderIsRefused, Switches, SwitchIsRefused};
 ghost use Rattle.specs.specs.Table.{Registers, Inserts, InsertIsRefused, Gets, GetIsRefused, Removes, RemoveIsRefused, Clears, ClearIsRefused, IsMask};
 
 use crate::command::Refusal;
 use entities::{EntitiesRes, Entity};
 use hibits::BitSet;
+use saveload::MarkError;
 use std::alloc::{AllocError, Global};
 use storages::{ComponentEvent, ReaderId};
 
@@ -33,6 +35,9 @@ pub trait Storages {
 
     /// Whether a copy of a value of the slot may take memory.
     ghost allocates: { Self.Slot → Bool };
+
+    /// Whether the slot is of markers.
+    ghost marks: { Self.Slot → Bool };
 
     /// The slot of a value.
     fn slot_of(value: &Self::Value) -> Self::Slot
@@ -91,6 +96,19 @@ pub trait Storages {
         ensures refused { IfErr result (ClearIsRefused (table self.old) slot) }
         ensures err { OnErr result (table self.new ≡ table self.old) };
 
+    /// Gives an entity a marker in a slot of markers, if it is alive and has none there. The answer is whether the marker is new, and none for an
+    /// entity that is not alive. After a refusal no component changed; what gives the ids may have used one up.
+    fn mark(
+        &mut self,
+        entities: &EntitiesRes,
+        slot: Self::Slot,
+        e: Entity,
+    ) -> Result<Option<bool>, MarkError>
+        ensures ok { IfOk result (λ given. GivesMarker (population entities.now) (table self.old) slot e given (table self.new)) }
+        ensures marker { OnOk result (marks slot ≡ true) }
+        ensures refused { IfErr result (MarkerIsRefused (marks slot) (population entities.now) (table self.old) slot e) }
+        ensures err { OnErr result (table self.new ≡ table self.old) };
+
     /// Registers a reader of a slot's events, which has nothing to read yet.
     fn register_reader(&mut self, slot: Self::Slot) -> Result<ReaderId, Refusal>
         ensures ok { IfOk result (λ n. RegistersReader (table self.old) slot n (table self.new)) }
@@ -98,11 +116,7 @@ pub trait Storages {
         ensures err { OnErr result (table self.new ≡ table self.old) };
 
     /// What a reader has not read of a slot's events, which it has read then. It takes no memory.
-    fn events(
-        &mut self,
-        slot: Self::Slot,
-        reader: &ReaderId,
-    ) -> Result<Vec<ComponentEvent>, Refusal>
+    fn read(&mut self, slot: Self::Slot, reader: &ReaderId) -> Result<Vec<ComponentEvent>, Refusal>
         ensures ok { IfOk result (λ es. ReadsEvents (table self.old) slot reader.now es.items (table self.new)) }
         ensures refused { IfErr result (ReaderIsRefused reader.now (table self.old slot)) }
         ensures err { OnErr result (table self.new ≡ table self.old) };
@@ -114,7 +128,7 @@ pub trait Storages {
         ensures err { OnErr result (table self.new ≡ table self.old) };
 
     /// Turns the events of a slot on or off.
-    fn emit(&mut self, slot: Self::Slot, on: bool) -> Result<(), Refusal>
+    fn set_event_emission(&mut self, slot: Self::Slot, on: bool) -> Result<(), Refusal>
         ensures ok { OnOk result (Switches (table self.old) slot on (table self.new)) }
         ensures refused { IfErr result (SwitchIsRefused (table self.old slot)) }
         ensures err { OnErr result (table self.new ≡ table self.old) };

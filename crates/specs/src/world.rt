@@ -68,7 +68,7 @@ impl<S: Storages, J: WorldJob<S>> World<S, J> {
     /// those that jobs queue come last. It takes memory for the list of the dead, for events, and for what the jobs do. A refused call did
     /// nothing. A job that finds no memory ends the run and stays the first. Ports `WorldExt::maintain`.
     pub fn maintain(&mut self, limit: u64) -> Result<Maintained, AllocError>
-        ensures ok { IfOk result (λ m. Maintains S.place J.does (world_state S.table self.old) limit m (world_state S.table self.new)) }
+        ensures ok { IfOk result (λ m. Maintains S.place S.marks J.does (world_state S.table self.old) limit m (world_state S.table self.new)) }
         ensures gone { IfOk result (λ m. All (IsGone (state_of S.table self.new).people) m.deleted.items) }
         ensures idle { NoneMarked (state_of S.table self.old).people → IsOk result }
         ensures err { OnErr result (world_state S.table self.new ≡ world_state S.table self.old) }
@@ -103,7 +103,7 @@ impl<S: Storages, J: WorldJob<S>> World<S, J> {
 
     /// Does commands in order, with room for all replies got first. Where that room was refused, nothing was done.
     pub fn run(&mut self, commands: Vec<Command<S, J>>) -> Result<Vec<Reply<S::Value>>, AllocError>
-        ensures run { IfOk result (λ replies. Run S.place S.allocates J.does (world_state S.table self.old) commands.items replies.items (world_state S.table self.new)) }
+        ensures run { IfOk result (λ replies. Run S.place S.allocates S.marks J.does (world_state S.table self.old) commands.items replies.items (world_state S.table self.new)) }
         ensures err { OnErr result (world_state S.table self.new ≡ world_state S.table self.old) }
 
         // The laws of runs, as this run kept them.

@@ -3,6 +3,7 @@
 
 mod parse;
 mod printed;
+mod saving;
 mod script;
 mod script_job;
 mod sets;

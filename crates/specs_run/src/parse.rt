@@ -4,24 +4,73 @@ use crate::sets::set;
 use crate::slot_names::slot;
 use crate::values::Worded;
 use crate::words::{entity, index, number};
-use slots::{Slots, Value};
-use specs::{Command, Entity, Job, ReaderId};
+use slots::{ID, Slots, Value};
+use specs::{Command, Entity, Job, ReaderId, Storages};
 use std::alloc::{AllocError, Global};
 use std::str;
 
-/// The command of a line without its line feed, if it can be read. Words are parted by one space.
-pub fn command(
-    alloc: Global,
-    line: &[u8],
-) -> Result<Option<Command<Slots, ScriptJob>>, AllocError> {
+/// What a line asks for.
+#[derive(Drop)]
+pub enum Line<'a, S: Storages, J> {
+    /// A command of the world.
+    Command(Command<S, J>),
+    /// What has to do with labels.
+    Saving(Saving<'a>),
+}
+
+/// What a line asks for that has to do with labels.
+#[derive(Drop)]
+pub enum Saving<'a> {
+    /// The label of an entity, which gets one if it has none.
+    Label(Entity),
+    /// The text of the entities that have labels.
+    Save,
+    /// The same, and of those that they lead to, which get labels.
+    SaveAll,
+    /// The entities of a text.
+    Load(&'a str),
+}
+
+/// What a line of a script asks for.
+pub type ScriptLine<'a> = Line<'a, Slots, ScriptJob>;
+
+/// What a line without its line feed asks for, if it can be read.
+pub fn read(alloc: Global, line: &[u8]) -> Result<Option<ScriptLine<'_>>, AllocError> {
     let Ok(text) = str::from_utf8(line) else {
         return Ok(None);
     };
+    match text.strip_prefix("load ") {
+        Some(saved) => Ok(load(saved).map(|saving| Line::Saving(saving))),
+        None => words(alloc, text),
+    }
+}
+
+/// A text that is not empty and has no space at either end.
+fn load(text: &str) -> Option<Saving<'_>> {
+    if text.is_empty() || text.starts_with(' ') || text.ends_with(' ') {
+        None
+    } else {
+        Some(Saving::Load(text))
+    }
+}
+
+/// What words ask for that are parted by one space.
+fn words(alloc: Global, text: &str) -> Result<Option<ScriptLine<'_>>, AllocError> {
     let mut words = Vec::new(alloc);
     for word in text.split(' ') {
         words.push(word)?;
     }
     match words.as_slice() {
+        ["label", e] => Ok(entity(e).map(|e| Line::Saving(Saving::Label(e)))),
+        ["save"] => Ok(Some(Line::Saving(Saving::Save))),
+        ["save-all"] => Ok(Some(Line::Saving(Saving::SaveAll))),
+        words => Ok(command(alloc, words)?.map(|command| Line::Command(command))),
+    }
+}
+
+/// A command of the world.
+fn command(alloc: Global, words: &[&str]) -> Result<Option<Command<Slots, ScriptJob>>, AllocError> {
+    match words {
         ["delete", rest @ ..] => Ok(entities(alloc, rest)?.map(|list| Command::Delete(list))),
         ["job", rest @ ..] => Ok(job(rest).map(|job| Command::Queue(job))),
         ["select", rest @ ..] => Ok(set(alloc, rest)?.map(|set| Command::Select(set))),
@@ -59,6 +108,7 @@ fn job(words: &[&str]) -> Option<Job<Slots, ScriptJob>> {
     match words {
         ["insert", s, e, v] => Some(Job::Insert(entity(e)?, Value::read(slot(s)?, v)?)),
         ["remove", s, e] => Some(Job::Remove(slot(s)?, entity(e)?)),
+        ["label", e] => Some(Job::Mark(ID, entity(e)?)),
         ["again"] => Some(Job::Own(ScriptJob::Again)),
         ["create"] => Some(Job::Own(ScriptJob::Create)),
         _ => None,

@@ -1,13 +1,12 @@
 //! What is printed for a reply.
-use slots::Value;
 use specs::{Entity, Maintained, ReaderId, Refusal, Reply};
 use std::fmt;
 
 /// A reply, on one line without its line feed.
 #[derive(Drop)]
-pub struct Printed(pub Reply<Value>);
+pub struct Printed<V>(pub Reply<V>);
 
-impl fmt::Display for Printed {
+impl<V: fmt::Display> fmt::Display for Printed<V> {
     fn fmt<W: fmt::Write>(&self, f: &mut fmt::Formatter<W>) -> fmt::Result {
         match &self.0 {
             Reply::Done => write!(f, "ok"),
@@ -26,7 +25,7 @@ impl fmt::Display for Printed {
     }
 }
 
-fn write_entity<W: fmt::Write>(f: &mut fmt::Formatter<W>, e: Entity) -> fmt::Result {
+pub fn write_entity<W: fmt::Write>(f: &mut fmt::Formatter<W>, e: Entity) -> fmt::Result {
     let index = e.id();
     let generation = e.generation().id();
     write!(f, "{index}:{generation}")

@@ -1,11 +1,13 @@
 //! A script of commands, run over any reader and two writers.
-use crate::parse::command;
+use crate::parse::{Line, read};
 use crate::printed::Printed;
+use crate::saving::Saves;
 use crate::script_job::ScriptJob;
 use composed::Empty;
 use slots::Slots;
-use specs::{Storages, World, WorldJob};
+use specs::{Parts, Storages, World, WorldJob};
 use std::alloc::Global;
+use std::fmt::Display;
 use std::io::{self, BufRead, BufReader, BufWriter, Read, Write};
 
 /// Every line was read, and every reply was written.
@@ -90,7 +92,7 @@ fn in_new_world<S: Empty + Drop, J: WorldJob<S>, L: Session<S, J>>(
     alloc: Global,
     session: L,
 ) -> io::Result<Option<u64>> {
-    let mut world = World::new(alloc, S::empty());
+    let mut world = World::new(alloc, S::empty(alloc));
     session.hold(&mut world)
 }
 
@@ -127,12 +129,37 @@ fn answer<O: Write + Drop>(
     if text.is_empty() {
         return Ok(true);
     }
-    let Some(command) = command(alloc, text)? else {
-        return Ok(false);
-    };
-    let reply = Printed(world.apply(command));
-    writeln!(writer, "{reply}")?;
-    Ok(true)
+    match read(alloc, text)? {
+        Some(line) => {
+            respond(alloc, world, writer, line)?;
+            Ok(true)
+        }
+        None => Ok(false),
+    }
+}
+
+/// Does what a line asks for, and writes its reply. It stands for whatever storages and jobs, since it is shorter to prove where they are not
+/// known.
+fn respond<S: Storages + Saves, J: WorldJob<S>, O: Write + Drop>(
+    alloc: Global,
+    world: &mut World<S, J>,
+    writer: &mut BufWriter<O>,
+    line: Line<'_, S, J>,
+) -> io::Result<()>
+where
+    S::Value: Display,
+{
+    match line {
+        Line::Command(command) => {
+            let reply = Printed(world.apply(command));
+            writeln!(writer, "{reply}")
+        }
+        Line::Saving(saving) => {
+            let Parts { entities, storages } = world.parts().core.parts();
+            let said = storages.said(alloc, entities, saving);
+            writeln!(writer, "{said}")
+        }
+    }
 }
 
 /// Tells of a line that can't be read.

@@ -1,5 +1,5 @@
 //! The names of the slots.
-use slots::{DEF, HP, LINK, MAP, POS, Slot, TAG, TREE, VEL};
+use slots::{DEF, HP, ID, LINK, MAP, POS, Slot, TAG, TREE, VEL};
 
 /// The slot of a name, if there is one.
 pub fn slot(word: &str) -> Option<Slot> {
@@ -12,6 +12,7 @@ pub fn slot(word: &str) -> Option<Slot> {
         "tag" => Some(TAG),
         "hp" => Some(HP),
         "link" => Some(LINK),
+        "id" => Some(ID),
         _ => None,
     }
 }

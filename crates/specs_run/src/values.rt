@@ -1,7 +1,7 @@
 //! The components of a script's lines.
 use crate::words::{entity, whole};
 use composed::{Either, Sole};
-use slots::{Defense, Health, Link, Mapped, Position, Tag, Treed, Velocity};
+use slots::{Defense, Health, Label, Link, Mapped, Position, Tag, Treed, Velocity};
 
 /// A component that a script can write, at a slot of its own.
 pub trait Worded<K>: Sized {
@@ -57,6 +57,13 @@ impl Worded<Sole> for Tag {
 impl Worded<Sole> for Health {
     fn read(_slot: Sole, word: &str) -> Option<Self> {
         Some(Health(whole(word)?))
+    }
+}
+
+impl Worded<Sole> for Label {
+    /// A script writes no marker.
+    fn read(_slot: Sole, _word: &str) -> Option<Self> {
+        None
     }
 }
 

@@ -1,4 +1,4 @@
--- Values that are one reference.
+-- Values that hold one thing alone: a reference, or a whole number.
 use Rattle.std.specs.Prelude.{◌≡◌, ◌≤◌, [], ◌∷◌, refl, false, ℤ, Option, option_map}
 use Rattle.std.proofs.Common.{ap, inl}
 use Rattle.entities.specs.declared.entity.Entity.{Entity}

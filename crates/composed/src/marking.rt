@@ -1,0 +1,134 @@
+//! A struct of storages for one type of markers, with what gives their ids.
+use crate::only::{Only, Sole};
+use hibits::BitSet;
+use saveload::{Marker, MarkerAllocator, SimpleMarker, SimpleMarkerAllocator};
+use specs::{
+    ComponentEvent, Duplicate, EntitiesRes, Entity, MarkError, ReaderId, Refusal, Storages,
+    field_marks,
+};
+use std::alloc::{AllocError, Global};
+use storages::MaybeTracked;
+
+/// One type of markers: their storage, or none where they are not registered, and what gives their ids, which outlives the markers.
+#[derive(Drop)]
+pub struct Marking<M: Marker, A> {
+    /// The markers.
+    pub markers: Only<M>,
+    /// What gives their ids.
+    pub allocator: A,
+}
+
+impl<T> Marking<SimpleMarker<T>, SimpleMarkerAllocator<T>> {
+    ghost use Rattle.std.specs.Prelude.{◌≡◌, None};
+
+    /// The markers are not registered, and no id is given.
+    pub fn new(alloc: Global) -> Self
+        ensures { result.markers.field ≡ None }
+    {
+        Marking {
+            markers: Only::new(),
+            allocator: SimpleMarkerAllocator::new(alloc),
+        }
+    }
+}
+
+impl<M: Marker + Duplicate, A: MarkerAllocator<M>> Storages for Marking<M, A>
+where
+    M::Storage: MaybeTracked<M>,
+{
+    ghost use Rattle.std.specs.Prelude.{refl, true};
+    ghost use Rattle.composed.specs.Exact.{sole_is};
+    ghost use Rattle.specs.specs.Field.{field_column, field_room};
+    ghost use Rattle.composed.specs.declared.only.Sole.TheVariants.{Sole};
+
+    type Slot = Sole;
+
+    type Value = M;
+
+    ghost table = { λ s _. field_column s.markers.field };
+
+    ghost room = { λ s _. field_room s.markers.field };
+
+    ghost exact = { λ a b. (λ _. sole_is a b, λ _. refl) };
+
+    ghost marks = { λ _. true };
+
+    ghost place = { λ _. Sole };
+
+    ghost allocates = { λ _. M.allocates };
+
+    fn slot_of(_value: &M) -> Sole {
+        Sole::Sole
+    }
+
+    fn register(&mut self, alloc: Global, slot: Sole) -> Result<(), AllocError> {
+        self.markers.register(alloc, slot)
+    }
+
+    fn is_registered(&self, slot: Sole) -> bool {
+        self.markers.is_registered(slot)
+    }
+
+    fn mask(&self, slot: Sole) -> Option<&BitSet> {
+        self.markers.mask(slot)
+    }
+
+    fn insert(
+        &mut self,
+        entities: &EntitiesRes,
+        e: Entity,
+        value: M,
+    ) -> Result<Option<M>, (Refusal, M)> {
+        self.markers.insert(entities, e, value)
+    }
+
+    fn get(&self, entities: &EntitiesRes, slot: Sole, e: Entity) -> Result<Option<M>, Refusal> {
+        self.markers.get(entities, slot, e)
+    }
+
+    fn remove(
+        &mut self,
+        entities: &EntitiesRes,
+        slot: Sole,
+        e: Entity,
+    ) -> Result<Option<M>, Refusal> {
+        self.markers.remove(entities, slot, e)
+    }
+
+    fn clear(&mut self, slot: Sole) -> Result<(), Refusal> {
+        self.markers.clear(slot)
+    }
+
+    fn mark(
+        &mut self,
+        entities: &EntitiesRes,
+        _slot: Sole,
+        e: Entity,
+    ) -> Result<Option<bool>, MarkError> {
+        field_marks::mark(&mut self.markers.field, &mut self.allocator, entities, e)
+    }
+
+    fn register_reader(&mut self, slot: Sole) -> Result<ReaderId, Refusal> {
+        self.markers.register_reader(slot)
+    }
+
+    fn read(&mut self, slot: Sole, reader: &ReaderId) -> Result<Vec<ComponentEvent>, Refusal> {
+        self.markers.read(slot, reader)
+    }
+
+    fn drop_reader(&mut self, slot: Sole, reader: ReaderId) -> Result<(), Refusal> {
+        self.markers.drop_reader(slot, reader)
+    }
+
+    fn set_event_emission(&mut self, slot: Sole, on: bool) -> Result<(), Refusal> {
+        self.markers.set_event_emission(slot, on)
+    }
+
+    fn reserve_drop(&mut self, count: usize) -> Result<(), AllocError> {
+        self.markers.reserve_drop(count)
+    }
+
+    fn drop_all(&mut self, es: &[Entity]) {
+        self.markers.drop_all(es);
+    }
+}

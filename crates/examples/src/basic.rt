@@ -1,0 +1,119 @@
+//! Entities that move: two component types, a system over their storages, and a few steps.
+use crate::game::{Parts, Position, Velocity};
+use anyhow::{Result, bail};
+use composed::{Both, Empty};
+use joins::{Join, JoinMut};
+use specs::{Builder, Entity, Has, World};
+use std::alloc::Global;
+use storages::MaskedStorage;
+
+/// Moves each entity that has a velocity by one step.
+pub fn move_all(positions: &mut MaskedStorage<Position>, velocities: &MaskedStorage<Velocity>) {
+    let mut cursor = positions.join_mut(velocities);
+    while let Some(_id) = cursor.next() {
+        if let Some(velocity) = cursor.beside() {
+            if let Ok(position) = cursor.item() {
+                position.x += velocity.x;
+                position.y += velocity.y;
+            }
+        }
+    }
+}
+
+/// Storages of entities that move.
+pub trait Moves {
+    /// One step.
+    fn step(&mut self);
+}
+
+impl Moves for Parts {
+    fn step(&mut self) {
+        let Both {
+            first: positions,
+            rest: velocities,
+        } = self;
+        if let (Some(positions), Some(velocities)) = (&mut positions.field, &velocities.field) {
+            move_all(positions, velocities);
+        }
+    }
+}
+
+/// An entity with a position, and with a velocity if it has one.
+pub fn place<P, V, S: Has<Position, P> + Has<Velocity, V>>(
+    world: &mut World<S>,
+    position: Position,
+    velocity: Option<Velocity>,
+) -> Result<Entity> {
+    let Ok(builder) = world.create_entity()?.with(position) else {
+        bail!("no position was inserted");
+    };
+    let Ok(builder) = builder.maybe_with(velocity) else {
+        bail!("no velocity was inserted");
+    };
+    Ok(builder.build())
+}
+
+/// Where each entity is, to the end of a line.
+pub fn show<P, S: Has<Position, P>>(text: &mut String, world: &World<S>) -> Result<()> {
+    let positions = world.read_storage::<Position, _>()?;
+    let mut walk = (world.entities(), &positions).join();
+    while let Some((entity, position)) = walk.next() {
+        let Position { x, y } = *position;
+        write!(text, " {}:({x:.1}, {y:.1})", entity.id())?;
+    }
+    writeln!(text)?;
+    Ok(())
+}
+
+/// Two entities that go their ways, and one that stays where it is.
+const WALKERS: [(Position, Option<Velocity>); 3] = [
+    (
+        Position { x: 0.0, y: 0.0 },
+        Some(Velocity { x: 1.0, y: 0.5 }),
+    ),
+    (
+        Position { x: 4.0, y: 4.0 },
+        Some(Velocity { x: -1.0, y: 0.0 }),
+    ),
+    (Position { x: 2.0, y: 2.0 }, None),
+];
+
+/// The world as it begins.
+fn begin<P, V, S: Has<Position, P> + Has<Velocity, V>>(world: &mut World<S>) -> Result<()> {
+    world.register::<Position, _>()?;
+    world.register::<Velocity, _>()?;
+    for (position, velocity) in WALKERS {
+        place(world, position, velocity)?;
+    }
+    Ok(())
+}
+
+/// Three steps.
+fn walk<P, V, S: Has<Position, P> + Has<Velocity, V> + Moves>(
+    world: &mut World<S>,
+    text: &mut String,
+) -> Result<()> {
+    begin(world)?;
+    for step in 1..=3 {
+        world.parts().core.parts().storages.step();
+        write!(text, "step {step}:")?;
+        show(text, world)?;
+    }
+    Ok(())
+}
+
+/// What they lead to in a new world. It is a local here alone, where the type of its storages is not known: a function that owns storages of a
+/// known type is slow to prove.
+fn told<P, V, S: Empty + Has<Position, P> + Has<Velocity, V> + Moves + Drop>(
+    alloc: Global,
+) -> Result<String> {
+    let mut text = String::new(alloc);
+    let mut world = World::new(alloc, S::empty(alloc));
+    walk(&mut world, &mut text)?;
+    Ok(text)
+}
+
+/// Where all are after each step.
+pub fn basic(alloc: Global) -> Result<String> {
+    told::<_, _, Parts>(alloc)
+}

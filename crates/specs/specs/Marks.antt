@@ -1,0 +1,67 @@
+-- Markers for entities.
+use Rattle.std.specs.Prelude.{◌≡◌, Bool, true, false, Option, Some, None, IsSome}
+use Rattle.entities.specs.declared.entity.Entity.{Entity}
+use Rattle.entities.specs.Population.{index_of, Population, IsAlive}
+use Rattle.saveload.specs.declared.mark_error.MarkError.{MarkError}
+use Rattle.saveload.specs.declared.mark_error.MarkError.TheVariants.{Unregistered, NoMarker, IdsExhausted, IdTaken, OutOfMemory}
+use Rattle.specs.specs.Column.{Column, with_value}
+use Rattle.specs.specs.Table.{Table, Becomes}
+
+-- an entity that is alive and has no marker in the slot
+pub record LacksMarker {V : Type 0} (p : Population) (slot : Option (Column V)) (e : Entity) : Type 0 where
+  pub column : Column V
+  pub registered : slot ≡ Some column
+  pub alive : IsAlive p e
+  pub absent : column.values (index_of e) ≡ None
+
+-- an entity that is alive and has one
+pub record HasMarker {V : Type 0} (p : Population) (slot : Option (Column V)) (e : Entity) : Type 0 where
+  pub column : Column V
+  pub registered : slot ≡ Some column
+  pub alive : IsAlive p e
+  pub present : IsSome (column.values (index_of e))
+
+-- an entity that is alive and has no marker in the slot gets one
+pub record GetsMarker {K V : Type 0} (p : Population) (old : Table K V) (slot : K) (e : Entity) (new : Table K V) : Type 0 where
+  pub column : Column V
+  pub registered : old slot ≡ Some column
+  pub alive : IsAlive p e
+  pub absent : column.values (index_of e) ≡ None
+  pub value : V
+  pub put : Becomes old slot (with_value column (index_of e) value) new
+
+-- the answer of a mark: none for an entity that is not alive, whether the marker is new for one that is
+abbrev pub GivesMarker : {K V : Type 0} → Population → Table K V → K → Entity → Option Bool → Table K V → Type 0
+GivesMarker p old slot e None new = IsSome (old slot) × (IsAlive p e → ⊥) × (new ≡ old)
+GivesMarker p old slot e (Some false) new = HasMarker p (old slot) e × (new ≡ old)
+GivesMarker p old slot e (Some true) new = GetsMarker p old slot e new
+
+-- Why an entity gets no marker, in a slot that holds markers or does not: an id, or memory, is wanted only in a slot of markers, for an entity that
+-- is alive and has none.
+abbrev pub MarkerIsRefused : {K V : Type 0} → Bool → Population → Table K V → K → Entity → MarkError → Type 0
+MarkerIsRefused holds_markers p table slot e Unregistered = table slot ≡ None
+MarkerIsRefused holds_markers p table slot e NoMarker = IsSome (table slot) × (holds_markers ≡ false)
+MarkerIsRefused holds_markers p table slot e IdsExhausted = LacksMarker p (table slot) e × (holds_markers ≡ true)
+MarkerIsRefused holds_markers p table slot e IdTaken = LacksMarker p (table slot) e × (holds_markers ≡ true)
+MarkerIsRefused holds_markers p table slot e OutOfMemory = LacksMarker p (table slot) e × (holds_markers ≡ true)
+
+-- the same of one field
+pub record FieldGetsMarker {V : Type 0} (p : Population) (old : Option (Column V)) (e : Entity) (new : Option (Column V)) : Type 0 where
+  pub column : Column V
+  pub registered : old ≡ Some column
+  pub alive : IsAlive p e
+  pub absent : column.values (index_of e) ≡ None
+  pub value : V
+  pub now : new ≡ Some (with_value column (index_of e) value)
+
+abbrev pub FieldGivesMarker : {V : Type 0} → Population → Option (Column V) → Entity → Option Bool → Option (Column V) → Type 0
+FieldGivesMarker p old e None new = IsSome old × (IsAlive p e → ⊥) × (new ≡ old)
+FieldGivesMarker p old e (Some false) new = HasMarker p old e × (new ≡ old)
+FieldGivesMarker p old e (Some true) new = FieldGetsMarker p old e new
+
+abbrev pub FieldMarkerIsRefused : {V : Type 0} → Population → Option (Column V) → Entity → MarkError → Type 0
+FieldMarkerIsRefused p field e Unregistered = field ≡ None
+FieldMarkerIsRefused p field e NoMarker = ⊥
+FieldMarkerIsRefused p field e IdsExhausted = LacksMarker p field e
+FieldMarkerIsRefused p field e IdTaken = LacksMarker p field e
+FieldMarkerIsRefused p field e OutOfMemory = LacksMarker p field e

@@ -1,0 +1,67 @@
+//! Markers in a storage of one component type.
+ghost use Rattle.std.specs.Prelude.{◌≡◌, None, Some, true, false, is_some, IfOk, OnErr, IfErr};
+ghost use Rattle.entities.specs.Census.{population};
+ghost use Rattle.saveload.specs.Marking.{MarksNew, IsOfIds};
+ghost use Rattle.storages.specs.Found.{found_in};
+ghost use Rattle.storages.specs.Life.{is_alive};
+ghost use Rattle.specs.specs.Field.{column_of, field_column};
+ghost use Rattle.specs.specs.Marks.{FieldGivesMarker, FieldMarkerIsRefused};
+
+use crate::field::Field;
+use entities::{EntitiesRes, Entity};
+use saveload::{MarkError, Marker, MarkerAllocator};
+use storages::{MaskedStorage, WriteStorage};
+
+/// Gives an entity a marker, if it is alive and has none. The answer is whether the marker is new, and none for an entity that is not alive.
+pub fn mark<M: Marker, A: MarkerAllocator<M>>(
+    field: &mut Field<M>,
+    allocator: &mut A,
+    entities: &EntitiesRes,
+    e: Entity,
+) -> Result<Option<bool>, MarkError>
+    ensures ok { IfOk result (λ given. FieldGivesMarker (population entities.now) (field_column field.old) e given (field_column field.new)) }
+    ensures refused { IfErr result (FieldMarkerIsRefused (population entities.now) (field_column field.old) e) }
+    ensures err { OnErr result (field_column field.new ≡ field_column field.old) }
+{
+    match field {
+        Some(storage) => mark_in(storage, allocator, entities, e),
+        None => Err(MarkError::Unregistered),
+    }
+}
+
+// The same in its storage.
+fn mark_in<M: Marker, A: MarkerAllocator<M>>(
+    storage: &mut MaskedStorage<M>,
+    allocator: &mut A,
+    entities: &EntitiesRes,
+    e: Entity,
+) -> Result<Option<bool>, MarkError>
+    ensures ok { IfOk result (λ given. FieldGivesMarker (population entities.now) (Some (column_of storage.old)) e given (Some (column_of storage.new))) }
+    ensures refused { IfErr result (FieldMarkerIsRefused (population entities.now) (Some (column_of storage.old)) e) }
+    ensures err { OnErr result (column_of storage.new ≡ column_of storage.old) }
+{
+    if !entities.is_alive(e) {
+        return Ok(None);
+    }
+    if storage.contains(e.id()) {
+        return Ok(Some(false));
+    }
+    give(storage, allocator, entities, e)
+}
+
+// `MarkerAllocator::mark`, on the storage.
+#[tactic(auto, using(crate::proofs::Values::same))]
+fn give<M: Marker, A: MarkerAllocator<M>>(
+    storage: &mut MaskedStorage<M>,
+    allocator: &mut A,
+    entities: &EntitiesRes,
+    e: Entity,
+) -> Result<Option<bool>, MarkError>
+    ensures alive { IfOk result (λ given. is_some given ≡ is_alive (population entities.now) e) }
+    ensures was { IfOk result (λ given. given ≡ Some false → is_some (found_in entities.now storage.old e) ≡ true) }
+    ensures new { IfOk result (λ given. given ≡ Some true → MarksNew M.id_of M.Identifier.eq (A.MayBeNew allocator.old) e (A.mapping allocator.old) (A.mapping allocator.new) storage.old storage.new) }
+    ensures err { OnErr result (column_of storage.new ≡ column_of storage.old) }
+    ensures refused { IfErr result IsOfIds }
+{
+    allocator.mark(e, &mut WriteStorage::new(entities, storage))
+}
