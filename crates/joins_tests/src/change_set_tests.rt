@@ -1,11 +1,11 @@
 //! Change sets.
 use crate::cursor_walks::{no_more_than, subtract, subtract_all};
-use crate::worlds::{Chosen, Health, World, comes_true, first_at};
+use crate::worlds::{Chosen, Number, Numbered, Position, World, comes_true, first_at};
 use entities::Entity;
 use joins::{ChangeError, ChangeSet};
 use std::alloc::{AllocError, Global};
 use std::test::Fail;
-use storages::MaskedStorage;
+use storages::{Component, MaskedStorage};
 
 // The value of an entity, or none.
 fn at(set: &ChangeSet<i32>, e: Entity) -> Option<i32> {
@@ -22,16 +22,16 @@ fn listed(alloc: Global, changes: &[(Entity, i32)]) -> Result<Vec<(Entity, i32)>
 }
 
 // Healths of 100, 200 and 300, at the indices 0 to 2.
-fn fill(healths: &mut MaskedStorage<Health>) -> bool {
-    healths.put(0, Health(100)).is_ok()
-        && healths.put(1, Health(200)).is_ok()
-        && healths.put(2, Health(300)).is_ok()
+fn fill<H: Numbered>(healths: &mut MaskedStorage<H>) -> bool {
+    healths.put(0, H::of(100)).is_ok()
+        && healths.put(1, H::of(200)).is_ok()
+        && healths.put(2, H::of(300)).is_ok()
 }
 
 // What is left at the three indices.
-fn left(healths: &MaskedStorage<Health>) -> Option<(i32, i32, i32)> {
+fn left<H: Numbered>(healths: &MaskedStorage<H>) -> Option<(i32, i32, i32)> {
     match (healths.get(0), healths.get(1), healths.get(2)) {
-        (Some(a), Some(b), Some(c)) => Some((a.0, b.0, c.0)),
+        (Some(a), Some(b), Some(c)) => Some((a.number(), b.number(), c.number())),
         _ => None,
     }
 }
@@ -55,7 +55,9 @@ fn three_changes(alloc: Global) -> Result<ChangeSet<i32>, Fail> {
 }
 
 // The changes are subtracted, and stay.
-fn subtracts(world: &mut World<Health, Chosen>) -> Result<bool, Fail> {
+fn subtracts<H: Numbered, B: Component, C: Component>(
+    world: &mut World<H, B, C>,
+) -> Result<bool, Fail> {
     let set = three_changes(world.alloc)?;
     let there = fill(&mut world.first);
     subtract(&mut world.first, &set);
@@ -64,12 +66,14 @@ fn subtracts(world: &mut World<Health, Chosen>) -> Result<bool, Fail> {
 
 #[test]
 fn changes_are_subtracted_from_healths(rt: HostRuntime) -> Result<(), Fail> {
-    assert!(rt; comes_true(rt.alloc(), 0, subtracts)?);
+    assert!(rt; comes_true(rt.alloc(), 0, subtracts::<Position, Number, Chosen>)?);
     Ok(())
 }
 
 // The changes are subtracted, and given up.
-fn subtracts_all(world: &mut World<Health, Chosen>) -> Result<bool, Fail> {
+fn subtracts_all<H: Numbered, B: Component, C: Component>(
+    world: &mut World<H, B, C>,
+) -> Result<bool, Fail> {
     let there = fill(&mut world.first);
     subtract_all(&mut world.first, three_changes(world.alloc)?);
     Ok(there && left(&world.first) == Some((68, 175, 300)))
@@ -77,21 +81,23 @@ fn subtracts_all(world: &mut World<Health, Chosen>) -> Result<bool, Fail> {
 
 #[test]
 fn a_change_set_that_is_given_up_gives_its_changes(rt: HostRuntime) -> Result<(), Fail> {
-    assert!(rt; comes_true(rt.alloc(), 0, subtracts_all)?);
+    assert!(rt; comes_true(rt.alloc(), 0, subtracts_all::<Position, Number, Chosen>)?);
     Ok(())
 }
 
 // The changes by a cursor: of two the second is more than the health beside it.
-fn are_bounded(world: &mut World<Health, Chosen>) -> Result<bool, Fail> {
+fn are_bounded<H: Numbered, B: Component, C: Component>(
+    world: &mut World<H, B, C>,
+) -> Result<bool, Fail> {
     let mut set = three_changes(world.alloc)?;
-    let there = world.first.put(0, Health(100)).is_ok() && world.first.put(1, Health(20)).is_ok();
+    let there = world.first.put(0, H::of(100)).is_ok() && world.first.put(1, H::of(20)).is_ok();
     no_more_than(&mut set, &world.first);
     Ok(there && set.get(0).copied() == Some(32) && set.get(1).copied() == Some(20))
 }
 
 #[test]
 fn a_cursor_lends_the_changes(rt: HostRuntime) -> Result<(), Fail> {
-    assert!(rt; comes_true(rt.alloc(), 0, are_bounded)?);
+    assert!(rt; comes_true(rt.alloc(), 0, are_bounded::<Position, Number, Chosen>)?);
     Ok(())
 }
 

@@ -154,7 +154,13 @@ fn chosen_are_counted<N: Numbered, B: Numbered, C: Component>(
 
 #[test]
 fn entries_are_those_of_the_living(rt: HostRuntime) -> Result<(), Fail> {
-    assert!(rt; comes_true(rt.alloc(), 4, chosen_are_counted::<Number, Position, Chosen>)?);
+    assert!(rt;
+        comes_true(
+            rt.alloc(),
+            4,
+            chosen_are_counted::<Number, Position, Chosen>
+        )?
+    );
     Ok(())
 }
 
@@ -174,7 +180,13 @@ fn numbers_are_summed<N: Numbered, B: Numbered, C: Component>(
 
 #[test]
 fn entries(rt: HostRuntime) -> Result<(), Fail> {
-    assert!(rt; comes_true(rt.alloc(), 30, numbers_are_summed::<Number, Position, Chosen>)?);
+    assert!(rt;
+        comes_true(
+            rt.alloc(),
+            30,
+            numbers_are_summed::<Number, Position, Chosen>
+        )?
+    );
     Ok(())
 }
 
@@ -190,7 +202,13 @@ fn are_shown_and_lent<P: Numbered, V: Numbered, C: Component>(
 
 #[test]
 fn restricted_storage(rt: HostRuntime) -> Result<(), Fail> {
-    assert!(rt; comes_true(rt.alloc(), 4, are_shown_and_lent::<Position, Velocity, Chosen>)?);
+    assert!(rt;
+        comes_true(
+            rt.alloc(),
+            4,
+            are_shown_and_lent::<Position, Velocity, Chosen>
+        )?
+    );
     Ok(())
 }
 
@@ -219,7 +237,13 @@ fn others_are_shown<P: Numbered, V: Numbered, C: Component>(
 
 #[test]
 fn a_restricted_storage_shows_others(rt: HostRuntime) -> Result<(), Fail> {
-    assert!(rt; comes_true(rt.alloc(), 4, others_are_shown::<Position, Velocity, Chosen>)?);
+    assert!(rt;
+        comes_true(
+            rt.alloc(),
+            4,
+            others_are_shown::<Position, Velocity, Chosen>
+        )?
+    );
     Ok(())
 }
 
@@ -274,7 +298,13 @@ fn lends_only_where_it_stands<P: Numbered, V: Numbered, C: Component>(
 
 #[test]
 fn a_cursor_lends_nothing_where_it_does_not_stand(rt: HostRuntime) -> Result<(), Fail> {
-    assert!(rt; comes_true(rt.alloc(), 3, lends_only_where_it_stands::<Position, Velocity, Chosen>)?);
+    assert!(rt;
+        comes_true(
+            rt.alloc(),
+            3,
+            lends_only_where_it_stands::<Position, Velocity, Chosen>
+        )?
+    );
     Ok(())
 }
 
@@ -329,9 +359,7 @@ fn taken<N: Numbered>(item: Result<Option<N>, AllocError>) -> Option<i32> {
 // Of two numbers the second is taken out.
 fn second_is_taken<N: Numbered>(numbers: &mut MaskedStorage<N>) -> bool {
     let mut cursor = numbers.drain();
-    cursor.next() == Some(0)
-        && cursor.next() == Some(1)
-        && taken(cursor.item()) == Some(7)
+    cursor.next() == Some(0) && cursor.next() == Some(1) && taken(cursor.item()) == Some(7)
 }
 
 // An entry, a write and a removal by cursors.
@@ -375,9 +403,7 @@ fn through_a_view<P: Numbered, V: Numbered>(
     }
     let mut cursor = view.drain();
     let other = cursor.next();
-    taken(cursor.item()) == Some(1)
-        && found == Some(1)
-        && other == Some(0)
+    taken(cursor.item()) == Some(1) && found == Some(1) && other == Some(0)
 }
 
 // Through a view: the places of the living, and a look at another's position.

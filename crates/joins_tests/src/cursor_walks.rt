@@ -13,7 +13,10 @@ use std::alloc::{AllocError, Global};
 use storages::{Component, MaskedStorage};
 
 /// Adds its velocity to each position, where there is one.
-pub fn go_on<P: Numbered, V: Numbered>(positions: &mut MaskedStorage<P>, velocities: &MaskedStorage<V>) {
+pub fn go_on<P: Numbered, V: Numbered>(
+    positions: &mut MaskedStorage<P>,
+    velocities: &MaskedStorage<V>,
+) {
     let mut cursor = positions.join_mut(maybe(velocities));
     while let Some(_id) = cursor.next() {
         if let Some(Some(velocity)) = cursor.beside() {

@@ -2,7 +2,7 @@
 ghost use Rattle.std.specs.Prelude.{◌≡◌, ◌++◌, Option, Some, None, Ok, Err, IfOk, IfErr, OnOk, OnErr};
 ghost use Rattle.entities.specs.declared.entity.Entity.{Entity as Being};
 ghost use Rattle.saveload.specs.Conversion.{Conversion, IsFaithful, Answers, AllNamed, IsSavedBy, Refuses};
-ghost use Rattle.saveload.specs.Places.{place};
+ghost use Rattle.saveload.specs.Places.{place, both};
 
 use crate::convert::ConvertSaveload;
 use crate::error::SaveError;
@@ -100,4 +100,28 @@ fn all_named<M: Marker, F: Fn(Entity) -> Option<M>>(
         }
     }
     Ok(())
+}
+
+// The data of a first place, and of the rest of a row.
+pub(crate) fn serialize_with_rest<
+    M: Marker,
+    A: GenericReadStorage,
+    R: SerializeComponents<M>,
+    F: Fn(Entity) -> Option<M>,
+>(
+    alloc: Global,
+    first: &A,
+    rest: &R,
+    entity: Entity,
+    ids: F,
+) -> Result<(Option<<A::Component as ConvertSaveload<M>>::Data>, R::Data), SaveError>
+where
+    A::Component: ConvertSaveload<M>,
+    requires { F.IsAlwaysCallable ids }
+    ensures saved { (g : Being → Option M) → Answers (F.post ids) ((both (place A.Component.conversion) R.conversion).references (A.found first.now entity, R.values rest.now entity)) g → IfOk result (IsSavedBy (both (place A.Component.conversion) R.conversion) g (A.found first.now entity, R.values rest.now entity)) }
+    ensures refused { (g : Being → Option M) → Answers (F.post ids) ((both (place A.Component.conversion) R.conversion).references (A.found first.now entity, R.values rest.now entity)) g → IfErr result (Refuses g ((both (place A.Component.conversion) R.conversion).references (A.found first.now entity, R.values rest.now entity))) }
+{
+    let data = serialize_place(alloc, first, entity, &ids)?;
+    let others = rest.serialize_entity(alloc, entity, &ids)?;
+    Ok((data, others))
 }

@@ -4,7 +4,9 @@ ghost use Rattle.saveload.specs.Tuples.{one_place, one_place_faithful, two_place
 use crate::convert::ConvertSaveload;
 use crate::error::SaveError;
 use crate::marker::Marker;
-use crate::places::{SerializeComponents, place_references, serialize_place};
+use crate::places::{
+    SerializeComponents, place_references, serialize_place, serialize_with_rest,
+};
 use entities::Entity;
 use std::alloc::{AllocError, Global};
 use storages::GenericReadStorage;
@@ -116,11 +118,8 @@ where
         entity: Entity,
         ids: F,
     ) -> Result<Self::Data, SaveError> {
-        let first = serialize_place(alloc, &self.0, entity, &ids)?;
         let others = (&self.1, &self.2);
-        let (second, third) = SerializeComponents::<M>::serialize_entity(
-            &others, alloc, entity, &ids,
-        )?;
+        let (first, (second, third)) = serialize_with_rest(alloc, &self.0, &others, entity, ids)?;
         Ok((first, second, third))
     }
 
@@ -172,11 +171,8 @@ where
         entity: Entity,
         ids: F,
     ) -> Result<Self::Data, SaveError> {
-        let first = serialize_place(alloc, &self.0, entity, &ids)?;
         let others = (&self.1, &self.2, &self.3);
-        let (second, third, fourth) = SerializeComponents::<M>::serialize_entity(
-            &others, alloc, entity, &ids,
-        )?;
+        let (first, (second, third, fourth)) = serialize_with_rest(alloc, &self.0, &others, entity, ids)?;
         Ok((first, second, third, fourth))
     }
 
@@ -232,11 +228,8 @@ where
         entity: Entity,
         ids: F,
     ) -> Result<Self::Data, SaveError> {
-        let first = serialize_place(alloc, &self.0, entity, &ids)?;
         let others = (&self.1, &self.2, &self.3, &self.4);
-        let (second, third, fourth, fifth) = SerializeComponents::<M>::serialize_entity(
-            &others, alloc, entity, &ids,
-        )?;
+        let (first, (second, third, fourth, fifth)) = serialize_with_rest(alloc, &self.0, &others, entity, ids)?;
         Ok((first, second, third, fourth, fifth))
     }
 
@@ -296,11 +289,8 @@ where
         entity: Entity,
         ids: F,
     ) -> Result<Self::Data, SaveError> {
-        let first = serialize_place(alloc, &self.0, entity, &ids)?;
         let others = (&self.1, &self.2, &self.3, &self.4, &self.5);
-        let (second, third, fourth, fifth, sixth) = SerializeComponents::<M>::serialize_entity(
-            &others, alloc, entity, &ids,
-        )?;
+        let (first, (second, third, fourth, fifth, sixth)) = serialize_with_rest(alloc, &self.0, &others, entity, ids)?;
         Ok((first, second, third, fourth, fifth, sixth))
     }
 

@@ -1,25 +1,17 @@
 use Rattle.std.proofs.Common.{rules, ◌≡◌}
 use Rattle.std.specs.Prelude.{Err}
-use Rattle.saveload.specs.Places.{place, both, has_right, if_some}
+use Rattle.saveload.specs.Places.{place, both}
 use Rattle.saveload.specs.Tuples.{five, four_places}
-use Rattle.saveload.proofs.Lists.{answers_left, saved_both, saved_along, refuses_left, refuses_right}
+use Rattle.saveload.proofs.Lists.{saved_along}
 use Rattle.saveload.proofs.serialize_tuples.Tuple5SerializeComponents.serialize_entity.Goals as goal
 
 pub returns-in_err-first-clause-refused : goal.returns-in_err-first-clause-refused
 returns-in_err-first-clause-refused g c n answers =
     let same : c.from_residual.result ≡ Err c.in_err-first.field-0.0 = search rules in
-    rw same (refuses_left n _ _ _ (c.in_err-first.ensures.refused n (answers_left _ _ _ n answers)))
-
-pub returns-in_err-second-clause-refused : goal.returns-in_err-second-clause-refused
-returns-in_err-second-clause-refused g c n answers =
-    let same : c.from_residual-in_err-second.result ≡ Err c.in_err-second.field-0.0 = search rules in
-    rw same (refuses_right n _ _ _ (c.in_ok-first.ensures.saved n (answers_left _ _ _ n answers)).named
-    (c.in_err-second.ensures.refused n (λ x r m p. answers x r (has_right (if_some g.A.Component.ConvertSaveload.conversion.references (g.A.GenericReadStorage.found c.args.self.now.0 c.args.entity)) _ x m) p.1)))
+    rw same (c.in_err-first.ensures.refused n answers)
 
 pub returns-clause-saved : goal.returns-clause-saved
 returns-clause-saved g c n answers =
     let rest = four_places g.B.Component.ConvertSaveload.conversion g.C.Component.ConvertSaveload.conversion g.D.Component.ConvertSaveload.conversion g.E.Component.ConvertSaveload.conversion in
-    saved_along five five (both (place g.A.Component.ConvertSaveload.conversion) rest) n _ (c.in_ok-first.first, (c.in_ok-second.second, c.in_ok-second.third, c.in_ok-second.fourth, c.in_ok-second.fifth))
-    (saved_both (place g.A.Component.ConvertSaveload.conversion) rest n _ _ _ _
-    (c.in_ok-first.ensures.saved n (answers_left _ _ _ n answers))
-    (c.in_ok-second.ensures.saved n (λ x r m p. answers x r (has_right (if_some g.A.Component.ConvertSaveload.conversion.references (g.A.GenericReadStorage.found c.args.self.now.0 c.args.entity)) _ x m) p.1)))
+    saved_along five five (both (place g.A.Component.ConvertSaveload.conversion) rest) n _ (c.in_ok-first.first, (c.in_ok-first.second, c.in_ok-first.third, c.in_ok-first.fourth, c.in_ok-first.fifth))
+    (c.in_ok-first.ensures.saved n answers)
