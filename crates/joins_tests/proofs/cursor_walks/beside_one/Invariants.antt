@@ -2,7 +2,7 @@ use Rattle.std.proofs.Common.{◌≡◌, ◌-◌, ◌^◌}
 use Rattle.joins_tests.proofs.cursor_walks.beside_one.Given as goal
 
 abbrev pub invariant-loop-paired : goal.invariant-loop-paired
-invariant-loop-paired l = l.iter.keys.mask ≡ l.initial.iter.keys.mask
+invariant-loop-paired g l = l.iter.keys.mask ≡ l.initial.iter.keys.mask
 
 abbrev pub decreases-loop-paired : goal.decreases-loop-paired
-decreases-loop-paired l = 64 ^ 4 - l.iter.keys.position
+decreases-loop-paired g l = 64 ^ 4 - l.iter.keys.position
