@@ -9,7 +9,7 @@ check leaves open in that function must be: a clause's name, or the name of anot
 clauses (a loop without an end, a step that a table of shared words forbids), 'says: TEXT' stands in the place of the clause: what the check must say.
 An edit that reaches beyond its function (a constant) has a line 'alone: WHY', and no other edit in its group.
 
-Edits of one crate that change different functions are applied together, so that one check tries up to twenty of them. It checks the functions of
+Edits of one crate that change different functions are applied together, so that one check tries up to sixty of them. It checks the functions of
 the edits and what these call, and no other (`rt check --only`). Each edit is judged by itself: the check must have a line for its function that
 says that it is not proved, for itself and not for a function that it calls, and name the goal.
 A missing step of a proof shows nothing, so a goal is not counted where a proof file only names what the edit took away.
@@ -30,7 +30,7 @@ import sys
 import tempfile
 import threading
 
-GROUP = 20
+GROUP = 60
 LOST = re.compile(r"has no field|is not in scope|has no `|was not admitted|is no name")
 
 
