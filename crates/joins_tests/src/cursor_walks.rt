@@ -1,5 +1,6 @@
 //! Walks of cursors.
 ghost use Rattle.std.specs.Prelude.{◌≡◌};
+ghost use Rattle.joins.specs.Cursor.{storage_name, rest as rest_of_one};
 ghost use Rattle.joins.specs.CursorOfTwo.{first_name, second_name, rest};
 
 use crate::worlds::Numbered;
@@ -7,7 +8,7 @@ use entities::{EntitiesRes, Entity};
 use hibits::BitSetAll;
 use joins::{
     ChangeSet, Drain, EntryJoin, Join, JoinIter, JoinMut, RestrictedStorage, RestrictedStorageMut,
-    WriteJoin2, maybe,
+    WriteJoin, WriteJoin2, maybe,
 };
 use std::alloc::{AllocError, Global};
 use storages::{Component, MaskedStorage};
@@ -43,10 +44,18 @@ pub fn subtract<H: Numbered>(healths: &mut MaskedStorage<H>, changes: &ChangeSet
 pub fn subtract_all<H: Numbered>(healths: &mut MaskedStorage<H>, changes: ChangeSet<i32>) {
     let mut cursor = healths.join_mut(changes);
     while let Some(_id) = cursor.next() {
-        if let Some(change) = cursor.beside() {
-            if let Ok(health) = cursor.item() {
-                health.add(change.wrapping_neg());
-            }
+        subtract_here(&mut cursor);
+    }
+}
+
+// Takes the change at a cursor from the health there.
+fn subtract_here<H: Numbered, J: Join<Type = i32>>(cursor: &mut WriteJoin<'_, H, J>)
+    ensures same_reference { storage_name cursor.new ≡ storage_name cursor.old }
+    ensures rest { rest_of_one cursor.new ≡ rest_of_one cursor.old }
+{
+    if let Some(change) = cursor.beside() {
+        if let Ok(health) = cursor.item() {
+            health.add(change.wrapping_neg());
         }
     }
 }
