@@ -1,17 +1,18 @@
 //! Entries of single indices.
-use crate::components::{InBTree, InVec};
+use crate::components::{InBTree, InVec, Number};
 use crate::kinds::{number_at, put};
 use crate::world::{World, empty};
 use entities::Entity;
+use std::alloc::Global;
 use std::cell::Cell;
 use std::test::Fail;
 use storages::{MaskedStorage, StorageEntry, WriteStorage};
 
 // The number at an entity that lives, or this one, put there by its entry.
-fn or_insert(view: &mut WriteStorage<'_, InVec>, e: Entity, number: u32) -> Option<u32> {
+fn or_insert<T: Number>(view: &mut WriteStorage<'_, T>, e: Entity, number: u32) -> Option<u32> {
     match view.live(e) {
-        Ok(masked) => match masked.entry(e.id()).or_insert(InVec(number)) {
-            Ok(value) => Some(value.0),
+        Ok(masked) => match masked.entry(e.id()).or_insert(T::of(number)) {
+            Ok(value) => Some(value.number()),
             Err(_) => None,
         },
         Err(_) => None,
@@ -19,8 +20,8 @@ fn or_insert(view: &mut WriteStorage<'_, InVec>, e: Entity, number: u32) -> Opti
 }
 
 // The same of a closure, which counts its calls.
-fn or_insert_with(
-    view: &mut WriteStorage<'_, InVec>,
+fn or_insert_with<T: Number>(
+    view: &mut WriteStorage<'_, T>,
     e: Entity,
     number: u32,
     calls: &Cell<u32>,
@@ -28,9 +29,9 @@ fn or_insert_with(
     match view.live(e) {
         Ok(masked) => match masked.entry(e.id()).or_insert_with(|| {
             calls.set(calls.get().wrapping_add(1));
-            InVec(number)
+            T::of(number)
         }) {
-            Ok(value) => Some(value.0),
+            Ok(value) => Some(value.number()),
             Err(_) => None,
         },
         Err(_) => None,
@@ -38,11 +39,11 @@ fn or_insert_with(
 }
 
 // The number that the entry of an entity lends, if it is occupied.
-fn occupied(view: &mut WriteStorage<'_, InVec>, e: Entity) -> Option<u32> {
+fn occupied<T: Number>(view: &mut WriteStorage<'_, T>, e: Entity) -> Option<u32> {
     match view.live(e) {
         Ok(masked) => match masked.entry(e.id()) {
             StorageEntry::Occupied(mut entry) => match entry.get_mut() {
-                Ok(value) => Some(value.0),
+                Ok(value) => Some(value.number()),
                 Err(_) => None,
             },
             StorageEntry::Vacant(_entry) => None,
@@ -52,22 +53,26 @@ fn occupied(view: &mut WriteStorage<'_, InVec>, e: Entity) -> Option<u32> {
 }
 
 // Takes the number of an entity out, or puts fifteen there if it has none.
-fn toggle(view: &mut WriteStorage<'_, InVec>, e: Entity) -> bool {
+fn toggle<T: Number>(view: &mut WriteStorage<'_, T>, e: Entity) -> bool {
     match view.live(e) {
         Ok(masked) => match masked.entry(e.id()) {
             StorageEntry::Occupied(entry) => entry.remove().is_ok(),
-            StorageEntry::Vacant(entry) => entry.insert(InVec(15)).is_ok(),
+            StorageEntry::Vacant(entry) => entry.insert(T::of(15)).is_ok(),
         },
         Err(_) => false,
     }
 }
 
 // Replaces the number of an entity by its entry, and answers the one that was there.
-fn replace(view: &mut WriteStorage<'_, InVec>, e: Entity, number: u32) -> Option<Option<u32>> {
+fn replace<T: Number>(
+    view: &mut WriteStorage<'_, T>,
+    e: Entity,
+    number: u32,
+) -> Option<Option<u32>> {
     match view.live(e) {
-        Ok(masked) => match masked.entry(e.id()).replace(InVec(number)) {
+        Ok(masked) => match masked.entry(e.id()).replace(T::of(number)) {
             Ok(replaced) => match replaced.before {
-                Some(before) => Some(Some(before.0)),
+                Some(before) => Some(Some(before.number())),
                 None => Some(None),
             },
             Err(_) => None,
@@ -77,7 +82,11 @@ fn replace(view: &mut WriteStorage<'_, InVec>, e: Entity, number: u32) -> Option
 }
 
 // Basic use, and closures, which are called only where there is none; each is occupied then.
-fn basic_use(view: &mut WriteStorage<'_, InVec>, list: &[Entity], calls: &Cell<u32>) -> bool {
+fn basic_use<T: Number>(
+    view: &mut WriteStorage<'_, T>,
+    list: &[Entity],
+    calls: &Cell<u32>,
+) -> bool {
     list.len() == 8
         && or_insert(view, list[0], 5) == Some(5)
         && or_insert(view, list[1], 5) == Some(10)
@@ -92,7 +101,7 @@ fn basic_use(view: &mut WriteStorage<'_, InVec>, list: &[Entity], calls: &Cell<u
 }
 
 // Occupied and vacant change places, and what is replaced is answered.
-fn swapped_and_replaced(view: &mut WriteStorage<'_, InVec>, list: &[Entity]) -> bool {
+fn swapped_and_replaced<T: Number>(view: &mut WriteStorage<'_, T>, list: &[Entity]) -> bool {
     list.len() == 8
         && toggle(view, list[4])
         && toggle(view, list[5])
@@ -105,46 +114,84 @@ fn swapped_and_replaced(view: &mut WriteStorage<'_, InVec>, list: &[Entity]) -> 
         && number_at(view, list[7]) == Some(11)
 }
 
-#[test]
-fn storage_entry(rt: HostRuntime) -> Result<(), Fail> {
-    let mut world = World::<InVec>::of(rt.alloc(), 8)?;
-    let (mut view, list) = world.parts();
+// Every second entity has ten from the start.
+fn put_tens<T: Number>(view: &mut WriteStorage<'_, T>, list: &[Entity]) -> bool {
     for e in list {
-        if e.id() % 2 == 1 {
-            assert_eq!(rt; put(&mut view, *e, 10), Some(None));
+        if e.id() % 2 == 1 && put(view, *e, 10) != Some(None) {
+            return false;
         }
     }
+    true
+}
+
+// Entries of entities with and without a number.
+fn entries<T: Number>(alloc: Global) -> Result<bool, Fail> {
+    let mut world = World::<T>::of(alloc, 8)?;
+    let (mut view, list) = world.parts();
     let calls = Cell::new(0);
-    assert!(rt; basic_use(&mut view, list, &calls));
-    assert!(rt; swapped_and_replaced(&mut view, list));
+    Ok(
+        put_tens(&mut view, list)
+            && basic_use(&mut view, list, &calls)
+            && swapped_and_replaced(&mut view, list),
+    )
+}
+
+#[test]
+fn storage_entry(rt: HostRuntime) -> Result<(), Fail> {
+    assert!(rt; entries::<InVec>(rt.alloc())?);
     Ok(())
 }
 
-// The entry of an index that has a component: read, replaced, lent, lent for good, and taken out.
-fn occupied_entry(masked: &mut MaskedStorage<InBTree>) -> Result<bool, Fail> {
-    let put = masked.put(3, InBTree(10)).is_ok();
-    let written = match masked.entry(3) {
-        StorageEntry::Occupied(mut entry) => {
-            let before = entry.get().0 == 10 && entry.insert(InBTree(15)).is_ok();
-            entry.get_mut()?.0 = 16;
-            before && entry.get().0 == 16
-        }
-        StorageEntry::Vacant(_entry) => false,
-    };
+// Ten is read and replaced, and fifteen lent and read.
+fn written<T: Number>(masked: &mut MaskedStorage<T>) -> Result<bool, Fail> {
     match masked.entry(3) {
-        StorageEntry::Occupied(entry) => entry.into_mut()?.0 = 17,
-        StorageEntry::Vacant(_entry) => return Ok(false),
+        StorageEntry::Occupied(mut entry) => {
+            let before = entry.get().number() == 10 && entry.insert(T::of(15)).is_ok();
+            entry.get_mut()?.add(1);
+            Ok(before && entry.get().number() == 16)
+        }
+        StorageEntry::Vacant(_entry) => Ok(false),
     }
-    let taken = match masked.entry(3) {
-        StorageEntry::Occupied(entry) => entry.remove()?.0 == 17,
-        StorageEntry::Vacant(_entry) => false,
-    };
-    Ok(put && written && taken && !masked.contains(3))
+}
+
+// One more through what is lent for good.
+fn lent<T: Number>(masked: &mut MaskedStorage<T>) -> Result<bool, Fail> {
+    match masked.entry(3) {
+        StorageEntry::Occupied(entry) => {
+            entry.into_mut()?.add(1);
+            Ok(true)
+        }
+        StorageEntry::Vacant(_entry) => Ok(false),
+    }
+}
+
+// The number that is taken out.
+fn taken<T: Number>(masked: &mut MaskedStorage<T>) -> Result<Option<u32>, Fail> {
+    match masked.entry(3) {
+        StorageEntry::Occupied(entry) => Ok(Some(entry.remove()?.number())),
+        StorageEntry::Vacant(_entry) => Ok(None),
+    }
+}
+
+// The entry of an index that has a component: read, replaced, lent, lent for good, and taken out.
+fn occupied_entry<T: Number>(masked: &mut MaskedStorage<T>) -> Result<bool, Fail> {
+    Ok(
+        masked.put(3, T::of(10)).is_ok()
+            && written(masked)?
+            && lent(masked)?
+            && taken(masked)? == Some(17)
+            && !masked.contains(3),
+    )
+}
+
+// The entry of an index of a new storage.
+fn occupied_of_new<T: Number>(alloc: Global) -> Result<bool, Fail> {
+    let mut masked = empty::<T>(alloc)?;
+    occupied_entry(&mut masked)
 }
 
 #[test]
 fn occupied_entries(rt: HostRuntime) -> Result<(), Fail> {
-    let mut masked = empty::<InBTree>(rt.alloc())?;
-    assert!(rt; occupied_entry(&mut masked)?);
+    assert!(rt; occupied_of_new::<InBTree>(rt.alloc())?);
     Ok(())
 }

@@ -1,12 +1,12 @@
 //! Each kind of storage, and the dense vector.
-use crate::components::{Flag, InBTree, InDefaultVec, InDense, InHash, InVec};
-use crate::kinds::{all_tests, are, number_at, put, put_all, take_out, test_clear};
+use crate::components::{Flag, InBTree, InDefaultVec, InDense, InHash, InVec, Number};
+use crate::kinds::{all_tests, are, number_at, number_in, put, put_all, take_out, test_clear};
 use crate::loans::double_all;
 use crate::world::{World, empty};
 use entities::Entity;
-use std::alloc::AllocError;
+use std::alloc::{AllocError, Global};
 use std::test::Fail;
-use storages::{AnyStorage, MaskedStorage, WriteStorage};
+use storages::{AnyStorage, Component, MaskedStorage, SliceAccess, WriteStorage};
 
 #[test]
 fn vec_storage_meets_all(rt: HostRuntime) -> Result<(), Fail> {
@@ -33,38 +33,58 @@ fn btree_storage_meets_all(rt: HostRuntime) -> Result<(), Fail> {
     all_tests::<InBTree>(&rt, rt.alloc())
 }
 
+// All are inserted, and none is found after `clear`.
+fn are_cleared<T: Component + Copy + Default + Drop>(
+    view: &mut WriteStorage<'_, T>,
+    list: &[Entity],
+) -> bool {
+    test_clear(view, list, T::default())
+}
+
+// Ten entities of a new storage.
+fn is_cleared<T: Component + Copy + Default + Drop>(alloc: Global) -> Result<bool, Fail> {
+    let mut world = World::<T>::of(alloc, 10)?;
+    let (mut view, list) = world.parts();
+    Ok(are_cleared(&mut view, list))
+}
+
 #[test]
 fn dummy_test_clear(rt: HostRuntime) -> Result<(), Fail> {
-    let mut world = World::<Flag>::of(rt.alloc(), 10)?;
-    let (mut view, list) = world.parts();
-    assert!(rt; test_clear(&mut view, list, Flag));
+    assert!(rt; is_cleared::<Flag>(rt.alloc())?);
     Ok(())
 }
 
-#[test]
-fn test_null_insert_twice(rt: HostRuntime) -> Result<(), Fail> {
-    let mut world = World::<Flag>::of(rt.alloc(), 2)?;
-    let (mut view, list) = world.parts();
-    assert_eq!(rt; list.len(), 2);
-    assert!(rt; flag_is_set_twice(&mut view, list[0], list[1])?);
-    Ok(())
-}
-
-// The flag of the first is inserted, replaced, and removed; the other has none.
-fn flag_is_set_twice(
-    view: &mut WriteStorage<'_, Flag>,
+// The component of the first is inserted, replaced, and removed; the other has none.
+fn is_set_twice<T: Component + Default + Drop>(
+    view: &mut WriteStorage<'_, T>,
     e: Entity,
     other: Entity,
 ) -> Result<bool, AllocError> {
-    let first = matches!(view.insert(e, Flag), Ok(None));
-    let second = matches!(view.insert(e, Flag), Ok(Some(_)));
+    let first = matches!(view.insert(e, T::default()), Ok(None));
+    let second = matches!(view.insert(e, T::default()), Ok(Some(_)));
     let lent = view.get_mut(e).is_ok() && view.get(other).is_none();
     let removed = view.remove(e)?.is_some() && view.remove(e)?.is_none();
     Ok(first && second && lent && removed && view.get(e).is_none())
 }
 
+// Of two entities one has a component, twice.
+fn first_is_set_twice<T: Component + Default + Drop>(alloc: Global) -> Result<bool, Fail> {
+    let mut world = World::<T>::of(alloc, 2)?;
+    let (mut view, list) = world.parts();
+    Ok(list.len() == 2 && is_set_twice(&mut view, list[0], list[1])?)
+}
+
+#[test]
+fn test_null_insert_twice(rt: HostRuntime) -> Result<(), Fail> {
+    assert!(rt; first_is_set_twice::<Flag>(rt.alloc())?);
+    Ok(())
+}
+
 // The last value moves to the place of the one that was taken out.
-fn the_last_is_moved(masked: &mut MaskedStorage<InDense>) -> Result<bool, AllocError> {
+fn the_last_is_moved<T: Number>(masked: &mut MaskedStorage<T>) -> Result<bool, AllocError>
+where
+    T::Storage: SliceAccess<T, Element = T>,
+{
     let filled = put_all(masked, &[(0, 1), (1, 2), (2, 3)]);
     let moved = take_out(masked, 0) == Some(1) && are(masked.as_slice(), &[3, 2]);
     masked.clear()?;
@@ -72,7 +92,10 @@ fn the_last_is_moved(masked: &mut MaskedStorage<InDense>) -> Result<bool, AllocE
 }
 
 // The values of indices that are far apart have no gaps.
-fn far_indices_lie_close(masked: &mut MaskedStorage<InDense>) -> bool {
+fn far_indices_lie_close<T: Number>(masked: &mut MaskedStorage<T>) -> bool
+where
+    T::Storage: SliceAccess<T, Element = T>,
+{
     put_all(masked, &[(0, 1), (4095, 2), (4096, 3), (16_777_215, 4)])
         && take_out(masked, 4095) == Some(2)
         && are(masked.as_slice(), &[1, 4, 3])
@@ -82,38 +105,48 @@ fn far_indices_lie_close(masked: &mut MaskedStorage<InDense>) -> bool {
         && are(masked.as_slice(), &[3, 4, 5])
 }
 
-// What is written to the slice is found at the indices.
-fn all_are_doubled(masked: &mut MaskedStorage<InDense>) -> bool {
-    let filled = put_all(masked, &[(0, 0), (1, 1), (2, 2), (3, 3)]);
-    let taken = take_out(masked, 1) == Some(1);
+// The numbers that are to be doubled, without the one that is taken out.
+fn three_are_left<T: Number>(masked: &mut MaskedStorage<T>) -> bool {
+    put_all(masked, &[(0, 0), (1, 1), (2, 2), (3, 3)]) && take_out(masked, 1) == Some(1)
+}
+
+// What was written to the slice is found at the indices.
+fn three_are_doubled<T: Number>(masked: &MaskedStorage<T>) -> bool
+where
+    T::Storage: SliceAccess<T, Element = T>,
+{
+    are(masked.as_slice(), &[0, 6, 4])
+        && number_in(masked, 3) == Some(6)
+        && number_in(masked, 2) == Some(4)
+        && number_in(masked, 1).is_none()
+}
+
+// Values move, and lie close.
+fn are_moved_and_close<T: Number>(masked: &mut MaskedStorage<T>) -> Result<bool, AllocError>
+where
+    T::Storage: SliceAccess<T, Element = T>,
+{
+    let close = the_last_is_moved(masked)? && far_indices_lie_close(masked);
+    masked.clear()?;
+    Ok(close)
+}
+
+// Values move, lie close, and are all written to.
+fn slices(masked: &mut MaskedStorage<InDense>) -> Result<bool, AllocError> {
+    let left = are_moved_and_close(masked)? && three_are_left(masked);
     double_all(masked);
-    filled
-        && taken
-        && are(masked.as_slice(), &[0, 6, 4])
-        && matches!(masked.get(3), Some(InDense(6)))
-        && matches!(masked.get(2), Some(InDense(4)))
-        && masked.get(1).is_none()
+    Ok(left && three_are_doubled(masked))
 }
 
 #[test]
 fn dense_slices(rt: HostRuntime) -> Result<(), Fail> {
     let mut masked = empty::<InDense>(rt.alloc())?;
-    assert!(rt; the_last_is_moved(&mut masked)?);
-    assert!(rt; far_indices_lie_close(&mut masked));
-    masked.clear()?;
-    assert!(rt; all_are_doubled(&mut masked));
+    assert!(rt; slices(&mut masked)?);
     Ok(())
 }
 
-#[test]
-fn insert_same_key(rt: HostRuntime) -> Result<(), Fail> {
-    let mut world = World::<InVec>::of(rt.alloc(), 10_000)?;
-    let (mut view, list) = world.parts();
-    assert!(rt; are_inserted_twice(&mut view, list));
-    Ok(())
-}
-
-fn are_inserted_twice(view: &mut WriteStorage<'_, InVec>, list: &[Entity]) -> bool {
+// Each gets 0 and then its index.
+fn are_inserted_twice<T: Number>(view: &mut WriteStorage<'_, T>, list: &[Entity]) -> bool {
     for e in list {
         if put(view, *e, 0) != Some(None)
             || put(view, *e, e.id()) != Some(Some(0))
@@ -125,20 +158,51 @@ fn are_inserted_twice(view: &mut WriteStorage<'_, InVec>, list: &[Entity]) -> bo
     true
 }
 
-#[test]
-fn drops_a_list(rt: HostRuntime) -> Result<(), Fail> {
-    let mut world = World::<InHash>::of(rt.alloc(), 4)?;
+// Ten thousand entities of a new storage.
+fn ten_thousand_twice<T: Number>(alloc: Global) -> Result<bool, Fail> {
+    let mut world = World::<T>::of(alloc, 10_000)?;
     let (mut view, list) = world.parts();
-    assert_eq!(rt; list.len(), 4);
-    let gone = [list[0], list[2], list[0], list[3]];
-    assert!(rt; are_dropped(view.masked_mut(), &gone)?);
+    Ok(are_inserted_twice(&mut view, list))
+}
+
+#[test]
+fn insert_same_key(rt: HostRuntime) -> Result<(), Fail> {
+    assert!(rt; ten_thousand_twice::<InVec>(rt.alloc())?);
     Ok(())
 }
 
 // Of three indices the first and the third are dropped.
-fn are_dropped(masked: &mut MaskedStorage<InHash>, gone: &[Entity]) -> Result<bool, AllocError> {
+fn are_dropped<T: Number>(
+    masked: &mut MaskedStorage<T>,
+    gone: &[Entity],
+) -> Result<bool, AllocError> {
     let filled = put_all(masked, &[(0, 0), (1, 1), (2, 2)]);
     AnyStorage::reserve_drop(masked, gone)?;
     AnyStorage::drop(masked, gone);
     Ok(filled && !masked.contains(0) && masked.contains(1) && !masked.contains(2))
+}
+
+// The list names an entity twice, and one that has no component.
+fn first_and_third_are_dropped<T: Number>(
+    masked: &mut MaskedStorage<T>,
+    list: &[Entity],
+) -> Result<bool, AllocError> {
+    if list.len() != 4 {
+        return Ok(false);
+    }
+    let gone = [list[0], list[2], list[0], list[3]];
+    are_dropped(masked, gone.as_slice())
+}
+
+// Four entities of a new storage.
+fn listed<T: Number>(alloc: Global) -> Result<bool, Fail> {
+    let mut world = World::<T>::of(alloc, 4)?;
+    let (mut view, list) = world.parts();
+    Ok(first_and_third_are_dropped(view.masked_mut(), list)?)
+}
+
+#[test]
+fn drops_a_list(rt: HostRuntime) -> Result<(), Fail> {
+    assert!(rt; listed::<InHash>(rt.alloc())?);
+    Ok(())
 }

@@ -78,6 +78,14 @@ pub fn take_out<T: Number>(masked: &mut MaskedStorage<T>, id: u32) -> Option<u32
     }
 }
 
+/// The number of an index.
+pub fn number_in<T: Number>(masked: &MaskedStorage<T>, id: u32) -> Option<u32> {
+    match masked.get(id) {
+        Some(value) => Some(value.number()),
+        None => None,
+    }
+}
+
 /// Whether these are the numbers.
 pub fn are<T: Number>(values: &[T], numbers: &[u32]) -> bool {
     values.len() == numbers.len()
@@ -225,16 +233,25 @@ pub fn test_clear<T: Component + Copy + Drop>(
     true
 }
 
-// An index beyond the last, one below it, one that was left, and one with a component, each by each way to put one there.
-fn test_places<T: Number>(masked: &mut MaskedStorage<T>) -> bool {
+// An index beyond the last, one below it, and one that was left.
+fn test_put_places<T: Number>(masked: &mut MaskedStorage<T>) -> bool {
     put_all(masked, &[(7, 70), (2, 20), (9, 90)])
         && take_out(masked, 2) == Some(20)
         && put_all(masked, &[(2, 21), (2, 22)])
-        && masked.get_mut(7).is_ok()
+}
+
+// Two indices with a component and one without, which then has 0, until it is taken out.
+fn test_lent_places<T: Number>(masked: &mut MaskedStorage<T>) -> bool {
+    masked.get_mut(7).is_ok()
         && masked.get_mut_or_default(9).is_ok()
         && masked.get_mut_or_default(4).is_ok()
         && take_out(masked, 4) == Some(0)
         && !masked.contains(4)
+}
+
+// One index gets a component, and one loses its own, of which two are left.
+fn test_left_places<T: Number>(masked: &mut MaskedStorage<T>) -> bool {
+    !masked.contains(4)
         && masked.insert_mut(4, T::of(50)).is_ok()
         && masked.drop(9).is_ok()
         && masked.drop(9).is_ok()
@@ -242,6 +259,11 @@ fn test_places<T: Number>(masked: &mut MaskedStorage<T>) -> bool {
         && take_out(masked, 4).is_none()
         && masked.reserve_events(3).is_ok()
         && masked.count() == 2
+}
+
+// Places of each kind, each by each way to put a component there.
+fn test_places<T: Number>(masked: &mut MaskedStorage<T>) -> bool {
+    test_put_places(masked) && test_lent_places(masked) && test_left_places(masked)
 }
 
 // A test.

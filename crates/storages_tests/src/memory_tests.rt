@@ -1,16 +1,17 @@
 //! Calls that may want memory, each with ample memory.
-use crate::components::InDense;
+use crate::components::{InDense, Number};
+use crate::kinds::number_in;
 use crate::world::empty;
 use entities::{EntitiesRes, Entity};
-use std::alloc::AllocError;
+use std::alloc::{AllocError, Global};
 use std::test::Fail;
 use storages::{MaskedStorage, WithComponent};
 
 // A new entity with one number, and then another.
-fn built(entities: &mut EntitiesRes, masked: &mut MaskedStorage<InDense>) -> Option<Entity> {
+fn built<T: Number>(entities: &mut EntitiesRes, masked: &mut MaskedStorage<T>) -> Option<Entity> {
     match entities.build_entity() {
-        Ok(builder) => match builder.with(masked, InDense(6)) {
-            Ok(builder) => match builder.with(masked, InDense(7)) {
+        Ok(builder) => match builder.with(masked, T::of(6)) {
+            Ok(builder) => match builder.with(masked, T::of(7)) {
                 Ok(builder) => Some(builder.build()),
                 Err(_) => None,
             },
@@ -20,38 +21,54 @@ fn built(entities: &mut EntitiesRes, masked: &mut MaskedStorage<InDense>) -> Opt
     }
 }
 
+// The entity lives, and has the other number.
+fn is_built<T: Number>(alloc: Global) -> Result<bool, Fail> {
+    let mut entities = EntitiesRes::new(alloc);
+    let mut masked = empty::<T>(alloc)?;
+    let e = built(&mut entities, &mut masked).ok_or("refused")?;
+    Ok(entities.is_alive(e) && number_in(&masked, e.id()) == Some(7))
+}
+
 #[test]
 fn a_builder_puts_its_component(rt: HostRuntime) -> Result<(), Fail> {
-    let mut entities = EntitiesRes::new(rt.alloc());
-    let mut masked = empty::<InDense>(rt.alloc())?;
-    let e = built(&mut entities, &mut masked).ok_or("refused")?;
-    assert!(rt; entities.is_alive(e));
-    assert!(rt; matches!(masked.get(e.id()), Some(InDense(7))));
+    assert!(rt; is_built::<InDense>(rt.alloc())?);
     Ok(())
 }
 
-// A number is inserted and lent, lent again, and taken out.
-fn lent_and_taken(masked: &mut MaskedStorage<InDense>) -> Result<bool, AllocError> {
+// A number is inserted and lent.
+fn inserted<T: Number>(masked: &mut MaskedStorage<T>) -> bool {
     if masked.contains(3) {
-        return Ok(false);
+        return false;
     }
-    match masked.insert_mut(3, InDense(1)) {
-        Ok(value) => value.0 = 2,
-        Err(_) => return Ok(false),
+    match masked.insert_mut(3, T::of(1)) {
+        Ok(value) => {
+            value.add(1);
+            true
+        }
+        Err(_) => false,
     }
+}
+
+// A number is lent again, and taken out.
+fn lent_and_taken<T: Number>(masked: &mut MaskedStorage<T>) -> Result<bool, AllocError> {
     if !masked.contains(3) {
         return Ok(false);
     }
-    masked.present_mut(3)?.0 = 5;
+    masked.present_mut(3)?.add(3);
     if !masked.contains(3) {
         return Ok(false);
     }
-    Ok(masked.remove_present(3)?.0 == 5 && masked.is_empty())
+    Ok(masked.remove_present(3)?.number() == 5 && masked.is_empty())
+}
+
+// A number that comes and goes.
+fn comes_and_goes<T: Number>(alloc: Global) -> Result<bool, Fail> {
+    let mut masked = empty::<T>(alloc)?;
+    Ok(inserted(&mut masked) && lent_and_taken(&mut masked)?)
 }
 
 #[test]
 fn a_component_is_inserted_lent_and_taken_out(rt: HostRuntime) -> Result<(), Fail> {
-    let mut masked = empty::<InDense>(rt.alloc())?;
-    assert!(rt; lent_and_taken(&mut masked)?);
+    assert!(rt; comes_and_goes::<InDense>(rt.alloc())?);
     Ok(())
 }

@@ -3,13 +3,13 @@ use crate::components::{InVec, Number, Shared};
 use crate::kinds::{fill, put_all, take_out};
 use crate::world::{World, empty};
 use entities::Entity;
-use std::alloc::AllocError;
+use std::alloc::{AllocError, Global};
 use std::rc::Rc;
 use std::test::Fail;
-use storages::MaskedStorage;
+use storages::{MaskedStorage, SliceAccess};
 
 // Whether there is a component at each place.
-fn are_some(values: &[Option<InVec>], wanted: &[bool]) -> bool {
+fn are_some<T: Number>(values: &[Option<T>], wanted: &[bool]) -> bool {
     values.len() == wanted.len()
         && values
             .iter()
@@ -18,7 +18,7 @@ fn are_some(values: &[Option<InVec>], wanted: &[bool]) -> bool {
 }
 
 // Whether each place has the number of its entity, its index and `more`.
-fn are_at_places(values: &[Option<InVec>], list: &[Entity], more: u32) -> bool {
+fn are_at_places<T: Number>(values: &[Option<T>], list: &[Entity], more: u32) -> bool {
     values.len() == list.len()
         && values.iter().zip(list).all(|(
             value,
@@ -26,47 +26,56 @@ fn are_at_places(values: &[Option<InVec>], list: &[Entity], more: u32) -> bool {
         )| matches!(value, Some(v) if v.number() == e.id().wrapping_add(more)))
 }
 
+// A thousand lie at the places of their entities.
+fn lie_at_places<T: Number>(alloc: Global) -> Result<bool, Fail>
+where
+    T::Storage: SliceAccess<T, Element = Option<T>>,
+{
+    let mut world = World::<T>::of(alloc, 1000)?;
+    let (mut view, list) = world.parts();
+    Ok(
+        list.len() == 1000
+            && fill(&mut view, list, 2718)
+            && are_at_places(view.as_slice(), list, 2718),
+    )
+}
+
 #[test]
 fn vec_test_maybeuninit_slice(rt: HostRuntime) -> Result<(), Fail> {
-    let mut world = World::<InVec>::of(rt.alloc(), 1000)?;
-    let (mut view, list) = world.parts();
-    assert_eq!(rt; list.len(), 1000);
-    assert!(rt; fill(&mut view, list, 2718));
-    assert!(rt; are_at_places(view.as_slice(), list, 2718));
+    assert!(rt; lie_at_places::<InVec>(rt.alloc())?);
     Ok(())
 }
 
-#[test]
-fn vector_slice_has_options(rt: HostRuntime) -> Result<(), Fail> {
-    let mut masked = empty::<InVec>(rt.alloc())?;
-    assert!(rt; slice_stays_as_long(&mut masked));
-    Ok(())
-}
-
-fn slice_stays_as_long(masked: &mut MaskedStorage<InVec>) -> bool {
+// The place of a component that is taken out stays, and has none.
+fn slice_stays_as_long<T: Number>(masked: &mut MaskedStorage<T>) -> bool
+where
+    T::Storage: SliceAccess<T, Element = Option<T>>,
+{
     put_all(masked, &[(2, 5)])
         && are_some(masked.as_slice(), &[false, false, true])
         && take_out(masked, 2) == Some(5)
         && are_some(masked.as_slice(), &[false, false, false])
 }
 
+// The slice of a new storage.
+fn options<T: Number>(alloc: Global) -> Result<bool, Fail>
+where
+    T::Storage: SliceAccess<T, Element = Option<T>>,
+{
+    let mut masked = empty::<T>(alloc)?;
+    Ok(slice_stays_as_long(&mut masked))
+}
+
 #[test]
-fn vec_arc(rt: HostRuntime) -> Result<(), Fail> {
-    let first = Rc::new(rt.alloc(), 7)?;
-    let mut masked = empty::<Shared<u32>>(rt.alloc())?;
-    assert!(rt; are_shared(&mut masked, &first)?);
-    assert_eq!(rt; Rc::strong_count(&first), 101);
-    masked.drop(1)?;
-    assert_eq!(rt; Rc::strong_count(&first), 100);
-    masked.clear()?;
-    assert_eq!(rt; Rc::strong_count(&first), 1);
+fn vector_slice_has_options(rt: HostRuntime) -> Result<(), Fail> {
+    assert!(rt; options::<InVec>(rt.alloc())?);
     Ok(())
 }
 
 // A hundred share the value, one of which is replaced.
-fn are_shared(
-    masked: &mut MaskedStorage<Shared<u32>>,
-    first: &Rc<u32>,
+fn are_shared<T: Drop>(
+    masked: &mut MaskedStorage<Shared<T>>,
+    first: &Rc<T>,
 ) -> Result<bool, AllocError> {
     for id in 0..100u32 {
         if masked.put(2 * id + 1, Shared(first.clone()?)).is_err() {
@@ -74,4 +83,29 @@ fn are_shared(
         }
     }
     Ok(masked.put(1, Shared(first.clone()?)).is_ok())
+}
+
+// Each component that is let go gives its share of the value up.
+fn shares_are_given_up<T: Drop>(
+    masked: &mut MaskedStorage<Shared<T>>,
+    first: &Rc<T>,
+) -> Result<bool, AllocError> {
+    let all = are_shared(masked, first)? && Rc::strong_count(first) == 101;
+    masked.drop(1)?;
+    let one_less = Rc::strong_count(first) == 100;
+    masked.clear()?;
+    Ok(all && one_less && Rc::strong_count(first) == 1)
+}
+
+// A value that the components of a new storage share.
+fn is_shared<T: Drop>(alloc: Global, value: T) -> Result<bool, Fail> {
+    let first = Rc::new(alloc, value)?;
+    let mut masked = empty::<Shared<T>>(alloc)?;
+    Ok(shares_are_given_up(&mut masked, &first)?)
+}
+
+#[test]
+fn vec_arc(rt: HostRuntime) -> Result<(), Fail> {
+    assert!(rt; is_shared(rt.alloc(), 7u32)?);
+    Ok(())
 }

@@ -1,34 +1,50 @@
 //! Views beside entities that die.
-use crate::components::{Flag, InHash, InVec};
+use crate::components::{Flag, InHash, InVec, Number};
 use crate::kinds::{number_at, put, take};
-use crate::world::{World, empty};
+use crate::world::World;
 use entities::{EntitiesRes, Entity};
 use hibits::BitSet;
 use std::alloc::Global;
+use std::fmt::{Debug, Display};
 use std::test::Fail;
-use storages::{GenericReadStorage, GenericWriteStorage, InsertError, ReadStorage, WriteStorage};
+use storages::{
+    Component, GenericReadStorage, GenericWriteStorage, InsertError, NotLent, ReadStorage,
+    SliceAccess, WriteStorage,
+};
 
-// The text of the refusal of an insertion.
-fn insertion_refused(
+// Whether a refusal has this text.
+fn says<E: Display>(alloc: Global, refused: &E, wanted: &str) -> Result<bool, Fail> {
+    Ok(format!(in alloc; "{refused}")?.as_str() == wanted)
+}
+
+// Whether a refusal has this text for those who look for faults.
+fn shows<E: Debug>(alloc: Global, refused: &E, wanted: &str) -> Result<bool, Fail> {
+    Ok(format!(in alloc; "{refused:?}")?.as_str() == wanted)
+}
+
+// Whether an insertion is refused with this text.
+fn insertion_says<T: Number>(
     alloc: Global,
-    view: &mut WriteStorage<'_, InVec>,
+    view: &mut WriteStorage<'_, T>,
     e: Entity,
-) -> Result<String, Fail> {
-    match view.insert(e, InVec(1)) {
-        Err(refused) => Ok(format!(in alloc; "{refused}")?),
-        Ok(_) => Err(Fail::from("inserted")),
+    wanted: &str,
+) -> Result<bool, Fail> {
+    match view.insert(e, T::of(1)) {
+        Err(refused) => says(alloc, &refused, wanted),
+        Ok(_) => Ok(false),
     }
 }
 
-// The text of the refusal of an entry.
-fn entry_refused(
+// Whether an entry is refused with this text.
+fn entry_says<T: Number>(
     alloc: Global,
-    view: &mut WriteStorage<'_, InVec>,
+    view: &mut WriteStorage<'_, T>,
     e: Entity,
-) -> Result<String, Fail> {
+    wanted: &str,
+) -> Result<bool, Fail> {
     match view.live(e) {
-        Err(wrong) => Ok(format!(in alloc; "{wrong}")?),
-        Ok(_) => Err(Fail::from("alive")),
+        Err(wrong) => says(alloc, &wrong, wanted),
+        Ok(_) => Ok(false),
     }
 }
 
@@ -42,27 +58,33 @@ fn two_of_an_index(entities: &mut EntitiesRes) -> Result<(Entity, Entity), Fail>
     Ok((first, second))
 }
 
-#[test]
-fn stale_entities_are_told(rt: HostRuntime) -> Result<(), Fail> {
-    let mut entities = EntitiesRes::new(rt.alloc());
-    let (first, second) = two_of_an_index(&mut entities)?;
-    assert_eq!(rt; second, Entity::from_parts(0, 2).ok_or("no generation")?);
-    let mut masked = empty::<InVec>(rt.alloc())?;
-    let mut view = WriteStorage::new(&entities, &mut masked);
-    assert_eq!(rt;
-        insertion_refused(rt.alloc(), &mut view, first)?.as_str(),
-        "Tried to insert component for entity entity Entity(0, Generation(1)), but the generation is no longer valid; it should be Generation(2)"
-    );
-    assert_eq!(rt;
-        entry_refused(rt.alloc(), &mut view, first)?.as_str(),
-        "Tried to attempting to get an entry to a storage entity Entity(0, Generation(1)), but the generation is no longer valid; it should be Generation(-1)"
-    );
-    assert!(rt; reaches_nothing(&mut view, first, second));
-    Ok(())
+// The refusals of a stale entity have texts.
+fn stale_is_told<T: Number>(
+    alloc: Global,
+    view: &mut WriteStorage<'_, T>,
+    stale: Entity,
+) -> Result<bool, Fail> {
+    Ok(
+        insertion_says(
+            alloc,
+            view,
+            stale,
+            "Tried to insert component for entity entity Entity(0, Generation(1)), but the generation is no longer valid; it should be Generation(2)",
+        )? && entry_says(
+            alloc,
+            view,
+            stale,
+            "Tried to attempting to get an entry to a storage entity Entity(0, Generation(1)), but the generation is no longer valid; it should be Generation(-1)",
+        )?,
+    )
 }
 
 // The stale entity finds nothing, before and after the other has a number.
-fn reaches_nothing(view: &mut WriteStorage<'_, InVec>, stale: Entity, other: Entity) -> bool {
+fn reaches_nothing<T: Number>(
+    view: &mut WriteStorage<'_, T>,
+    stale: Entity,
+    other: Entity,
+) -> bool {
     view.get(stale).is_none()
         && put(view, other, 2) == Some(None)
         && view.get(stale).is_none()
@@ -70,34 +92,42 @@ fn reaches_nothing(view: &mut WriteStorage<'_, InVec>, stale: Entity, other: Ent
         && number_at(view, other) == Some(2)
 }
 
+// A stale entity, and another of its index.
+fn stale<T: Number>(alloc: Global) -> Result<bool, Fail> {
+    let mut world = World::<T>::of(alloc, 0)?;
+    let (first, second) = two_of_an_index(&mut world.entities)?;
+    let (mut view, _list) = world.parts();
+    Ok(
+        Entity::from_parts(0, 2) == Some(second)
+            && stale_is_told(alloc, &mut view, first)?
+            && reaches_nothing(&mut view, first, second),
+    )
+}
+
 #[test]
-fn refusals_have_texts(rt: HostRuntime) -> Result<(), Fail> {
-    let none = storages::NotLent::Absent;
-    assert_eq!(rt;
-        format!(in rt.alloc(); "{none}")?.as_str(),
-        "there is no component"
-    );
-    let memory = storages::NotLent::OutOfMemory;
-    assert_eq!(rt;
-        format!(in rt.alloc(); "{memory}")?.as_str(),
-        "out of memory"
-    );
-    let refused = InsertError::OutOfMemory(3u32);
-    assert_eq!(rt;
-        format!(in rt.alloc(); "{refused}")?.as_str(),
-        "out of memory"
-    );
-    assert_eq!(rt;
-        format!(in rt.alloc(); "{refused:?}")?.as_str(),
-        "OutOfMemory(3)"
-    );
+fn stale_entities_are_told(rt: HostRuntime) -> Result<(), Fail> {
+    assert!(rt; stale::<InVec>(rt.alloc())?);
     Ok(())
 }
 
-// Fifty are inserted; every third is lent to write to, and the others are read.
-fn are_marked_and_lent(view: &mut WriteStorage<'_, Flag>, list: &[Entity]) -> bool {
+#[test]
+fn refusals_have_texts(rt: HostRuntime) -> Result<(), Fail> {
+    let alloc = rt.alloc();
+    assert!(rt; says(alloc, &NotLent::Absent, "there is no component")?);
+    assert!(rt; says(alloc, &NotLent::OutOfMemory, "out of memory")?);
+    let refused = InsertError::OutOfMemory(3u32);
+    assert!(rt; says(alloc, &refused, "out of memory")?);
+    assert!(rt; shows(alloc, &refused, "OutOfMemory(3)")?);
+    Ok(())
+}
+
+// All are inserted; every third is lent to write to, and the others are read.
+fn are_marked_and_lent<T: Component + Default + Drop>(
+    view: &mut WriteStorage<'_, T>,
+    list: &[Entity],
+) -> bool {
     for e in list {
-        if view.insert(*e, Flag).is_err() {
+        if view.insert(*e, T::default()).is_err() {
             return false;
         }
     }
@@ -123,82 +153,164 @@ fn members(set: &BitSet) -> u32 {
     count
 }
 
-#[test]
-fn storage_mask(rt: HostRuntime) -> Result<(), Fail> {
-    let mut world = World::<Flag>::of(rt.alloc(), 50)?;
+// Fifty are in the mask.
+fn fifty_are_marked<T: Component + Default + Drop>(alloc: Global) -> Result<bool, Fail> {
+    let mut world = World::<T>::of(alloc, 50)?;
     let (mut view, list) = world.parts();
-    assert!(rt; are_marked_and_lent(&mut view, list));
-    assert_eq!(rt; view.mask().count(), 50);
-    assert_eq!(rt; members(view.mask()), 50);
-    Ok(())
-}
-
-// What a view to read shows of the second of three entities, which alone has a number.
-fn second_is_read(view: &ReadStorage<'_, InVec>, list: &[Entity]) -> Result<bool, Fail> {
-    let other = view.clone()?;
     Ok(
-        list.len() == 3
-            && other.contains(list[1])
-            && !other.contains(list[0])
-            && view.get(list[1]).is_some()
-            && (!view).0.contains(1)
-            && !other.mask().contains(2)
-            && view.as_slice().len() == 2
-            && view.count() == 1
-            && !view.is_empty()
-            && view.fetched_entities().is_alive(list[2]),
+        are_marked_and_lent(&mut view, list)
+            && view.mask().count() == 50
+            && members(view.mask()) == 50,
     )
 }
 
 #[test]
-fn views_to_read(rt: HostRuntime) -> Result<(), Fail> {
-    let mut world = World::<InVec>::of(rt.alloc(), 3)?;
-    let (mut view, list) = world.parts();
-    assert_eq!(rt; list.len(), 3);
-    assert_eq!(rt; put(&mut view, list[1], 1), Some(None));
-    assert!(rt; (!&view).0.contains(1));
-    let (view, list) = world.read();
-    assert!(rt; second_is_read(&view, list)?);
+fn storage_mask(rt: HostRuntime) -> Result<(), Fail> {
+    assert!(rt; fifty_are_marked::<Flag>(rt.alloc())?);
     Ok(())
 }
 
-// Through any view: inserted, replaced, lent, and taken out, once each.
-fn through_any<S: GenericWriteStorage<Component = InHash>>(
+// What a view to read shows of the second of three entities, which alone has a number.
+fn second_is_read<T: Number>(view: &ReadStorage<'_, T>, list: &[Entity]) -> bool
+where
+    T::Storage: SliceAccess<T>,
+{
+    list.len() == 3
+        && view.get(list[1]).is_some()
+        && (!view).0.contains(1)
+        && view.as_slice().len() == 2
+        && view.count() == 1
+        && !view.is_empty()
+        && view.fetched_entities().is_alive(list[2])
+}
+
+// What another view to read shows of them.
+fn second_is_there<T: Number>(other: &ReadStorage<'_, T>, list: &[Entity]) -> bool {
+    list.len() == 3
+        && other.contains(list[1])
+        && !other.contains(list[0])
+        && !other.mask().contains(2)
+}
+
+// The second of three entities gets a number.
+fn second_is_put<T: Number>(view: &mut WriteStorage<'_, T>, list: &[Entity]) -> bool {
+    list.len() == 3 && put(view, list[1], 1) == Some(None) && (!&*view).0.contains(1)
+}
+
+// A view to write, then two to read.
+fn second_is_seen<T: Number>(alloc: Global) -> Result<bool, Fail>
+where
+    T::Storage: SliceAccess<T>,
+{
+    let mut world = World::<T>::of(alloc, 3)?;
+    let (mut view, list) = world.parts();
+    let there = second_is_put(&mut view, list);
+    let (view, list) = world.read();
+    let other = view.clone()?;
+    Ok(there && second_is_read(&view, list) && second_is_there(&other, list))
+}
+
+#[test]
+fn views_to_read(rt: HostRuntime) -> Result<(), Fail> {
+    assert!(rt; second_is_seen::<InVec>(rt.alloc())?);
+    Ok(())
+}
+
+// The number that any view lends, which is 0 where there was none.
+fn lent_or_default<T: Number, S: GenericWriteStorage<Component = T>>(
+    view: &mut S,
+    e: Entity,
+) -> Option<u32> {
+    match view.get_mut_or_default(e) {
+        Ok(value) => Some(value.number()),
+        Err(_) => None,
+    }
+}
+
+// Inserts a number through any view, and answers the one that was there, if the insertion was not refused.
+fn put_through<T: Number, S: GenericWriteStorage<Component = T>>(
+    view: &mut S,
+    e: Entity,
+    number: u32,
+) -> Option<Option<u32>> {
+    match view.insert(e, T::of(number)) {
+        Ok(Some(old)) => Some(Some(old.number())),
+        Ok(None) => Some(None),
+        Err(_) => None,
+    }
+}
+
+// Adds one through any view.
+fn add_through<T: Number, S: GenericWriteStorage<Component = T>>(view: &mut S, e: Entity) -> bool {
+    match view.get_mut(e) {
+        Ok(value) => {
+            value.add(1);
+            true
+        }
+        Err(_) => false,
+    }
+}
+
+// Through any view: lent, taken out, inserted, replaced and written to.
+fn through_any<T: Number, S: GenericWriteStorage<Component = T>>(
     view: &mut S,
     e: Entity,
 ) -> Result<bool, Fail> {
-    let new = matches!(view.get_mut_or_default(e), Ok(InHash(0)));
+    let new = lent_or_default(view, e) == Some(0);
     GenericWriteStorage::remove(view, e)?;
     GenericWriteStorage::remove(view, e)?;
-    let inserted = matches!(view.insert(e, InHash(2)), Ok(None));
-    let replaced = matches!(view.insert(e, InHash(3)), Ok(Some(InHash(2))));
-    match view.get_mut(e) {
-        Ok(value) => value.0 = 4,
-        Err(_) => return Ok(false),
-    }
-    let there = matches!(view.get_mut_or_default(e), Ok(InHash(4)));
-    Ok(new && inserted && replaced && there)
+    Ok(
+        new && put_through(view, e, 2) == Some(None)
+            && put_through(view, e, 3) == Some(Some(2))
+            && add_through(view, e)
+            && lent_or_default(view, e) == Some(4),
+    )
 }
 
-fn read<S: GenericReadStorage<Component = InHash>>(view: &S, e: Entity) -> u32 {
+// The number that any view reads, which is 0 where there is none.
+fn read<T: Number, S: GenericReadStorage<Component = T>>(view: &S, e: Entity) -> u32 {
     match view.get(e) {
-        Some(value) => value.0,
+        Some(value) => value.number(),
         None => 0,
     }
 }
 
+// The view itself, and a reference to it, read what was written.
+fn written_is_read<T: Number>(view: &WriteStorage<'_, T>, e: Entity) -> bool {
+    read(view, e) == 4 && read(&view, e) == 4
+}
+
+// A view to read.
+fn read_by_trait<T: Number>(world: &World<T>) -> bool {
+    let (view, list) = world.read();
+    match list.first() {
+        Some(e) => read(&view, *e) == 4,
+        None => false,
+    }
+}
+
+// Through a reference to any view.
+fn through_reference<T: Number, S: GenericWriteStorage<Component = T>>(
+    view: &mut S,
+    e: Entity,
+) -> Result<bool, Fail> {
+    let mut lent = &mut *view;
+    through_any(&mut lent, e)
+}
+
+// Views, each by its trait, and a view to write by a reference too.
+fn by_trait<T: Number>(alloc: Global) -> Result<bool, Fail> {
+    let mut world = World::<T>::of(alloc, 1)?;
+    let (mut view, list) = world.parts();
+    let Some(e) = list.first() else {
+        return Ok(false);
+    };
+    let written = through_reference(&mut view, *e)? && written_is_read(&view, *e);
+    Ok(written && read_by_trait(&world))
+}
+
 #[test]
 fn views_by_trait(rt: HostRuntime) -> Result<(), Fail> {
-    let mut world = World::<InHash>::of(rt.alloc(), 1)?;
-    let (mut view, list) = world.parts();
-    for e in list {
-        assert!(rt; through_any(&mut &mut view, *e)?);
-        assert_eq!(rt; read(&view, *e), 4);
-        assert_eq!(rt; read(&&view, *e), 4);
-    }
-    let (view, list) = world.read();
-    for e in list {
-        assert_eq!(rt; read(&view, *e), 4);
-    }
+    assert!(rt; by_trait::<InHash>(rt.alloc())?);
     Ok(())
 }

@@ -10,7 +10,8 @@ use storages::{Component, MaskedStorage, ReadStorage, TryDefault, WriteStorage};
 /// Entities, and a storage of one component.
 #[derive(Drop)]
 pub struct World<T: Component> {
-    entities: EntitiesRes,
+    /// The entities.
+    pub entities: EntitiesRes,
     list: Vec<Entity>,
     masked: MaskedStorage<T>,
 }
@@ -18,12 +19,12 @@ pub struct World<T: Component> {
 impl<T: Component> World<T> {
     /// So many living entities, from index 0 on, and no component.
     pub fn of(alloc: Global, count: u32) -> Result<Self, Fail> {
-        let mut entities = EntitiesRes::new(alloc);
-        let list = living(alloc, &mut entities, count)?;
+        let masked = empty(alloc)?;
+        let (entities, list) = population(alloc, count)?;
         Ok(World {
             entities,
             list,
-            masked: empty(alloc)?,
+            masked,
         })
     }
 
@@ -47,6 +48,13 @@ fn living(alloc: Global, entities: &mut EntitiesRes, count: u32) -> Result<Vec<E
         list.push(entities.create().ok().ok_or("no entity")?)?;
     }
     Ok(list)
+}
+
+// Entities, so many of which live, from index 0 on.
+fn population(alloc: Global, count: u32) -> Result<(EntitiesRes, Vec<Entity>), Fail> {
+    let mut entities = EntitiesRes::new(alloc);
+    let list = living(alloc, &mut entities, count)?;
+    Ok((entities, list))
 }
 
 /// A storage without components.
