@@ -1,33 +1,19 @@
 //! Components that threads change in their places.
-use crate::components::{OfPlace, filled};
+use crate::components::{Lying, Valued, filled};
 use hibits::{BitSet, Index};
 use joins_parallel::par_for_each;
 use std::alloc::{Alloc, Global};
 use std::test::Fail;
 use std::thread::Threads;
-use storages::{Component, DefaultVecStorage, MaskedStorage};
+use storages::MaskedStorage;
 
-/// A number at its index's place.
-#[derive(Clone, Copy, Default, PartialEq, Eq, Debug)]
-struct Lying(u64);
-
-impl Component for Lying {
-    type Storage = DefaultVecStorage<Self>;
-}
-
-impl OfPlace for Lying {
-    fn of(place: u32) -> Self {
-        Lying(u64::from(place))
-    }
-}
-
-// The multiples of a step, so many.
-fn multiples(alloc: Global, count: u32, step: u32) -> Result<BitSet, Fail> {
-    let mut set = BitSet::new(alloc);
+// Adds the multiples of a step, so many, to a set, and says whether that succeeded.
+fn add_multiples(set: &mut BitSet, count: u32, step: u32) -> bool {
+    let mut done = true;
     for place in 0..count {
-        set.add(place.saturating_mul(step))?;
+        done = done && set.add(place.saturating_mul(step)).is_ok();
     }
-    Ok(set)
+    done
 }
 
 // Adds its index and a thousand to each component at the members of a set.
@@ -42,40 +28,60 @@ fn raise_members(
     par_for_each(rt, storage, members, change).is_ok()
 }
 
-// How many of the first places have what they must: twice the place and a thousand at the multiples of six, the place at other even ones, and
-// nothing at odd ones.
-fn right_places(storage: &MaskedStorage<Lying>, count: u32) -> u32 {
+// What a place must have: twice the place and a thousand at the multiples of six, the place at other even ones, and nothing at odd ones.
+fn wanted(place: u32) -> Option<u64> {
+    let number = u64::from(place / 2);
+    if place % 2 == 1 {
+        None
+    } else if place % 6 == 0 {
+        Some(number.wrapping_add(u64::from(place)).wrapping_add(1000))
+    } else {
+        Some(number)
+    }
+}
+
+// What stands at a place.
+fn found<T: Valued<Value = u64>>(storage: &MaskedStorage<T>, place: u32) -> Option<u64> {
+    match storage.get(place) {
+        Some(component) => Some(component.value()),
+        None => None,
+    }
+}
+
+// How many of the first places have what they must.
+fn right_places<T: Valued<Value = u64>>(storage: &MaskedStorage<T>, count: u32) -> u32 {
     let mut right: u32 = 0;
     for place in 0..count {
-        let number = u64::from(place / 2);
-        let wanted = if place % 2 == 1 {
-            None
-        } else if place % 6 == 0 {
-            Some(Lying(number.wrapping_add(u64::from(place)).wrapping_add(1000)))
-        } else {
-            Some(Lying(number))
-        };
-        if storage.get(place).copied() == wanted {
+        if found(storage, place) == wanted(place) {
             right = right.saturating_add(1);
         }
     }
     right
 }
 
+// Whether the multiples of three alone are changed, so many, in a storage whose components are at even places below a count.
+fn members_are_changed(
+    rt: &(impl Threads + Alloc<A = Global> + Sync),
+    storage: &mut MaskedStorage<Lying>,
+    members: u32,
+    places: u32,
+) -> bool {
+    let mut set = BitSet::new(rt.alloc());
+    add_multiples(&mut set, members, 3)
+        && raise_members(rt, storage, &set)
+        && right_places(storage, places) == places
+}
+
 #[test]
 fn members_alone_are_changed_in_their_places(rt: HostRuntime) -> Result<(), Fail> {
     let mut storage = filled::<Lying>(rt.alloc(), 5000, 2)?;
-    let members = multiples(rt.alloc(), 6000, 3)?;
-    assert!(rt; raise_members(&rt, &mut storage, &members));
-    assert_eq!(rt; right_places(&storage, 10_000), 10_000);
+    assert!(rt; members_are_changed(&rt, &mut storage, 6000, 10_000));
     Ok(())
 }
 
 #[test]
 fn few_places_are_changed_without_threads(rt: HostRuntime) -> Result<(), Fail> {
     let mut storage = filled::<Lying>(rt.alloc(), 10, 2)?;
-    let members = multiples(rt.alloc(), 10, 3)?;
-    assert!(rt; raise_members(&rt, &mut storage, &members));
-    assert_eq!(rt; right_places(&storage, 20), 20);
+    assert!(rt; members_are_changed(&rt, &mut storage, 10, 20));
     Ok(())
 }

@@ -1,130 +1,187 @@
 //! The tests of parallel joins that specs has, over values.
-use crate::components::{CompBool, CompInt, Number, empty, filled};
+use crate::components::{
+    CompBool, CompInt, Number, OfPlace, Valued, all_true, filled, listed, mapped,
+};
 use entities::{EntitiesRes, Entity};
 use hibits::BitSetAll;
 use joins::{IndexedStorage, Join};
 use joins_parallel::{ParJoin, Remake, par_restrict_mut, par_update};
-use std::alloc::{Alloc, Global};
+use std::alloc::{Alloc, AllocError, Global};
 use std::test::Fail;
 use std::thread::Threads;
 use storages::MaskedStorage;
 
-// Three numbers, of which two have a truth beside them: 1 with false, 2 with true, and 3.
-#[derive(Drop)]
-struct Values {
-    ints: MaskedStorage<CompInt>,
-    bools: MaskedStorage<CompBool>,
-}
-
-// Puts them where there is nothing.
-fn put_all(made: &mut Values) -> bool {
-    made.ints.put(0, CompInt(1)).is_ok()
-        && made.ints.put(1, CompInt(2)).is_ok()
-        && made.ints.put(2, CompInt(3)).is_ok()
-        && made.bools.put(0, CompBool(false)).is_ok()
-        && made.bools.put(1, CompBool(true)).is_ok()
-}
-
-fn three_values(alloc: Global) -> Result<Values, Fail> {
-    let mut made = Values {
-        ints: empty(alloc)?,
-        bools: empty(alloc)?,
-    };
-    if !put_all(&mut made) {
-        return Err(Fail::new("refused"));
-    }
-    Ok(made)
-}
-
 // What a join of both gives.
-fn both(
+fn both<I: Valued<Value = i8> + Sync, B: Valued<Value = bool> + Sync>(
     rt: &(impl Threads + Alloc<A = Global> + Sync),
-    made: &Values,
-) -> Result<Vec<(i8, bool)>, Fail> {
-    let join = (&made.ints, &made.bools).par_join();
-    Ok(join.map_collect(rt, |pair: (&CompInt, &CompBool)| -> (i8, bool) {
-        (pair.0.0, pair.1.0)
-    })?)
+    ints: &MaskedStorage<I>,
+    bools: &MaskedStorage<B>,
+) -> Result<Vec<(i8, bool)>, AllocError>
+where
+    I::Storage: Sync,
+    B::Storage: Sync,
+{
+    mapped(rt, (ints, bools), |pair: (&I, &B)| -> (i8, bool) {
+        (pair.0.value(), pair.1.value())
+    })
+}
+
+// Whether a join of both gives each number that has a truth beside it, where of three numbers two have one.
+fn two_are_joined<I: Valued<Value = i8> + Sync, B: Valued<Value = bool> + Sync>(
+    rt: &(impl Threads + Alloc<A = Global> + Sync),
+) -> Result<bool, Fail>
+where
+    I::Storage: Sync,
+    B::Storage: Sync,
+{
+    let ints = listed::<I>(rt.alloc(), &[1, 2, 3])?;
+    let bools = listed::<B>(rt.alloc(), &[false, true])?;
+    let list = both(rt, &ints, &bools)?;
+    Ok(list.as_slice() == [(1, false), (2, true)].as_slice())
 }
 
 #[test]
 fn par_join_two_components(rt: HostRuntime) -> Result<(), Fail> {
-    let made = three_values(rt.alloc())?;
-    let list = both(&rt, &made)?;
-    assert!(rt; list.as_slice() == [(1, false), (2, true)].as_slice());
+    assert!(rt; two_are_joined::<CompInt, CompBool>(&rt)?);
     Ok(())
 }
 
 // What a join of the numbers gives, and of the truths that may be beside them: 2 where there is none.
-fn with_maybe(
+fn with_maybe<I: Valued<Value = i8> + Sync, B: Valued<Value = bool> + Sync>(
     rt: &(impl Threads + Alloc<A = Global> + Sync),
-    made: &Values,
-) -> Result<Vec<(i8, u8)>, Fail> {
-    let join = (&made.ints, (&made.bools).maybe()).par_join();
-    Ok(join.map_collect(rt, |pair: (&CompInt, Option<&CompBool>)| -> (i8, u8) {
-        match pair.1 {
-            Some(truth) => (pair.0.0, if truth.0 { 1 } else { 0 }),
-            None => (pair.0.0, 2),
-        }
-    })?)
+    ints: &MaskedStorage<I>,
+    bools: &MaskedStorage<B>,
+) -> Result<Vec<(i8, u8)>, AllocError>
+where
+    I::Storage: Sync,
+    B::Storage: Sync,
+{
+    mapped(
+        rt,
+        (ints, bools.maybe()),
+        |pair: (&I, Option<&B>)| -> (i8, u8) {
+            match pair.1 {
+                Some(truth) => (pair.0.value(), if truth.value() { 1 } else { 0 }),
+                None => (pair.0.value(), 2),
+            }
+        },
+    )
+}
+
+// Whether such a join gives all three numbers.
+fn three_are_joined<I: Valued<Value = i8> + Sync, B: Valued<Value = bool> + Sync>(
+    rt: &(impl Threads + Alloc<A = Global> + Sync),
+) -> Result<bool, Fail>
+where
+    I::Storage: Sync,
+    B::Storage: Sync,
+{
+    let ints = listed::<I>(rt.alloc(), &[1, 2, 3])?;
+    let bools = listed::<B>(rt.alloc(), &[false, true])?;
+    let list = with_maybe(rt, &ints, &bools)?;
+    Ok(list.as_slice() == [(1, 0), (2, 1), (3, 2)].as_slice())
 }
 
 #[test]
 fn par_join_with_maybe(rt: HostRuntime) -> Result<(), Fail> {
-    let made = three_values(rt.alloc())?;
-    let list = with_maybe(&rt, &made)?;
-    assert!(rt; list.as_slice() == [(1, 0), (2, 1), (3, 2)].as_slice());
+    assert!(rt; three_are_joined::<CompInt, CompBool>(&rt)?);
     Ok(())
 }
 
 // Adds one to each number of an entity.
-fn add_one(
+fn add_one<T: Valued<Value = i8> + Send + Sync>(
     rt: &(impl Threads + Alloc<A = Global> + Sync),
-    ints: &mut MaskedStorage<CompInt>,
+    ints: &mut MaskedStorage<T>,
     entities: &EntitiesRes,
-) -> bool {
-    let made = |int: &CompInt, _entity: Entity| -> Option<CompInt> {
-        Some(CompInt(int.0.wrapping_add(1)))
+) -> bool
+where
+    T::Storage: Sync,
+{
+    let made = |int: &T, _entity: Entity| -> Option<T> {
+        Some(T::new(int.value().wrapping_add(1)))
     };
     par_update(rt, ints, entities, made).is_ok()
 }
 
-// Whether each number of an entity is 127, and there are 1,000 of them.
-fn all_counted(
+// Adds one so often.
+fn add_often<T: Valued<Value = i8> + Send + Sync>(
     rt: &(impl Threads + Alloc<A = Global> + Sync),
-    ints: &MaskedStorage<CompInt>,
+    ints: &mut MaskedStorage<T>,
     entities: &EntitiesRes,
-) -> Result<bool, Fail> {
-    let join = (ints, entities).par_join();
-    let list = join.map_collect(rt, |pair: (&CompInt, Entity)| -> i8 { pair.0.0 })?;
-    let mut all = list.len() == 1000;
-    for number in &list {
-        all = all && *number == 127;
+    count: u32,
+) -> bool
+where
+    T::Storage: Sync,
+{
+    let mut done = true;
+    for _ in 0..count {
+        done = add_one(rt, ints, entities) && done;
     }
-    Ok(all)
+    done
 }
 
-// A thousand entities.
-fn thousand(alloc: Global) -> Result<EntitiesRes, Fail> {
-    let mut entities = EntitiesRes::new(alloc);
-    for _ in 0..1000u32 {
-        if entities.create().is_err() {
-            return Err(Fail::new("refused"));
-        }
+// Whether each number of an entity is 127.
+fn are_highest<T: Valued<Value = i8> + Sync>(
+    rt: &(impl Threads + Alloc<A = Global> + Sync),
+    ints: &MaskedStorage<T>,
+    entities: &EntitiesRes,
+) -> Result<Vec<bool>, AllocError>
+where
+    T::Storage: Sync,
+{
+    mapped(rt, (ints, entities), |pair: (&T, Entity)| -> bool {
+        pair.0.value() == 127
+    })
+}
+
+// Where entities are born.
+trait Birthplace: Drop {
+    // One without entities.
+    fn new(alloc: Global) -> Self;
+
+    // The entities.
+    fn entities(&mut self) -> &mut EntitiesRes;
+}
+
+impl Birthplace for EntitiesRes {
+    fn new(alloc: Global) -> Self {
+        EntitiesRes::new(alloc)
     }
-    Ok(entities)
+
+    fn entities(&mut self) -> &mut EntitiesRes {
+        self
+    }
+}
+
+// A thousand entities are born, and whether that succeeded.
+fn bear_thousand(entities: &mut EntitiesRes) -> bool {
+    let mut done = true;
+    for _ in 0..1000u32 {
+        done = done && entities.create().is_ok();
+    }
+    done
+}
+
+// Whether the lowest number of each entity is the highest after 255 updates.
+fn numbers_are_counted<E: Birthplace, T: OfPlace + Valued<Value = i8> + Send + Sync>(
+    rt: &(impl Threads + Alloc<A = Global> + Sync),
+) -> Result<bool, Fail>
+where
+    T::Storage: Sync,
+{
+    let mut ints = filled::<T>(rt.alloc(), 1000, 1)?;
+    let mut birthplace = E::new(rt.alloc());
+    let entities = birthplace.entities();
+    Ok(
+        bear_thousand(entities)
+            && add_often(rt, &mut ints, entities, 255)
+            && all_true(&are_highest(rt, &ints, entities)?, 1000),
+    )
 }
 
 #[test]
 fn par_join_many_entities_and_systems(rt: HostRuntime) -> Result<(), Fail> {
-    let entities = thousand(rt.alloc())?;
-    let mut ints = filled::<CompInt>(rt.alloc(), 1000, 1)?;
-    let mut done = true;
-    for _ in 0..255u32 {
-        done = add_one(&rt, &mut ints, &entities) && done;
-    }
-    assert!(rt; done);
-    assert!(rt; all_counted(&rt, &ints, &entities)?);
+    assert!(rt; numbers_are_counted::<EntitiesRes, CompInt>(&rt)?);
     Ok(())
 }
 
@@ -132,14 +189,14 @@ fn par_join_many_entities_and_systems(rt: HostRuntime) -> Result<(), Fail> {
 #[derive(Drop)]
 struct HundredMore;
 
-impl Remake<Number, u32> for HundredMore {
+impl<T: Valued<Value = u64>> Remake<T, u32> for HundredMore {
     ghost makes = { λ _ _ _ _. Unit {0} };
 
-    fn remake(&self, paired: &IndexedStorage<'_, Number>, index: u32) -> Option<Number>
+    fn remake(&self, paired: &IndexedStorage<'_, T>, index: u32) -> Option<T>
         ensures { Unit {0} }
     {
         if paired.index() == index {
-            Some(Number(paired.get_unchecked().0.wrapping_add(100)))
+            Some(T::new(paired.get_unchecked().value().wrapping_add(100)))
         } else {
             None
         }
@@ -147,32 +204,48 @@ impl Remake<Number, u32> for HundredMore {
 }
 
 // Whether each number is 100 more than its index.
-fn all_more(
+fn are_more<T: Valued<Value = u64> + Sync>(
     rt: &(impl Threads + Alloc<A = Global> + Sync),
-    storage: &MaskedStorage<Number>,
-) -> Result<bool, Fail> {
-    let join = (storage, BitSetAll).par_join();
-    let list = join.map_collect(rt, |pair: (&Number, u32)| -> bool {
-        pair.0.0 == u64::from(pair.1).wrapping_add(100)
-    })?;
-    let mut all = list.len() == 50;
-    for each in &list {
-        all = all && *each;
-    }
-    Ok(all)
+    storage: &MaskedStorage<T>,
+) -> Result<Vec<bool>, AllocError>
+where
+    T::Storage: Sync,
+{
+    mapped(rt, (storage, BitSetAll), |pair: (&T, u32)| -> bool {
+        pair.0.value() == u64::from(pair.1).wrapping_add(100)
+    })
+}
+
+// Whether each of fifty numbers becomes 100 more.
+fn fifty_become_more<T: OfPlace + Valued<Value = u64> + Send + Sync>(
+    rt: &(impl Threads + Alloc<A = Global> + Sync),
+) -> Result<bool, Fail>
+where
+    T::Storage: Sync,
+{
+    let mut storage = filled::<T>(rt.alloc(), 50, 1)?;
+    Ok(
+        par_restrict_mut(rt, &mut storage, BitSetAll, HundredMore).is_ok()
+            && all_true(&are_more(rt, &storage)?, 50),
+    )
 }
 
 #[test]
 fn par_restricted_storage(rt: HostRuntime) -> Result<(), Fail> {
-    let mut storage = filled::<Number>(rt.alloc(), 50, 1)?;
-    assert!(rt; par_restrict_mut(&rt, &mut storage, BitSetAll, HundredMore).is_ok());
-    assert!(rt; all_more(&rt, &storage)?);
+    assert!(rt; fifty_become_more::<Number>(&rt)?);
     Ok(())
+}
+
+// How many members the mask of fifty numbers has.
+fn members_of_mask<T: OfPlace>(
+    rt: &(impl Threads + Alloc<A = Global> + Sync),
+) -> Result<usize, Fail> {
+    let storage = filled::<T>(rt.alloc(), 50, 1)?;
+    Ok(storage.mask().par_join().count(rt)?)
 }
 
 #[test]
 fn par_storage_mask(rt: HostRuntime) -> Result<(), Fail> {
-    let storage = filled::<Number>(rt.alloc(), 50, 1)?;
-    assert_eq!(rt; storage.mask().par_join().count(&rt)?, 50);
+    assert_eq!(rt; members_of_mask::<Number>(&rt)?, 50);
     Ok(())
 }

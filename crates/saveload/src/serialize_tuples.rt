@@ -4,9 +4,7 @@ ghost use Rattle.saveload.specs.Tuples.{one_place, one_place_faithful, two_place
 use crate::convert::ConvertSaveload;
 use crate::error::SaveError;
 use crate::marker::Marker;
-use crate::places::{
-    SerializeComponents, place_references, serialize_place, serialize_with_rest,
-};
+use crate::places::{SerializeComponents, place_references, serialize_place, serialize_with_rest};
 use entities::Entity;
 use std::alloc::{AllocError, Global};
 use storages::GenericReadStorage;
@@ -172,7 +170,9 @@ where
         ids: F,
     ) -> Result<Self::Data, SaveError> {
         let others = (&self.1, &self.2, &self.3);
-        let (first, (second, third, fourth)) = serialize_with_rest(alloc, &self.0, &others, entity, ids)?;
+        let (first, (second, third, fourth)) = serialize_with_rest(
+            alloc, &self.0, &others, entity, ids,
+        )?;
         Ok((first, second, third, fourth))
     }
 
@@ -229,7 +229,9 @@ where
         ids: F,
     ) -> Result<Self::Data, SaveError> {
         let others = (&self.1, &self.2, &self.3, &self.4);
-        let (first, (second, third, fourth, fifth)) = serialize_with_rest(alloc, &self.0, &others, entity, ids)?;
+        let (first, (second, third, fourth, fifth)) = serialize_with_rest(
+            alloc, &self.0, &others, entity, ids,
+        )?;
         Ok((first, second, third, fourth, fifth))
     }
 
@@ -290,7 +292,9 @@ where
         ids: F,
     ) -> Result<Self::Data, SaveError> {
         let others = (&self.1, &self.2, &self.3, &self.4, &self.5);
-        let (first, (second, third, fourth, fifth, sixth)) = serialize_with_rest(alloc, &self.0, &others, entity, ids)?;
+        let (first, (second, third, fourth, fifth, sixth)) = serialize_with_rest(
+            alloc, &self.0, &others, entity, ids,
+        )?;
         Ok((first, second, third, fourth, fifth, sixth))
     }
 
