@@ -43,4 +43,4 @@ pub use sets::{
 pub use typed::{
     built_with, overwritten, stripped, two_written, written_and_found, written_in_world,
 };
-pub use worlds::{deleted_is_gone, is_back, lived, position, removed_unheard};
+pub use worlds::{Placed, deleted_is_gone, is_back, lived, new_world, position, removed_unheard};

@@ -6,7 +6,8 @@ ghost use Rattle.specs.specs.declared.command.Command.TheVariants.{Insert};
 ghost use Rattle.specs.specs.Reached.{OnlyLiving};
 ghost use Rattle.specs.specs.State.{state_of};
 
-use composed::{Empty, Of5};
+use crate::worlds::new_world;
+use composed::Of5;
 use specs::{Command, EntitiesRes, Entity, Has, Refusal, Storages, World, by_type, slot, value};
 use std::alloc::Global;
 use storages::{
@@ -67,7 +68,7 @@ pub type Game = World<Parts>;
 pub fn new_game(alloc: Global) -> Game
     ensures { OnlyLiving (state_of ⟦<Parts as Storages>⟧.table result) }
 {
-    Game::new(alloc, Parts::empty(alloc))
+    new_world(alloc)
 }
 
 /// The slot of a component type, by the type's name.

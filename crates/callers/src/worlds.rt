@@ -5,8 +5,8 @@ ghost use Rattle.specs.specs.Gone.{IsGone};
 ghost use Rattle.specs.specs.Reached.{OnlyLiving};
 ghost use Rattle.specs.specs.State.{state_of};
 
-use composed::Empty;
-use slots::{POS, Position, Slots};
+use composed::{Both, Either, Empty, Only, Sole};
+use slots::Position;
 use specs::{
     Command, DeleteError, EntitiesRes, Entity, Refusal, Reply, Storages, World, component,
 };
@@ -49,13 +49,23 @@ pub fn is_back<S: Storages>(world: &World<S>, e: Entity) -> bool
     world.is_alive(e)
 }
 
-/// The position of an entity, if it is alive and has one. It is read without memory.
-pub fn position(world: &mut World<Slots>, e: Entity) -> Option<Position> {
-    match world.apply(Command::Get(POS, e)) {
-        Reply::Value(Some(found)) => component::<Position, Slots, _>(found).ok(),
+/// Storages of positions, and of whatever else.
+pub type Placed<B> = Both<Only<Position>, B>;
+
+/// The position of an entity, if it is alive and has one. It is read without memory, since copies of positions take none.
+pub fn position<B: Storages>(world: &mut World<Placed<B>>, e: Entity) -> Option<Position> {
+    match world.apply(Command::Get(Either::First(Sole::Sole), e)) {
+        Reply::Value(Some(found)) => component::<Position, Placed<B>, _>(found).ok(),
         Reply::Value(None) | Reply::Refused(Refusal::Unregistered) => None,
         _ => unreachable!(),
     }
+}
+
+/// A new world, in which each component belongs to a living entity, since there is none.
+pub fn new_world<S: Empty>(alloc: Global) -> World<S>
+    ensures { OnlyLiving (state_of S.table result) }
+{
+    World::new(alloc, S::empty(alloc))
 }
 
 /// A removal of which nobody hears wants no memory.

@@ -1,10 +1,9 @@
 //! The lines of a script.
 use crate::script_job::ScriptJob;
 use crate::sets::set;
-use crate::slot_names::slot;
+use crate::slot_names::Named;
 use crate::values::Worded;
 use crate::words::{entity, index, number};
-use slots::{ID, Slots, Value};
 use specs::{Command, Entity, Job, ReaderId, Storages};
 use std::alloc::{AllocError, Global};
 use std::str;
@@ -31,16 +30,26 @@ pub enum Saving<'a> {
     Load(&'a str),
 }
 
-/// What a line of a script asks for.
-pub type ScriptLine<'a> = Line<'a, Slots, ScriptJob>;
+/// What a line of a script asks for, of whatever storages: it is shorter to prove where they are not known.
+pub type ScriptLine<'a, S> = Line<'a, S, ScriptJob>;
 
 /// What a line without its line feed asks for, if it can be read.
-pub fn read(alloc: Global, line: &[u8]) -> Result<Option<ScriptLine<'_>>, AllocError> {
+pub fn read<S: Storages>(
+    alloc: Global,
+    line: &[u8],
+) -> Result<Option<ScriptLine<'_, S>>, AllocError>
+where
+    S::Slot: Named,
+    S::Value: Worded<S::Slot>,
+{
     let Ok(text) = str::from_utf8(line) else {
         return Ok(None);
     };
     match text.strip_prefix("load ") {
-        Some(saved) => Ok(load(saved).map(|saving| Line::Saving(saving))),
+        Some(saved) => match load(saved) {
+            Some(saving) => Ok(Some(Line::Saving(saving))),
+            None => Ok(None),
+        },
         None => words(alloc, text),
     }
 }
@@ -55,60 +64,100 @@ fn load(text: &str) -> Option<Saving<'_>> {
 }
 
 /// What words ask for that are parted by one space.
-fn words(alloc: Global, text: &str) -> Result<Option<ScriptLine<'_>>, AllocError> {
+fn words<S: Storages>(alloc: Global, text: &str) -> Result<Option<ScriptLine<'_, S>>, AllocError>
+where
+    S::Slot: Named,
+    S::Value: Worded<S::Slot>,
+{
     let mut words = Vec::new(alloc);
     for word in text.split(' ') {
         words.push(word)?;
     }
     match words.as_slice() {
-        ["label", e] => Ok(entity(e).map(|e| Line::Saving(Saving::Label(e)))),
+        ["label", e] => match entity(e) {
+            Some(e) => Ok(Some(Line::Saving(Saving::Label(e)))),
+            None => Ok(None),
+        },
         ["save"] => Ok(Some(Line::Saving(Saving::Save))),
         ["save-all"] => Ok(Some(Line::Saving(Saving::SaveAll))),
-        words => Ok(command(alloc, words)?.map(|command| Line::Command(command))),
+        words => match command(alloc, words)? {
+            Some(command) => Ok(Some(Line::Command(command))),
+            None => Ok(None),
+        },
     }
 }
 
 /// A command of the world.
-fn command(alloc: Global, words: &[&str]) -> Result<Option<Command<Slots, ScriptJob>>, AllocError> {
+fn command<S: Storages>(
+    alloc: Global,
+    words: &[&str],
+) -> Result<Option<Command<S, ScriptJob>>, AllocError>
+where
+    S::Slot: Named,
+    S::Value: Worded<S::Slot>,
+{
     match words {
-        ["delete", rest @ ..] => Ok(entities(alloc, rest)?.map(|list| Command::Delete(list))),
-        ["job", rest @ ..] => Ok(job(rest).map(|job| Command::Queue(job))),
-        ["select", rest @ ..] => Ok(set(alloc, rest)?.map(|set| Command::Select(set))),
+        ["delete", rest @ ..] => match entities(alloc, rest)? {
+            Some(list) => Ok(Some(Command::Delete(list))),
+            None => Ok(None),
+        },
+        ["job", rest @ ..] => match job(rest) {
+            Some(job) => Ok(Some(Command::Queue(job))),
+            None => Ok(None),
+        },
+        ["select", rest @ ..] => match set(alloc, rest)? {
+            Some(set) => Ok(Some(Command::Select(set))),
+            None => Ok(None),
+        },
         words => Ok(plain(words)),
     }
 }
 
 /// A command that holds no list and no set.
-fn plain(words: &[&str]) -> Option<Command<Slots, ScriptJob>> {
+fn plain<S: Storages>(words: &[&str]) -> Option<Command<S, ScriptJob>>
+where
+    S::Slot: Named,
+    S::Value: Worded<S::Slot>,
+{
     match words {
         ["create"] => Some(Command::Create),
         ["create", "pending"] => Some(Command::CreatePending),
         ["delete-all"] => Some(Command::DeleteAll),
-        ["register", s] => Some(Command::Register(slot(s)?)),
+        ["register", s] => Some(Command::Register(S::Slot::named(s)?)),
         ["mark", e] => Some(Command::MarkDead(entity(e)?)),
         ["alive", e] => Some(Command::IsAlive(entity(e)?)),
         ["living", e] => Some(Command::IsLiving(entity(e)?)),
         ["entity", i] => Some(Command::EntityAt(index(i)?)),
-        ["insert", s, e, v] => Some(Command::Insert(entity(e)?, Value::read(slot(s)?, v)?)),
-        ["get", s, e] => Some(Command::Get(slot(s)?, entity(e)?)),
-        ["remove", s, e] => Some(Command::Remove(slot(s)?, entity(e)?)),
-        ["clear", s] => Some(Command::Clear(slot(s)?)),
-        ["count", s] => Some(Command::Count(slot(s)?)),
+        ["insert", s, e, v] => Some(Command::Insert(
+            entity(e)?,
+            S::Value::read(S::Slot::named(s)?, v)?,
+        )),
+        ["get", s, e] => Some(Command::Get(S::Slot::named(s)?, entity(e)?)),
+        ["remove", s, e] => Some(Command::Remove(S::Slot::named(s)?, entity(e)?)),
+        ["clear", s] => Some(Command::Clear(S::Slot::named(s)?)),
+        ["count", s] => Some(Command::Count(S::Slot::named(s)?)),
         ["maintain", n] => Some(Command::Maintain(number(n)?)),
-        ["reader", s] => Some(Command::Reader(slot(s)?)),
-        ["events", s, n] => Some(Command::Events(slot(s)?, ReaderId::of(number(n)?))),
-        ["emit", s, "on"] => Some(Command::Emit(slot(s)?, true)),
-        ["emit", s, "off"] => Some(Command::Emit(slot(s)?, false)),
+        ["reader", s] => Some(Command::Reader(S::Slot::named(s)?)),
+        ["events", s, n] => Some(Command::Events(S::Slot::named(s)?, ReaderId::of(number(n)?))),
+        ["emit", s, "on"] => Some(Command::Emit(S::Slot::named(s)?, true)),
+        ["emit", s, "off"] => Some(Command::Emit(S::Slot::named(s)?, false)),
         _ => None,
     }
 }
 
 /// A job.
-fn job(words: &[&str]) -> Option<Job<Slots, ScriptJob>> {
+fn job<S: Storages>(words: &[&str]) -> Option<Job<S, ScriptJob>>
+where
+    S::Slot: Named,
+    S::Value: Worded<S::Slot>,
+{
     match words {
-        ["insert", s, e, v] => Some(Job::Insert(entity(e)?, Value::read(slot(s)?, v)?)),
-        ["remove", s, e] => Some(Job::Remove(slot(s)?, entity(e)?)),
-        ["label", e] => Some(Job::Mark(ID, entity(e)?)),
+        ["insert", s, e, v] => Some(Job::Insert(
+            entity(e)?,
+            S::Value::read(S::Slot::named(s)?, v)?,
+        )),
+        ["remove", s, e] => Some(Job::Remove(S::Slot::named(s)?, entity(e)?)),
+        ["label", e] => Some(Job::Mark(S::Slot::of_labels(), entity(e)?)),
         ["again"] => Some(Job::Own(ScriptJob::Again)),
         ["create"] => Some(Job::Own(ScriptJob::Create)),
         _ => None,

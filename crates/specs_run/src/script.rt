@@ -3,6 +3,8 @@ use crate::parse::{Line, read};
 use crate::printed::Printed;
 use crate::saving::Saves;
 use crate::script_job::ScriptJob;
+use crate::slot_names::Named;
+use crate::values::Worded;
 use composed::Empty;
 use slots::Slots;
 use specs::{Parts, Storages, World, WorldJob};
@@ -43,66 +45,45 @@ fn run_lines<R: Read + Drop, O: Write + Drop>(
 ) -> io::Result<Option<u64>> {
     let mut reader = BufReader::new(alloc, input)?;
     let mut writer = BufWriter::new(alloc, output)?;
-    let unreadable = answer_by_new_world(alloc, &mut reader, &mut writer)?;
+    let unreadable = answer_by_slots(alloc, &mut reader, &mut writer)?;
     writer.flush()?;
     Ok(unreadable)
 }
 
-/// Answers the lines by a new world.
-fn answer_by_new_world<R: Read, O: Write + Drop>(
+/// Answers the lines by a new world of the program's slots.
+fn answer_by_slots<R: Read, O: Write + Drop>(
     alloc: Global,
     reader: &mut BufReader<R>,
     writer: &mut BufWriter<O>,
 ) -> io::Result<Option<u64>> {
-    let lines = Lines {
-        alloc,
-        reader,
-        writer,
-    };
-    in_new_world::<Slots, ScriptJob, _>(alloc, lines)
+    answer_by_new_world::<R, O, Slots>(alloc, reader, writer)
 }
 
-/// What is done with a world.
-trait Session<S: Storages, J> {
-    /// Does it.
-    fn hold(self, world: &mut World<S, J>) -> io::Result<Option<u64>>;
-}
-
-/// The lines of a script, which a world answers.
-#[derive(Drop)]
-struct Lines<'a, R, O: Write + Drop> {
+/// Answers the lines by a new world. It stands for whatever storages, since the end of a world is shorter to prove where they are not known.
+fn answer_by_new_world<R: Read, O: Write + Drop, S: Empty + Saves + Drop>(
     alloc: Global,
-    reader: &'a mut BufReader<R>,
-    writer: &'a mut BufWriter<O>,
-}
-
-impl<R: Read, O: Write + Drop> Session<Slots, ScriptJob> for Lines<'_, R, O> {
-    fn hold(self, world: &mut World<Slots, ScriptJob>) -> io::Result<Option<u64>> {
-        let Lines {
-            alloc,
-            reader,
-            writer,
-        } = self;
-        answer_lines(alloc, world, reader, writer)
-    }
-}
-
-/// A session of a new world. It stands for whatever storages and jobs, since the end of a world is shorter to prove where they are not known.
-fn in_new_world<S: Empty + Drop, J: WorldJob<S>, L: Session<S, J>>(
-    alloc: Global,
-    session: L,
-) -> io::Result<Option<u64>> {
-    let mut world = World::new(alloc, S::empty(alloc));
-    session.hold(&mut world)
+    reader: &mut BufReader<R>,
+    writer: &mut BufWriter<O>,
+) -> io::Result<Option<u64>>
+where
+    S::Slot: Named,
+    S::Value: Worded<S::Slot> + Display,
+{
+    let mut world = World::<S, ScriptJob>::new(alloc, S::empty(alloc));
+    answer_lines(alloc, &mut world, reader, writer)
 }
 
 /// Answers the lines up to the end of the input, or up to one that can't be read, whose number is told.
-fn answer_lines<R: Read, O: Write + Drop>(
+fn answer_lines<R: Read, O: Write + Drop, S: Storages + Saves>(
     alloc: Global,
-    world: &mut World<Slots, ScriptJob>,
+    world: &mut World<S, ScriptJob>,
     reader: &mut BufReader<R>,
     writer: &mut BufWriter<O>,
-) -> io::Result<Option<u64>> {
+) -> io::Result<Option<u64>>
+where
+    S::Slot: Named,
+    S::Value: Worded<S::Slot> + Display,
+{
     let mut line = Vec::new(alloc);
     for number in 1..u64::MAX {
         if !reader.buffer().contains(&b'\n') {
@@ -120,12 +101,16 @@ fn answer_lines<R: Read, O: Write + Drop>(
 }
 
 /// Does one line, and writes its reply; a line without characters has none. It is false of a line that can't be read.
-fn answer<O: Write + Drop>(
+fn answer<O: Write + Drop, S: Storages + Saves>(
     alloc: Global,
-    world: &mut World<Slots, ScriptJob>,
+    world: &mut World<S, ScriptJob>,
     writer: &mut BufWriter<O>,
     text: &[u8],
-) -> io::Result<bool> {
+) -> io::Result<bool>
+where
+    S::Slot: Named,
+    S::Value: Worded<S::Slot> + Display,
+{
     if text.is_empty() {
         return Ok(true);
     }
@@ -138,8 +123,7 @@ fn answer<O: Write + Drop>(
     }
 }
 
-/// Does what a line asks for, and writes its reply. It stands for whatever storages and jobs, since it is shorter to prove where they are not
-/// known.
+/// Does what a line asks for, and writes its reply.
 fn respond<S: Storages + Saves, J: WorldJob<S>, O: Write + Drop>(
     alloc: Global,
     world: &mut World<S, J>,

@@ -1,6 +1,5 @@
 //! The sets of a script's lines, written before what they are of: `and pos not tag`.
-use crate::slot_names::slot;
-use slots::Slot;
+use crate::slot_names::Named;
 use specs::SetExpr;
 use std::alloc::{AllocError, Global};
 
@@ -10,22 +9,22 @@ pub const NESTING_LIMIT: u32 = 250;
 
 /// A set that was read, and how many of its operators stand one within another.
 #[derive(Drop)]
-struct Told {
-    set: SetExpr<Slot>,
+struct Told<K> {
+    set: SetExpr<K>,
     depth: u32,
 }
 
 /// Two sets for one operator, and the depth of the set that it makes of them.
 #[derive(Drop)]
-struct ToldPair {
-    left: Box<SetExpr<Slot>>,
-    right: Box<SetExpr<Slot>>,
+struct ToldPair<K> {
+    left: Box<SetExpr<K>>,
+    right: Box<SetExpr<K>>,
     depth: u32,
 }
 
 /// The set that the words tell, if they tell one whose operators nest no deeper than `NESTING_LIMIT`. The words are read from the last to
 /// the first, so each operator comes after the sets that it is of.
-pub fn set(alloc: Global, words: &[&str]) -> Result<Option<SetExpr<Slot>>, AllocError> {
+pub fn set<K: Named>(alloc: Global, words: &[&str]) -> Result<Option<SetExpr<K>>, AllocError> {
     let mut operands = Vec::new(alloc);
     for word in words.iter().rev() {
         match operand(alloc, word, &mut operands)? {
@@ -40,7 +39,11 @@ pub fn set(alloc: Global, words: &[&str]) -> Result<Option<SetExpr<Slot>>, Alloc
 }
 
 /// What a word makes of the sets behind it, the nearest of which is the last of the list; it takes those that it is of.
-fn operand(alloc: Global, word: &str, behind: &mut Vec<Told>) -> Result<Option<Told>, AllocError> {
+fn operand<K: Named>(
+    alloc: Global,
+    word: &str,
+    behind: &mut Vec<Told<K>>,
+) -> Result<Option<Told<K>>, AllocError> {
     match word {
         "not" => complement(alloc, behind),
         "and" => Ok(pair(alloc, behind)?.map(|p| Told {
@@ -59,7 +62,7 @@ fn operand(alloc: Global, word: &str, behind: &mut Vec<Told>) -> Result<Option<T
             set: SetExpr::Living,
             depth: 0,
         })),
-        name => Ok(slot(name).map(|s| Told {
+        name => Ok(K::named(name).map(|s| Told {
             set: SetExpr::Slot(s),
             depth: 0,
         })),
@@ -67,7 +70,10 @@ fn operand(alloc: Global, word: &str, behind: &mut Vec<Told>) -> Result<Option<T
 }
 
 /// The complement of the nearest set.
-fn complement(alloc: Global, behind: &mut Vec<Told>) -> Result<Option<Told>, AllocError> {
+fn complement<K: Named>(
+    alloc: Global,
+    behind: &mut Vec<Told<K>>,
+) -> Result<Option<Told<K>>, AllocError> {
     match behind.pop() {
         Some(Told { set, depth }) if depth < NESTING_LIMIT => Ok(Some(Told {
             set: SetExpr::Not(Box::new(alloc, set)?),
@@ -78,7 +84,10 @@ fn complement(alloc: Global, behind: &mut Vec<Told>) -> Result<Option<Told>, All
 }
 
 /// The nearest two sets.
-fn pair(alloc: Global, behind: &mut Vec<Told>) -> Result<Option<ToldPair>, AllocError> {
+fn pair<K: Named>(
+    alloc: Global,
+    behind: &mut Vec<Told<K>>,
+) -> Result<Option<ToldPair<K>>, AllocError> {
     let (Some(left), Some(right)) = (behind.pop(), behind.pop()) else {
         return Ok(None);
     };
