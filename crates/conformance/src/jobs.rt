@@ -1,6 +1,5 @@
 //! Jobs that a world does when it is maintained.
-use crate::small::Small;
-use crate::stories::Sample;
+use crate::stories::{self, Sample, told};
 use slots::{Position, Tag};
 use specs::{
     Builder, Command, Entity, Job, JobList, Reply, Storages, World, WorldJob, component, value,
@@ -8,6 +7,7 @@ use specs::{
 use specs_run::ScriptJob;
 use std::alloc::Global;
 use std::process::Abort;
+use std::test::Fail;
 
 type Busy<S> = World<S, ScriptJob>;
 
@@ -128,7 +128,7 @@ fn marks_nobody<P, T, S: Sample<P, T>>(world: &mut Busy<S>) -> Option<bool> {
 
 /// What is told of a world.
 #[derive(Clone, Copy)]
-enum Story {
+pub enum Story {
     Repeats,
     Appends,
     AllAtOnce,
@@ -147,37 +147,32 @@ fn tell<R: Abort, P, T, S: Sample<P, T>>(rt: &R, alloc: Global, story: Story, wo
 }
 
 /// Tells a story of a new world.
-fn tell_of_new<R: Abort, P, T, S: Sample<P, T> + Drop>(rt: &R, alloc: Global, story: Story) {
+pub fn tell_of_new<R: Abort, P, T, S: Sample<P, T> + Drop>(rt: &R, alloc: Global, story: Story) {
     let mut world = World::new(alloc, S::empty(alloc));
     tell(rt, alloc, story, &mut world);
 }
 
-/// The world is of these storages here alone.
-fn told<R: Abort>(rt: &R, alloc: Global, story: Story) {
-    tell_of_new::<R, _, _, Small>(rt, alloc, story);
+#[test]
+fn a_job_that_queues_itself_waits_again(rt: HostRuntime) -> Result<(), Fail> {
+    told(&rt, rt.alloc(), stories::Story::Jobs(Story::Repeats))
 }
 
 #[test]
-fn a_job_that_queues_itself_waits_again(rt: HostRuntime) {
-    told(&rt, rt.alloc(), Story::Repeats);
+fn lists_run_in_the_order_of_their_appending(rt: HostRuntime) -> Result<(), Fail> {
+    told(&rt, rt.alloc(), stories::Story::Jobs(Story::Appends))
 }
 
 #[test]
-fn lists_run_in_the_order_of_their_appending(rt: HostRuntime) {
-    told(&rt, rt.alloc(), Story::Appends);
+fn insertions_of_a_list_go_on_after_a_refused_one(rt: HostRuntime) -> Result<(), Fail> {
+    told(&rt, rt.alloc(), stories::Story::Jobs(Story::AllAtOnce))
 }
 
 #[test]
-fn insertions_of_a_list_go_on_after_a_refused_one(rt: HostRuntime) {
-    told(&rt, rt.alloc(), Story::AllAtOnce);
+fn a_removal_waits_for_its_turn(rt: HostRuntime) -> Result<(), Fail> {
+    told(&rt, rt.alloc(), stories::Story::Jobs(Story::TakesOut))
 }
 
 #[test]
-fn a_removal_waits_for_its_turn(rt: HostRuntime) {
-    told(&rt, rt.alloc(), Story::TakesOut);
-}
-
-#[test]
-fn a_marker_is_refused_where_no_slot_is_of_markers(rt: HostRuntime) {
-    told(&rt, rt.alloc(), Story::MarksNobody);
+fn a_marker_is_refused_where_no_slot_is_of_markers(rt: HostRuntime) -> Result<(), Fail> {
+    told(&rt, rt.alloc(), stories::Story::Jobs(Story::MarksNobody))
 }

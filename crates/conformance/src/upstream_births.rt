@@ -1,6 +1,5 @@
 //! Tests of specs on mixed births and deaths, by their names there.
-use crate::small::Small;
-use crate::stories::Sample;
+use crate::stories::{Sample, Story, told};
 use composed::Empty;
 use slots::Position;
 use specs::{Command, Entity, Reply, SetExpr, Storages, World, component, value};
@@ -101,14 +100,15 @@ fn bears_and_merges<R: Abort, S: Storages>(rt: &R, nursery: &mut Nursery<S>) {
     assert!(rt; nursery.bear_rounds(40));
 }
 
-fn merges<R: Abort, S: Empty + Drop>(rt: &R, alloc: Global) {
+/// Tells of births and deaths, mixed with merges.
+pub fn merges<R: Abort, S: Empty + Drop>(rt: &R, alloc: Global) {
     let mut nursery = Nursery::new(alloc, S::empty(alloc));
     bears_and_merges(rt, &mut nursery);
 }
 
 #[test]
-fn mixed_create_merge(rt: HostRuntime) {
-    merges::<_, Small>(&rt, rt.alloc());
+fn mixed_create_merge(rt: HostRuntime) -> Result<(), Fail> {
+    told(&rt, rt.alloc(), Story::Mixed)
 }
 
 /// A linear congruential generator.
@@ -216,7 +216,8 @@ fn bears_in_vain<R: Abort, P, T, S: Sample<P, T>>(
     Ok(())
 }
 
-fn are_stillborn<R: Abort, P, T, S: Sample<P, T> + Drop>(
+/// Tells of births and deaths before a merge.
+pub fn are_stillborn<R: Abort, P, T, S: Sample<P, T> + Drop>(
     rt: &R,
     alloc: Global,
 ) -> Result<(), Fail> {
@@ -226,5 +227,5 @@ fn are_stillborn<R: Abort, P, T, S: Sample<P, T> + Drop>(
 
 #[test]
 fn stillborn_entities(rt: HostRuntime) -> Result<(), Fail> {
-    are_stillborn::<_, _, _, Small>(&rt, rt.alloc())
+    told(&rt, rt.alloc(), Story::Stillborn)
 }

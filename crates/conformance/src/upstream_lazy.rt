@@ -1,11 +1,11 @@
 //! Tests of specs on lazy updates, by their names there.
-use crate::small::Small;
-use crate::stories::Sample;
+use crate::stories::{self, Sample, told};
 use slots::{Position, Tag};
 use specs::{Command, Entity, Reply, Storages, World, value};
 use specs_run::ScriptJob;
 use std::alloc::Global;
 use std::process::Abort;
+use std::test::Fail;
 
 type Busy<S> = World<S, ScriptJob>;
 
@@ -106,7 +106,7 @@ fn drops<P, T, S: Sample<P, T>>(world: &mut Busy<S>) -> Option<bool> {
 
 /// What is told of a world.
 #[derive(Clone, Copy)]
-enum Story {
+pub enum Story {
     Inserts,
     Removes,
     Executes,
@@ -125,32 +125,32 @@ fn told_of<P, T, S: Sample<P, T> + Drop>(alloc: Global, story: Story) -> Option<
     }
 }
 
-/// The world is of these storages here alone.
-fn told<R: Abort>(rt: &R, alloc: Global, story: Story) {
-    assert_eq!(rt; told_of::<_, _, Small>(alloc, story), Some(true));
+/// Tells a story of a new world.
+pub fn tell_of_new<R: Abort, P, T, S: Sample<P, T> + Drop>(rt: &R, alloc: Global, story: Story) {
+    assert_eq!(rt; told_of::<P, T, S>(alloc, story), Some(true));
 }
 
 #[test]
-fn lazy_insertion(rt: HostRuntime) {
-    told(&rt, rt.alloc(), Story::Inserts);
+fn lazy_insertion(rt: HostRuntime) -> Result<(), Fail> {
+    told(&rt, rt.alloc(), stories::Story::Lazy(Story::Inserts))
 }
 
 #[test]
-fn lazy_removal(rt: HostRuntime) {
-    told(&rt, rt.alloc(), Story::Removes);
+fn lazy_removal(rt: HostRuntime) -> Result<(), Fail> {
+    told(&rt, rt.alloc(), stories::Story::Lazy(Story::Removes))
 }
 
 #[test]
-fn lazy_execution(rt: HostRuntime) {
-    told(&rt, rt.alloc(), Story::Executes);
+fn lazy_execution(rt: HostRuntime) -> Result<(), Fail> {
+    told(&rt, rt.alloc(), stories::Story::Lazy(Story::Executes))
 }
 
 #[test]
-fn what_is_built_lazily_comes_with_the_next_maintain(rt: HostRuntime) {
-    told(&rt, rt.alloc(), Story::Builds);
+fn what_is_built_lazily_comes_with_the_next_maintain(rt: HostRuntime) -> Result<(), Fail> {
+    told(&rt, rt.alloc(), stories::Story::Lazy(Story::Builds))
 }
 
 #[test]
-fn a_lazy_builder_that_is_dropped_marks_its_entity(rt: HostRuntime) {
-    told(&rt, rt.alloc(), Story::Drops);
+fn a_lazy_builder_that_is_dropped_marks_its_entity(rt: HostRuntime) -> Result<(), Fail> {
+    told(&rt, rt.alloc(), stories::Story::Lazy(Story::Drops))
 }

@@ -1,7 +1,6 @@
 //! Worlds, by their calls.
 use crate::callers::born_in_a_phase;
-use crate::small::Small;
-use crate::stories::Sample;
+use crate::stories::{self, Sample, told};
 use slots::{Position, Tag};
 use specs::{Command, DeleteError, Entity, Refusal, Reply, SetExpr, Storages, World, value};
 use std::alloc::{AllocError, Global};
@@ -238,7 +237,7 @@ fn takes_up_a_phase<R: Abort, P, T, S: Sample<P, T>>(
 
 /// What is told of a world.
 #[derive(Clone, Copy)]
-enum Story {
+pub enum Story {
     BearsAgain,
     AnswersSix,
     AnswersNothing,
@@ -273,7 +272,7 @@ fn tell<R: Abort, P, T, S: Sample<P, T>>(
 }
 
 /// Tells a story of a new world.
-fn tell_of_new<R: Abort, P, T, S: Sample<P, T> + Drop>(
+pub fn tell_of_new<R: Abort, P, T, S: Sample<P, T> + Drop>(
     rt: &R,
     alloc: Global,
     story: Story,
@@ -282,52 +281,71 @@ fn tell_of_new<R: Abort, P, T, S: Sample<P, T> + Drop>(
     tell(rt, alloc, story, &mut world)
 }
 
-/// The world is of these storages here alone.
-fn told<R: Abort>(rt: &R, alloc: Global, story: Story) -> Result<(), Fail> {
-    tell_of_new::<R, _, _, Small>(rt, alloc, story)
-}
-
 #[test]
 fn a_deleted_index_is_born_again(rt: HostRuntime) -> Result<(), Fail> {
-    told(&rt, rt.alloc(), Story::BearsAgain)
+    told(&rt, rt.alloc(), stories::Story::Worlds(Story::BearsAgain))
 }
 
 #[test]
 fn a_run_answers_each_command(rt: HostRuntime) -> Result<(), Fail> {
-    told(&rt, rt.alloc(), Story::AnswersSix)
+    told(&rt, rt.alloc(), stories::Story::Worlds(Story::AnswersSix))
 }
 
 #[test]
 fn a_run_of_nothing_has_no_reply(rt: HostRuntime) -> Result<(), Fail> {
-    told(&rt, rt.alloc(), Story::AnswersNothing)
+    told(
+        &rt,
+        rt.alloc(),
+        stories::Story::Worlds(Story::AnswersNothing),
+    )
 }
 
 #[test]
 fn a_slot_that_is_not_registered_is_refused(rt: HostRuntime) -> Result<(), Fail> {
-    told(&rt, rt.alloc(), Story::RefusesPositions)
+    told(
+        &rt,
+        rt.alloc(),
+        stories::Story::Worlds(Story::RefusesPositions),
+    )
 }
 
 #[test]
 fn the_living_are_merged_and_pending(rt: HostRuntime) -> Result<(), Fail> {
-    told(&rt, rt.alloc(), Story::LivingAndSlots)
+    told(
+        &rt,
+        rt.alloc(),
+        stories::Story::Worlds(Story::LivingAndSlots),
+    )
 }
 
 #[test]
 fn each_expression_selects_its_set(rt: HostRuntime) -> Result<(), Fail> {
-    told(&rt, rt.alloc(), Story::SelectsEach)
+    told(&rt, rt.alloc(), stories::Story::Worlds(Story::SelectsEach))
 }
 
 #[test]
 fn a_refused_list_names_the_first_that_is_stale(rt: HostRuntime) -> Result<(), Fail> {
-    told(&rt, rt.alloc(), Story::RefusesTheFirstStale)
+    told(
+        &rt,
+        rt.alloc(),
+        stories::Story::Worlds(Story::RefusesTheFirstStale),
+    )
 }
 
 #[test]
 fn marks_and_pending_births_end_at_maintain(rt: HostRuntime) -> Result<(), Fail> {
-    told(&rt, rt.alloc(), Story::EndsAtMaintain)
+    told(
+        &rt,
+        rt.alloc(),
+        stories::Story::Worlds(Story::EndsAtMaintain),
+    )
 }
 
 #[test]
 fn what_a_phase_left_is_taken_up_by_maintain(rt: HostRuntime) -> Result<(), Fail> {
-    told(&rt, rt.alloc(), Story::TakesUpAPhase)
+    told(
+        &rt,
+        rt.alloc(),
+        stories::Story::Worlds(Story::TakesUpAPhase),
+    )
 }
