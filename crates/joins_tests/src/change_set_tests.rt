@@ -1,6 +1,7 @@
 //! Change sets.
 use crate::cursor_walks::{no_more_than, subtract, subtract_all};
-use crate::worlds::{Chosen, Number, Numbered, Position, World, comes_true, first_at};
+use crate::stories::{Story, comes_true};
+use crate::worlds::{Numbered, World, first_at};
 use entities::Entity;
 use joins::{ChangeError, ChangeSet};
 use std::alloc::{AllocError, Global};
@@ -54,8 +55,8 @@ fn three_changes(alloc: Global) -> Result<ChangeSet<i32>, Fail> {
     Ok(changes(alloc, [(a, 32), (b, 12), (b, 13)].as_slice()).ok_or("refused")?)
 }
 
-// The changes are subtracted, and stay.
-fn subtracts<H: Numbered, B: Component, C: Component>(
+/// The changes are subtracted, and stay.
+pub fn subtracts<H: Numbered, B: Component, C: Component>(
     world: &mut World<H, B, C>,
 ) -> Result<bool, Fail> {
     let set = three_changes(world.alloc)?;
@@ -66,12 +67,12 @@ fn subtracts<H: Numbered, B: Component, C: Component>(
 
 #[test]
 fn changes_are_subtracted_from_healths(rt: HostRuntime) -> Result<(), Fail> {
-    assert!(rt; comes_true(rt.alloc(), 0, subtracts::<Position, Number, Chosen>)?);
+    assert!(rt; comes_true(rt.alloc(), 0, Story::Subtracts)?);
     Ok(())
 }
 
-// The changes are subtracted, and given up.
-fn subtracts_all<H: Numbered, B: Component, C: Component>(
+/// The changes are subtracted, and given up.
+pub fn subtracts_all<H: Numbered, B: Component, C: Component>(
     world: &mut World<H, B, C>,
 ) -> Result<bool, Fail> {
     let there = fill(&mut world.first);
@@ -81,12 +82,12 @@ fn subtracts_all<H: Numbered, B: Component, C: Component>(
 
 #[test]
 fn a_change_set_that_is_given_up_gives_its_changes(rt: HostRuntime) -> Result<(), Fail> {
-    assert!(rt; comes_true(rt.alloc(), 0, subtracts_all::<Position, Number, Chosen>)?);
+    assert!(rt; comes_true(rt.alloc(), 0, Story::SubtractsAll)?);
     Ok(())
 }
 
-// The changes by a cursor: of two the second is more than the health beside it.
-fn are_bounded<H: Numbered, B: Component, C: Component>(
+/// The changes by a cursor: of two the second is more than the health beside it.
+pub fn are_bounded<H: Numbered, B: Component, C: Component>(
     world: &mut World<H, B, C>,
 ) -> Result<bool, Fail> {
     let mut set = three_changes(world.alloc)?;
@@ -97,7 +98,7 @@ fn are_bounded<H: Numbered, B: Component, C: Component>(
 
 #[test]
 fn a_cursor_lends_the_changes(rt: HostRuntime) -> Result<(), Fail> {
-    assert!(rt; comes_true(rt.alloc(), 0, are_bounded::<Position, Number, Chosen>)?);
+    assert!(rt; comes_true(rt.alloc(), 0, Story::Bounded)?);
     Ok(())
 }
 

@@ -3,9 +3,8 @@ use crate::cursor_walks::{
     beside_one, counted, drained, drained_at, exchange, go_on, increase, raise_low, shown_and_lent,
     sum_of_entries,
 };
-use crate::worlds::{
-    Chosen, Number, Numbered, Place, Position, Velocity, World, comes_true, first_at, put_all,
-};
+use crate::stories::{Story, TrackedStory, comes_true, defaults_come_true, is_told};
+use crate::worlds::{Numbered, World, first_at, put_all};
 use entities::Entity;
 use hibits::BitSetAll;
 use joins::{JoinIter, JoinLiving, JoinMut, Restrict, WriteJoin};
@@ -36,8 +35,8 @@ fn number_of<N: Numbered>(numbers: &MaskedStorage<N>, index: u32) -> Option<i32>
     }
 }
 
-// Two positions of which one has a velocity go on.
-fn goes_on<P: Numbered, V: Numbered, C: Component>(
+/// Two positions of which one has a velocity go on.
+pub fn goes_on<P: Numbered, V: Numbered, C: Component>(
     world: &mut World<P, V, C>,
 ) -> Result<bool, Fail> {
     let there = put_all(&mut world.first, [0, 1].as_slice(), P::of(3))
@@ -48,12 +47,12 @@ fn goes_on<P: Numbered, V: Numbered, C: Component>(
 
 #[test]
 fn positions_go_on_where_there_is_a_velocity(rt: HostRuntime) -> Result<(), Fail> {
-    assert!(rt; comes_true(rt.alloc(), 2, goes_on::<Position, Velocity, Chosen>)?);
+    assert!(rt; comes_true(rt.alloc(), 2, Story::GoesOn)?);
     Ok(())
 }
 
-// Ten components, of which none stands beside its absence.
-fn is_never_absent<T: Numbered, B: Component, C: Component>(
+/// Ten components, of which none stands beside its absence.
+pub fn is_never_absent<T: Numbered, B: Component, C: Component>(
     world: &mut World<T, B, C>,
 ) -> Result<bool, Fail> {
     let there = put_all(
@@ -67,13 +66,13 @@ fn is_never_absent<T: Numbered, B: Component, C: Component>(
 
 #[test]
 fn vec_test_anti(rt: HostRuntime) -> Result<(), Fail> {
-    assert!(rt; comes_true(rt.alloc(), 0, is_never_absent::<Position, Velocity, Chosen>)?);
+    assert!(rt; comes_true(rt.alloc(), 0, Story::NeverAbsent)?);
     Ok(())
 }
 
 #[test]
 fn default_vec_test_anti(rt: HostRuntime) -> Result<(), Fail> {
-    assert!(rt; comes_true(rt.alloc(), 0, is_never_absent::<Place, Velocity, Chosen>)?);
+    assert!(rt; defaults_come_true(rt.alloc(), 0, Story::NeverAbsent)?);
     Ok(())
 }
 
@@ -82,8 +81,8 @@ fn three_there<P: Numbered>(positions: &mut MaskedStorage<P>) -> bool {
     put_all(positions, [1, 2, 4].as_slice(), P::of(7))
 }
 
-// Of three positions one is taken, once.
-fn one_is_taken<P: Numbered, V: Numbered, C: Component>(
+/// Of three positions one is taken, once.
+pub fn one_is_taken<P: Numbered, V: Numbered, C: Component>(
     world: &mut World<P, V, C>,
 ) -> Result<bool, Fail> {
     let there = three_there(&mut world.first);
@@ -100,12 +99,12 @@ fn one_is_taken<P: Numbered, V: Numbered, C: Component>(
 
 #[test]
 fn a_drain_takes_what_it_is_asked_for(rt: HostRuntime) -> Result<(), Fail> {
-    assert!(rt; comes_true(rt.alloc(), 0, one_is_taken::<Position, Velocity, Chosen>)?);
+    assert!(rt; comes_true(rt.alloc(), 0, Story::OneIsTaken)?);
     Ok(())
 }
 
-// Three positions are taken beside their entities.
-fn all_are_taken<P: Numbered, V: Numbered, C: Component>(
+/// Three positions are taken beside their entities.
+pub fn all_are_taken<P: Numbered, V: Numbered, C: Component>(
     world: &mut World<P, V, C>,
 ) -> Result<bool, Fail> {
     let there = three_there(&mut world.first);
@@ -124,7 +123,7 @@ fn are(list: &[Entity], wanted: &[(u32, i32)]) -> bool {
 
 #[test]
 fn basic_drain(rt: HostRuntime) -> Result<(), Fail> {
-    assert!(rt; comes_true(rt.alloc(), 5, all_are_taken::<Position, Velocity, Chosen>)?);
+    assert!(rt; comes_true(rt.alloc(), 5, Story::AllAreTaken)?);
     Ok(())
 }
 
@@ -140,8 +139,8 @@ fn chosen_are_there<N: Numbered, B: Numbered, C: Component>(
     )
 }
 
-// The numbers of the chosen are counted up to 10, and from 0 again.
-fn chosen_are_counted<N: Numbered, B: Numbered, C: Component>(
+/// The numbers of the chosen are counted up to 10, and from 0 again.
+pub fn chosen_are_counted<N: Numbered, B: Numbered, C: Component>(
     world: &mut World<N, B, C>,
 ) -> Result<bool, Fail> {
     let there = chosen_are_there(world)?;
@@ -154,18 +153,12 @@ fn chosen_are_counted<N: Numbered, B: Numbered, C: Component>(
 
 #[test]
 fn entries_are_those_of_the_living(rt: HostRuntime) -> Result<(), Fail> {
-    assert!(rt;
-        comes_true(
-            rt.alloc(),
-            4,
-            chosen_are_counted::<Number, Position, Chosen>
-        )?
-    );
+    assert!(rt; comes_true(rt.alloc(), 4, Story::ChosenAreCounted)?);
     Ok(())
 }
 
-// The sum of the numbers of 30 entities, of which the first 15 have their indices, and the others get 2.
-fn numbers_are_summed<N: Numbered, B: Numbered, C: Component>(
+/// The sum of the numbers of 30 entities, of which the first 15 have their indices, and the others get 2.
+pub fn numbers_are_summed<N: Numbered, B: Numbered, C: Component>(
     world: &mut World<N, B, C>,
 ) -> Result<bool, Fail> {
     let mut number = 0;
@@ -180,18 +173,12 @@ fn numbers_are_summed<N: Numbered, B: Numbered, C: Component>(
 
 #[test]
 fn entries(rt: HostRuntime) -> Result<(), Fail> {
-    assert!(rt;
-        comes_true(
-            rt.alloc(),
-            30,
-            numbers_are_summed::<Number, Position, Chosen>
-        )?
-    );
+    assert!(rt; comes_true(rt.alloc(), 30, Story::NumbersAreSummed)?);
     Ok(())
 }
 
-// Three positions are shown, and lent the same.
-fn are_shown_and_lent<P: Numbered, V: Numbered, C: Component>(
+/// Three positions are shown, and lent the same.
+pub fn are_shown_and_lent<P: Numbered, V: Numbered, C: Component>(
     world: &mut World<P, V, C>,
 ) -> Result<bool, Fail> {
     let there = put_all(&mut world.first, [0, 3].as_slice(), P::of(10))
@@ -202,13 +189,7 @@ fn are_shown_and_lent<P: Numbered, V: Numbered, C: Component>(
 
 #[test]
 fn restricted_storage(rt: HostRuntime) -> Result<(), Fail> {
-    assert!(rt;
-        comes_true(
-            rt.alloc(),
-            4,
-            are_shown_and_lent::<Position, Velocity, Chosen>
-        )?
-    );
+    assert!(rt; comes_true(rt.alloc(), 4, Story::ShownAndLent)?);
     Ok(())
 }
 
@@ -221,8 +202,8 @@ fn shown_beside<P: Numbered, V: Numbered, C: Component>(
     Ok(beside_one(world.alloc, &world.entities, &world.first, one)?)
 }
 
-// Another is shown where it has a position.
-fn others_are_shown<P: Numbered, V: Numbered, C: Component>(
+/// Another is shown where it has a position.
+pub fn others_are_shown<P: Numbered, V: Numbered, C: Component>(
     world: &mut World<P, V, C>,
 ) -> Result<bool, Fail> {
     let there = put_all(&mut world.first, [0, 3].as_slice(), P::of(10));
@@ -237,18 +218,12 @@ fn others_are_shown<P: Numbered, V: Numbered, C: Component>(
 
 #[test]
 fn a_restricted_storage_shows_others(rt: HostRuntime) -> Result<(), Fail> {
-    assert!(rt;
-        comes_true(
-            rt.alloc(),
-            4,
-            others_are_shown::<Position, Velocity, Chosen>
-        )?
-    );
+    assert!(rt; comes_true(rt.alloc(), 4, Story::OthersAreShown)?);
     Ok(())
 }
 
-// Of three positions and two velocities those of the third are exchanged.
-fn are_exchanged<P: Numbered, V: Numbered, C: Numbered>(
+/// Of three positions and two velocities those of the third are exchanged.
+pub fn are_exchanged<P: Numbered, V: Numbered, C: Numbered>(
     world: &mut World<P, V, C>,
 ) -> Result<bool, Fail> {
     let there = put_all(&mut world.first, [0, 1, 2].as_slice(), P::of(1))
@@ -264,7 +239,7 @@ fn are_exchanged<P: Numbered, V: Numbered, C: Numbered>(
 
 #[test]
 fn two_storages_are_exchanged(rt: HostRuntime) -> Result<(), Fail> {
-    assert!(rt; comes_true(rt.alloc(), 3, are_exchanged::<Position, Velocity, Place>)?);
+    assert!(rt; comes_true(rt.alloc(), 3, Story::Exchanged)?);
     Ok(())
 }
 
@@ -285,8 +260,8 @@ fn stands_nowhere<P: Numbered, V: Numbered>(
         && cursor.next().is_none()
 }
 
-// A cursor over two, of which both have the second alone.
-fn lends_only_where_it_stands<P: Numbered, V: Numbered, C: Component>(
+/// A cursor over two, of which both have the second alone.
+pub fn lends_only_where_it_stands<P: Numbered, V: Numbered, C: Component>(
     world: &mut World<P, V, C>,
 ) -> Result<bool, Fail> {
     Ok(
@@ -298,13 +273,7 @@ fn lends_only_where_it_stands<P: Numbered, V: Numbered, C: Component>(
 
 #[test]
 fn a_cursor_lends_nothing_where_it_does_not_stand(rt: HostRuntime) -> Result<(), Fail> {
-    assert!(rt;
-        comes_true(
-            rt.alloc(),
-            3,
-            lends_only_where_it_stands::<Position, Velocity, Chosen>
-        )?
-    );
+    assert!(rt; comes_true(rt.alloc(), 3, Story::LendsWhereItStands)?);
     Ok(())
 }
 
@@ -326,8 +295,8 @@ fn three_numbers<N: Numbered>(numbers: &mut MaskedStorage<N>) -> bool {
         && put_all(numbers, [2].as_slice(), N::of(2))
 }
 
-// The low ones of three numbers are raised, and told.
-fn low_ones_are_told<N: Numbered, B: Numbered, C: Component>(
+/// The low ones of three numbers are raised, and told.
+pub fn low_ones_are_told<N: Numbered, B: Numbered, C: Component>(
     world: &mut World<N, B, C>,
 ) -> Result<bool, Fail>
 where
@@ -344,7 +313,7 @@ where
 
 #[test]
 fn a_restricted_storage_tells_what_was_written(rt: HostRuntime) -> Result<(), Fail> {
-    assert!(rt; comes_true(rt.alloc(), 4, low_ones_are_told::<Number, Position, Chosen>)?);
+    assert!(rt; is_told(rt.alloc(), 4, TrackedStory::LowOnesAreTold)?);
     Ok(())
 }
 
@@ -362,8 +331,8 @@ fn second_is_taken<N: Numbered>(numbers: &mut MaskedStorage<N>) -> bool {
     cursor.next() == Some(0) && cursor.next() == Some(1) && taken(cursor.item()) == Some(7)
 }
 
-// An entry, a write and a removal by cursors.
-fn all_are_told<N: Numbered, B: Numbered, C: Component>(
+/// An entry, a write and a removal by cursors.
+pub fn all_are_told<N: Numbered, B: Numbered, C: Component>(
     world: &mut World<N, B, C>,
 ) -> Result<bool, Fail>
 where
@@ -386,7 +355,7 @@ where
 
 #[test]
 fn cursors_tell_their_events(rt: HostRuntime) -> Result<(), Fail> {
-    assert!(rt; comes_true(rt.alloc(), 4, all_are_told::<Number, Position, Chosen>)?);
+    assert!(rt; is_told(rt.alloc(), 4, TrackedStory::AllAreTold)?);
     Ok(())
 }
 
@@ -428,8 +397,8 @@ fn number_at<P: Numbered>(view: &WriteStorage<'_, P>, one: Entity) -> Option<i32
     }
 }
 
-// The cursors of a view of two positions, of which the second has a velocity.
-fn by_a_view<P: Numbered, V: Numbered, C: Component>(
+/// The cursors of a view of two positions, of which the second has a velocity.
+pub fn by_a_view<P: Numbered, V: Numbered, C: Component>(
     world: &mut World<P, V, C>,
 ) -> Result<bool, Fail> {
     let one = first_at(1)?;
@@ -446,6 +415,6 @@ fn by_a_view<P: Numbered, V: Numbered, C: Component>(
 
 #[test]
 fn cursors_of_views(rt: HostRuntime) -> Result<(), Fail> {
-    assert!(rt; comes_true(rt.alloc(), 2, by_a_view::<Position, Velocity, Chosen>)?);
+    assert!(rt; comes_true(rt.alloc(), 2, Story::ByAView)?);
     Ok(())
 }

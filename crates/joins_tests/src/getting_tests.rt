@@ -1,5 +1,6 @@
 //! What a join gives at an entity, wherever its walk is.
-use crate::worlds::{Chosen, Numbered, Position, Velocity, World, comes_true};
+use crate::stories::{Story, comes_true};
+use crate::worlds::{Numbered, World};
 use entities::Entity;
 use joins::Join;
 use std::test::Fail;
@@ -74,8 +75,8 @@ fn first_living<A: Numbered, B: Numbered, C: Component>(values: &World<A, B, C>)
     (&values.entities).join().next()
 }
 
-// Whether just the entity of the later birth has what is at an index of which two were born.
-fn given_by_generation<A: Numbered, B: Numbered, C: Component>(
+/// Whether just the entity of the later birth has what is at an index of which two were born.
+pub fn given_by_generation<A: Numbered, B: Numbered, C: Component>(
     values: &mut World<A, B, C>,
 ) -> Result<bool, Fail> {
     let entity = born(values, 1, 1)?;
@@ -96,18 +97,12 @@ fn given_by_generation<A: Numbered, B: Numbered, C: Component>(
 
 #[test]
 fn getting_specific_entity_with_join(rt: HostRuntime) -> Result<(), Fail> {
-    assert!(rt;
-        comes_true(
-            rt.alloc(),
-            0,
-            given_by_generation::<Position, Velocity, Chosen>
-        )?
-    );
+    assert!(rt; comes_true(rt.alloc(), 0, Story::GivenByGeneration)?);
     Ok(())
 }
 
-// Two entities, of which a walk looks at the first again.
-fn looked_midway<A: Numbered, B: Numbered, C: Component>(
+/// Two entities, of which a walk looks at the first again.
+pub fn looked_midway<A: Numbered, B: Numbered, C: Component>(
     values: &mut World<A, B, C>,
 ) -> Result<bool, Fail> {
     let first = born(values, 1, 1)?;
@@ -117,7 +112,7 @@ fn looked_midway<A: Numbered, B: Numbered, C: Component>(
 
 #[test]
 fn a_walk_goes_on_after_a_look(rt: HostRuntime) -> Result<(), Fail> {
-    assert!(rt; comes_true(rt.alloc(), 0, looked_midway::<Position, Velocity, Chosen>)?);
+    assert!(rt; comes_true(rt.alloc(), 0, Story::LookedMidway)?);
     Ok(())
 }
 
@@ -128,8 +123,8 @@ fn reads_of<A: Numbered, B: Numbered, C: Component>(values: &World<A, B, C>) -> 
     walk.reads()
 }
 
-// Three entities, of which the third has a number alone.
-fn two_have_both<A: Numbered, B: Numbered, C: Component>(
+/// Three entities, of which the third has a number alone.
+pub fn two_have_both<A: Numbered, B: Numbered, C: Component>(
     values: &mut World<A, B, C>,
 ) -> Result<bool, Fail> {
     let _first = born(values, 1, 0)?;
@@ -148,7 +143,7 @@ fn two_have_both<A: Numbered, B: Numbered, C: Component>(
 
 #[test]
 fn join_two_components(rt: HostRuntime) -> Result<(), Fail> {
-    assert!(rt; comes_true(rt.alloc(), 0, two_have_both::<Position, Velocity, Chosen>)?);
+    assert!(rt; comes_true(rt.alloc(), 0, Story::TwoHaveBoth)?);
     Ok(())
 }
 
@@ -166,8 +161,8 @@ fn first_of_three<A: Numbered, B: Numbered, C: Component>(
     ))
 }
 
-// A storage without components gives nothing, nor one of two that has one alone; the entity stands beside its components.
-fn joined_from_none_to_one<A: Numbered, B: Numbered, C: Component>(
+/// A storage without components gives nothing, nor one of two that has one alone; the entity stands beside its components.
+pub fn joined_from_none_to_one<A: Numbered, B: Numbered, C: Component>(
     values: &mut World<A, B, C>,
 ) -> Result<bool, Fail> {
     let none = first_of_three(values).is_none();
@@ -179,18 +174,12 @@ fn joined_from_none_to_one<A: Numbered, B: Numbered, C: Component>(
 
 #[test]
 fn a_join_gives_entities_beside_their_components(rt: HostRuntime) -> Result<(), Fail> {
-    assert!(rt;
-        comes_true(
-            rt.alloc(),
-            0,
-            joined_from_none_to_one::<Position, Velocity, Chosen>
-        )?
-    );
+    assert!(rt; comes_true(rt.alloc(), 0, Story::JoinedFromNoneToOne)?);
     Ok(())
 }
 
-// Ten entities with numbers: what a join of their storage and of its absence gives.
-fn beside_its_absence<A: Numbered, B: Numbered, C: Component>(
+/// Ten entities with numbers: what a join of their storage and of its absence gives.
+pub fn beside_its_absence<A: Numbered, B: Numbered, C: Component>(
     values: &mut World<A, B, C>,
 ) -> Result<bool, Fail> {
     for _ in 0..10u32 {
@@ -202,12 +191,6 @@ fn beside_its_absence<A: Numbered, B: Numbered, C: Component>(
 
 #[test]
 fn a_storage_and_its_absence_share_nothing(rt: HostRuntime) -> Result<(), Fail> {
-    assert!(rt;
-        comes_true(
-            rt.alloc(),
-            0,
-            beside_its_absence::<Position, Velocity, Chosen>
-        )?
-    );
+    assert!(rt; comes_true(rt.alloc(), 0, Story::BesideItsAbsence)?);
     Ok(())
 }

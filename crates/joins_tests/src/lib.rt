@@ -12,6 +12,8 @@ mod getting_tests;
 #[cfg(test)]
 mod join_tests;
 #[cfg(test)]
+mod stories;
+#[cfg(test)]
 mod walks;
 #[cfg(test)]
 mod worlds;

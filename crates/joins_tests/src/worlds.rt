@@ -3,8 +3,8 @@ use entities::{EntitiesRes, Entity};
 use std::alloc::Global;
 use std::test::Fail;
 use storages::{
-    Component, DefaultVecStorage, DenseVecStorage, FlaggedStorage, MaskedStorage, NullComponent,
-    NullStorage, TryDefault, VecStorage,
+    Component, DefaultVecStorage, DenseVecStorage, FlaggedStorage, MaskedStorage, TryDefault,
+    VecStorage,
 };
 
 /// A component that is a number.
@@ -119,20 +119,6 @@ impl Numbered for Place {
     }
 }
 
-/// What a chosen entity has.
-#[derive(Clone, Copy, PartialEq, Eq, Default)]
-pub struct Chosen;
-
-impl NullComponent for Chosen {
-    ghost use Rattle.std.specs.Prelude.{refl};
-
-    ghost all_equal = { λ a b. refl };
-}
-
-impl Component for Chosen {
-    type Storage = NullStorage<Self>;
-}
-
 /// A storage without components.
 fn empty<T: Component>(alloc: Global) -> Result<MaskedStorage<T>, Fail> {
     Ok(MaskedStorage::new(alloc, T::Storage::try_default(alloc)?))
@@ -149,18 +135,13 @@ pub struct World<A: Component, B: Component, C: Component> {
     pub first: MaskedStorage<A>,
     /// Another.
     pub second: MaskedStorage<B>,
-    /// Those that are chosen.
+    /// One more, of those that are chosen.
     pub chosen: MaskedStorage<C>,
 }
 
-/// A world that a story can be told of.
-pub trait Told: Sized {
+impl<A: Component, B: Component, C: Component> World<A, B, C> {
     /// So many living entities, from index 0 on, and no component.
-    fn with_entities(alloc: Global, count: u32) -> Result<Self, Fail>;
-}
-
-impl<A: Component, B: Component, C: Component> Told for World<A, B, C> {
-    fn with_entities(alloc: Global, count: u32) -> Result<Self, Fail> {
+    pub fn with_entities(alloc: Global, count: u32) -> Result<Self, Fail> {
         let mut entities = EntitiesRes::new(alloc);
         for _ in 0..count {
             entities.create().ok().ok_or("no entity")?;
@@ -173,19 +154,6 @@ impl<A: Component, B: Component, C: Component> Told for World<A, B, C> {
             chosen: empty(alloc)?,
         })
     }
-}
-
-/// Whether a story of a world of so many living entities, from index 0 on, comes true. The world is a local here alone, where its type is
-/// not known: a function that owns storages is slow to prove.
-pub fn comes_true<W: Told + Drop, F: FnOnce(&mut W) -> Result<bool, Fail>>(
-    alloc: Global,
-    count: u32,
-    story: F,
-) -> Result<bool, Fail>
-    requires { F.IsAlwaysCallable story }
-{
-    let mut world = W::with_entities(alloc, count)?;
-    story(&mut world)
 }
 
 /// The entity of an index that was born once.
