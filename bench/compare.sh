@@ -15,7 +15,7 @@ baseline=$(cd "$here" && cd "${SPECS_BASELINE:-../shared/baseline}" 2>/dev/null 
 build=${BASELINE_BUILD:-${TMPDIR:-/tmp}/specs-baseline-$(id -u)}
 count=${1:-100000} iterations=${2:-15} rounds=${3:-5}
 prefixes=("${@:4}")
-[ ${#prefixes[@]} -gt 0 ] || prefixes=(i_ l_atomic_create l_atomic_maintain g_ e_ f_ b_ c_ h_ n_ o_ j_par_heavy_t1 j_par_heavy_t2 j_par_heavy_t4)
+[ ${#prefixes[@]} -gt 0 ] || prefixes=(i_ l_atomic_create l_atomic_maintain a_ g_ m_ z_ k_ e_ f_ b_ c_ h_ n_ o_ j_par_heavy_t1 j_par_heavy_t2 j_par_heavy_t4)
 rust=$build/target/release/bench
 ours=$here/crates/bench/out/bench
 [ -x "$rust" ] || bash "$baseline/assemble.sh" "$build" >/dev/null

@@ -89,9 +89,9 @@ impl Workload for Deaths {
 pub fn run(rt: &(impl Clock + Print), alloc: Global, plan: &Plan, prefix: &str) -> Result<()> {
     let count = plan.count;
     for (name, way) in [
-        ("g_delete_bulk_recreate", Way::Bulk),
-        ("g_delete_one_recreate", Way::OneByOne),
-        ("g_delete_atomic_recreate", Way::Marked),
+        ("g_delete_bulk_recreate+held", Way::Bulk),
+        ("g_delete_one_recreate+held", Way::OneByOne),
+        ("g_delete_atomic_recreate+held", Way::Marked),
     ] {
         report(rt, alloc, plan, prefix, name, &Deaths { count, way, alloc })?;
     }

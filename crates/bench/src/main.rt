@@ -10,13 +10,16 @@ mod deaths;
 mod flags;
 mod fresh;
 mod joining;
+mod links;
 mod moving;
 mod parallel;
 mod points;
 mod random;
+mod saving;
 mod sets;
 mod threads;
 mod workload;
+mod worlds;
 
 use crate::workload::Plan;
 use anyhow::Result;
@@ -50,6 +53,8 @@ fn run_all(
     threads::run(rt, alloc, plan, prefix)?;
     parallel::run(rt, plan, prefix)?;
     joining::run_light(rt, plan, prefix)?;
+    worlds::run(rt, alloc, plan, prefix)?;
+    saving::run(rt, alloc, plan, prefix)?;
     deaths::run(rt, alloc, plan, prefix)?;
     components::run(rt, alloc, plan, prefix)?;
     flags::run(rt, alloc, plan, prefix)?;

@@ -5,12 +5,12 @@ use crate::workload::{Best, Plan};
 use anyhow::{Result, bail};
 use hibits::{BitSetAll, Index};
 use joins::{Join, JoinMut};
-use joins_parallel::par_update;
+use joins_parallel::{par_for_each, par_update};
 use std::alloc::{Alloc, Global};
 use std::io::Print;
 use std::thread::Threads;
 use std::time::{Clock, Instant};
-use storages::{Component, MaskedStorage, VecStorage};
+use storages::{Component, DefaultVecStorage, MaskedStorage, VecStorage};
 
 /// A number to start from.
 #[derive(Clone, Copy)]
@@ -18,6 +18,41 @@ struct Seed(u64);
 
 impl Component for Seed {
     type Storage = VecStorage<Self>;
+}
+
+/// The same, in a storage in which threads may write in place.
+#[derive(Clone, Copy, Default)]
+struct PlacedSeed(u64);
+
+impl Component for PlacedSeed {
+    type Storage = DefaultVecStorage<Self>;
+}
+
+/// A component that is a number to start from.
+trait Seeded: Component + Copy {
+    fn of(number: u64) -> Self;
+
+    fn number(&self) -> u64;
+}
+
+impl Seeded for Seed {
+    fn of(number: u64) -> Self {
+        Seed(number)
+    }
+
+    fn number(&self) -> u64 {
+        self.0
+    }
+}
+
+impl Seeded for PlacedSeed {
+    fn of(number: u64) -> Self {
+        PlacedSeed(number)
+    }
+
+    fn number(&self) -> u64 {
+        self.0
+    }
 }
 
 /// 64 rounds of xorshift.
@@ -32,9 +67,9 @@ fn heavy(seed: u64) -> u64 {
 }
 
 /// Puts an odd number at each index.
-fn put_seeds(storage: &mut MaskedStorage<Seed>, count: u32) -> Result<()> {
+fn put_seeds<T: Seeded>(storage: &mut MaskedStorage<T>, count: u32) -> Result<()> {
     for id in 0..count {
-        let seed = Seed(u64::from(id).wrapping_mul(2).wrapping_add(1));
+        let seed = T::of(u64::from(id).wrapping_mul(2).wrapping_add(1));
         if id < 16_777_216 && storage.put(id, seed).is_err() {
             bail!("no seed was put");
         }
@@ -43,11 +78,11 @@ fn put_seeds(storage: &mut MaskedStorage<Seed>, count: u32) -> Result<()> {
 }
 
 /// The sum of all, which wraps.
-fn sum_of(storage: &MaskedStorage<Seed>) -> u64 {
+fn sum_of<T: Seeded>(storage: &MaskedStorage<T>) -> u64 {
     let mut sum: u64 = 0;
     let mut all = storage.join();
     while let Some(seed) = all.next() {
-        sum = sum.wrapping_add(seed.0);
+        sum = sum.wrapping_add(seed.number());
     }
     sum
 }
@@ -65,6 +100,25 @@ fn run_rounds(
             storage,
             BitSetAll,
             |seed: &Seed, _index: Index| -> Option<Seed> { Some(Seed(heavy(seed.0))) },
+        )?;
+        sum = sum.wrapping_add(sum_of(storage));
+    }
+    Ok(sum)
+}
+
+/// The same, written in place.
+fn run_in_place(
+    rt: &(impl Threads + Alloc<A = Global> + Sync),
+    storage: &mut MaskedStorage<PlacedSeed>,
+    passes: u64,
+) -> Result<u64> {
+    let mut sum: u64 = 0;
+    for _pass in 0..passes {
+        par_for_each(
+            rt,
+            storage,
+            BitSetAll,
+            |seed: &mut PlacedSeed, _index: Index| seed.0 = heavy(seed.0),
         )?;
         sum = sum.wrapping_add(sum_of(storage));
     }
@@ -109,6 +163,15 @@ pub fn run(
             report(rt, plan, name)?;
         }
     }
+    for name in [
+        "j_par_heavy_t1+place",
+        "j_par_heavy_t2+place",
+        "j_par_heavy_t4+place",
+    ] {
+        if name.starts_with(prefix) {
+            report_placed(rt, plan, name)?;
+        }
+    }
     Ok(())
 }
 
@@ -122,6 +185,22 @@ fn report(
     for run in 0..plan.runs() {
         let mut storage = Fresh::fresh(rt.alloc())?;
         let (nanoseconds, answer) = timed(rt, &mut storage, plan, name != "j_par_heavy_seq")?;
+        best.take(run, nanoseconds, answer)?;
+    }
+    let operations = u64::from(plan.count).saturating_mul(passes_of(plan));
+    best.print(rt, plan, operations)
+}
+
+/// Reports on one line of changes in place.
+fn report_placed(
+    rt: &(impl Threads + Alloc<A = Global> + Sync + Clock + Print),
+    plan: &Plan,
+    name: &str,
+) -> Result<()> {
+    let mut best = Best::new(name);
+    for run in 0..plan.runs() {
+        let mut storage = Fresh::fresh(rt.alloc())?;
+        let (nanoseconds, answer) = timed_in_place(rt, &mut storage, plan)?;
         best.take(run, nanoseconds, answer)?;
     }
     let operations = u64::from(plan.count).saturating_mul(passes_of(plan));
@@ -148,5 +227,17 @@ fn timed(
     } else {
         run_by_cursor(storage, passes)
     };
+    Ok((u64::try_from(start.elapsed(rt)?.as_nanos())?, answer))
+}
+
+/// The same in place.
+fn timed_in_place(
+    rt: &(impl Threads + Alloc<A = Global> + Sync + Clock),
+    storage: &mut MaskedStorage<PlacedSeed>,
+    plan: &Plan,
+) -> Result<(u64, u64)> {
+    put_seeds(storage, plan.count)?;
+    let start = Instant::now(rt)?;
+    let answer = run_in_place(rt, storage, passes_of(plan))?;
     Ok((u64::try_from(start.elapsed(rt)?.as_nanos())?, answer))
 }

@@ -102,6 +102,10 @@ impl Component for FlaggedPosition {
 #[derive(Clone, Copy)]
 pub struct DensePosition(Point);
 
+/// A velocity in a `DenseVecStorage`.
+#[derive(Clone, Copy)]
+pub struct DenseVelocity(Point);
+
 /// A position in a `HashMapStorage`.
 #[derive(Clone, Copy)]
 pub struct HashPosition(Point);
@@ -115,6 +119,10 @@ impl Component for VecVelocity {
 }
 
 impl Component for DensePosition {
+    type Storage = DenseVecStorage<Self>;
+}
+
+impl Component for DenseVelocity {
     type Storage = DenseVecStorage<Self>;
 }
 
@@ -160,6 +168,23 @@ impl Pointed for DensePosition {
     #[inline]
     fn of(point: Point) -> Self {
         DensePosition(point)
+    }
+
+    #[inline]
+    fn point(self) -> Point {
+        self.0
+    }
+
+    #[inline]
+    fn advance(&mut self) {
+        self.0.advance();
+    }
+}
+
+impl Pointed for DenseVelocity {
+    #[inline]
+    fn of(point: Point) -> Self {
+        DenseVelocity(point)
     }
 
     #[inline]

@@ -1,19 +1,20 @@
 -- What jobs of a user's do.
-use Rattle.std.specs.Prelude.{◌≡◌, ℕ, true, List, [], ◌∷◌, ◌⊎◌, Option}
-use Rattle.std.proofs.Common.{inl, inr, sym, ap, subst}
+use Rattle.std.specs.Prelude.{◌≡◌, ℕ, Bool, true, List, [], ◌∷◌, ◌⊎◌, Option}
+use Rattle.std.proofs.Common.{inl, inr, sym, ap, subst, ◌∙◌}
 use Rattle.entities.specs.declared.entity.Entity.{Entity}
 use Rattle.entities.specs.Population.{born}
 use Rattle.specs.specs.declared.command.Command.TheVariants.{Insert}
 use Rattle.specs.specs.declared.command.Reply.TheVariants.{Value}
 use Rattle.specs.specs.declared.job.Job.{Job}
 use Rattle.specs.specs.Evolving.{Evolves, ValuesLive}
-use Rattle.specs.specs.Following.{IsFollowed, JobSpares, AllSpare, Spared}
+use Rattle.specs.specs.Following.{IsFollowed, IsListening, Advances, JobSpares, AllSpare, Spared, Tells}
 use Rattle.specs.specs.Lawful.{still_grows, still_lives, still_tells, born_lives}
+use Rattle.specs.proofs.Lawful.{inserted_tells}
 use Rattle.specs.specs.Living.{keeps_step}
 use Rattle.specs.specs.People.{Births}
 use Rattle.specs.specs.Reached.{OnlyLiving}
 use Rattle.specs.specs.State.{State, OnPeople, OnTable}
-use Rattle.specs.specs.Table.{Inserts}
+use Rattle.specs.specs.Table.{Table, Inserts}
 
 -- a job that changed nothing, and queued one that spares the reader
 pub still_after : {S J K V : Type 0} (spares : J → K → ℕ → Type 0) (slot : K) (n : ℕ) (old new : State K V) (more : List (Job S J K V)) → new ≡ old → (job : Job S J K V) → JobSpares spares slot n job → more ≡ job ∷ [] → IsFollowed slot n old → Spared spares slot n old more new
@@ -55,3 +56,25 @@ spreads_lives {J} {K} {V} place value old new more d w = both d.1
     both : (new ≡ old) ⊎ Spreads place value old new → ValuesLive new
     both (inl e) = still_lives old new e w
     both (inr s) = (after s.mid s.born_as s.given (born_lives place old s.mid s.born_as s.born w)).values
+
+-- who follows a slot is told of the value that the entity got, if it got one in that slot, and follows it still
+pub spreads_tells : {S J K V : Type 0} (spares : J → K → ℕ → Type 0) (slot : K) (n : ℕ) (here : K → Bool) → Tells here slot → (place : V → K) (value : V) (old new : State K V) (more : List (Job S J K V)) → MaySpread place value old more new → IsFollowed slot n old → Spared spares slot n old more new
+spreads_tells {S} {J} {K} {V} spares slot n here tells place value old new more d l = both d.1
+  where
+    added : AllSpare spares slot n more
+    added = subst (AllSpare spares slot n) (sym d.0) tt
+
+    after : (s : Spreads place value old new) → Given place s.born_as value s.mid new → Spared spares slot n old more new
+    after s (inl g) =
+        let there : IsFollowed slot n s.mid = subst (λ (t : Table K V). IsListening n (t slot)) (sym s.born.table) l in
+        let told = inserted_tells spares slot n here tells place s.mid new s.born_as value g.0 more g.1 added there in
+        record {
+          follows = λ w. subst (λ (t : Table K V). Advances n (t slot) (new.table slot) []) s.born.table (told.follows (born_lives place old s.mid s.born_as s.born w));
+          followed = told.followed;
+          added = added;
+        }
+    after s (inr same) = still_tells spares slot n old new more (ap (λ (t : State K V). t.table) same ∙ s.born.table) added l
+
+    both : (new ≡ old) ⊎ Spreads place value old new → Spared spares slot n old more new
+    both (inl same) = still_tells spares slot n old new more (ap (λ (t : State K V). t.table) same) added l
+    both (inr s) = after s s.given

@@ -88,11 +88,11 @@ pub struct Spread<S: Storages> {
 }
 
 impl<S: Storages> WorldJob<S> for Spread<S> {
-    ghost use Rattle.callers.specs.Spreads.{MaySpread, spreads_grows, spreads_lives};
+    ghost use Rattle.callers.specs.Spreads.{MaySpread, spreads_grows, spreads_lives, spreads_tells};
 
     ghost does = { λ j old more new. MaySpread S.place j.value old more new };
 
-    ghost spares = { λ j slot n. ⊥ };
+    ghost spares = { λ j slot n. Unit {0} };
 
     fn update(
         self,
@@ -113,20 +113,20 @@ impl<S: Storages> WorldJob<S> for Spread<S> {
 
     ghost lives = { λ j old new more s w. spreads_lives S.place j.value old new more s w };
 
-    ghost tells = { λ j slot n old new more s spared l. absurd spared };
+    ghost tells = { λ j slot n old new more s spared l. spreads_tells _ slot n (λ k. S.Slot.eq k slot) (λ k. S.exact k slot) S.place j.value old new more s l };
 }
 
 /// A birth at once.
 fn birth<S: Storages>(core: &mut Core<S>) -> Result<Entity, CreateError>
-    ensures ok { IfOk result (λ e. OnPeople (λ p p'. Births born p e p') (core_state S.table core.old) (core_state S.table core.new)) }
-    ensures err { OnErr result (core_state S.table core.new ≡ core_state S.table core.old) }
+    ensures ok { IfOk result (λ e. OnPeople (λ p p'. Births born p e p') (core_state S.table S.ids core.old) (core_state S.table S.ids core.new)) }
+    ensures err { OnErr result (core_state S.table S.ids core.new ≡ core_state S.table S.ids core.old) }
 {
     core.parts().entities.alloc_mut().allocate()
 }
 
 /// An insertion, which may be refused.
 fn give<S: Storages>(core: &mut Core<S>, e: Entity, value: S::Value)
-    ensures { Given S.place e value (core_state S.table core.old) (core_state S.table core.new) }
+    ensures { Given S.place e value (core_state S.table S.ids core.old) (core_state S.table S.ids core.new) }
 {
     let Parts { entities, storages } = core.parts();
     match storages.insert(entities, e, value) {
@@ -140,9 +140,9 @@ pub fn queue<S: Storages, J: WorldJob<S>>(
     world: &mut World<S, J>,
     job: J,
 ) -> Result<(), (J, AllocError)>
-    ensures ok { OnOk result ((world_state S.table world.new).jobs ≡ (world_state S.table world.old).jobs ++ Own job ∷ []) }
-    ensures core { (world_state S.table world.new).core ≡ (world_state S.table world.old).core }
-    ensures err { OnErr result (world_state S.table world.new ≡ world_state S.table world.old) }
+    ensures ok { OnOk result ((world_state S.table S.ids world.new).jobs ≡ (world_state S.table S.ids world.old).jobs ++ Own job ∷ []) }
+    ensures core { (world_state S.table S.ids world.new).core ≡ (world_state S.table S.ids world.old).core }
+    ensures err { OnErr result (world_state S.table S.ids world.new ≡ world_state S.table S.ids world.old) }
 {
     world.parts().lazy.exec(job)
 }

@@ -1,11 +1,13 @@
 //! Markers in a world, and entities whose components are queued.
-ghost use Rattle.std.specs.Prelude.{◌≡◌, [], ◌∷◌, ◌++◌, true, IsTrue, IfOk, IfSome};
+ghost use Rattle.std.specs.Prelude.{◌≡◌, [], ◌∷◌, ◌++◌, Some, true, IsTrue, MatchOption, IfOk, IfSome};
 ghost use Rattle.entities.specs.Census.{population};
-ghost use Rattle.entities.specs.Population.{IsAlive};
+ghost use Rattle.entities.specs.Population.{born, IsAlive};
+ghost use Rattle.specs.specs.People.{Births};
 ghost use Rattle.specs.specs.Queue.{queued};
+ghost use Rattle.specs.specs.State.{core_state};
 ghost use Rattle.specs.specs.declared.job.Job.TheVariants.{Insert, Mark};
 
-use specs::{EntitiesRes, Entity, MarkError, Storages, WorldJob, WorldParts};
+use specs::{Builder, Core, EntitiesRes, Entity, MarkError, Storages, WorldJob, WorldParts};
 
 /// Whether an entity has a marker: it gets one if it lives.
 pub fn labelled<S: Storages>(
@@ -21,6 +23,22 @@ pub fn labelled<S: Storages>(
     Ok(given.is_some())
 }
 
+/// Whether an entity gets no marker for want of an id: the slot has none left then.
+pub fn has_used_up<S: Storages>(
+    storages: &mut S,
+    entities: &EntitiesRes,
+    slot: S::Slot,
+    e: Entity,
+) -> bool
+    ensures left { IsTrue result → S.ids storages.old slot ≡ Some 0 }
+    ensures taken { IsTrue result → S.ids storages.new ≡ S.ids storages.old }
+{
+    match storages.mark(entities, slot, e) {
+        Err(MarkError::IdsExhausted) => true,
+        _ => false,
+    }
+}
+
 /// An entity whose component and marker are queued, or none where memory or indices ran out.
 pub fn queued_with<S: Storages, J: WorldJob<S>>(
     parts: &mut WorldParts<S, J>,
@@ -33,6 +51,19 @@ pub fn queued_with<S: Storages, J: WorldJob<S>>(
         return None;
     };
     let Ok(builder) = builder.with(value) else {
+        return None;
+    };
+    let Ok(builder) = builder.marked(slot) else {
+        return None;
+    };
+    Some(builder.build())
+}
+
+/// An entity that is built with a marker is a birth.
+pub fn born_labelled<S: Storages>(core: &mut Core<S>, slot: S::Slot) -> Option<Entity>
+    ensures { MatchOption result (Unit {0}) (λ e. Births born (core_state S.table S.ids core.old).people e (core_state S.table S.ids core.new).people) }
+{
+    let Ok(builder) = core.create_entity() else {
         return None;
     };
     let Ok(builder) = builder.marked(slot) else {

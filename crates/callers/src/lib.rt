@@ -13,6 +13,7 @@ mod labels;
 mod own_world;
 mod phases;
 mod placed;
+mod saving;
 mod sets;
 mod typed;
 mod worlds;
@@ -30,13 +31,14 @@ pub use cursors::{
 pub use entries::{ninety_at, taken, three_and_found};
 pub use jobs::{Again, Late, Spread, queue};
 pub use joined::{all_healed, all_points, counted, in_both, points_at, same_again, words_for_one};
-pub use labels::{labelled, queued_with};
+pub use labels::{born_labelled, has_used_up, labelled, queued_with};
 pub use own_world::{
     Frozen, Game, Leader, Load, Parts, Place, Speed, load_slot, loaded, moved_and_found, new_game,
     put_and_found,
 };
 pub use phases::{marked_at_closing, sees_its_own, two_births};
 pub use placed::all_overwritten;
+pub use saving::taken_up;
 pub use sets::{
     added_and_found, first_is_member, none_to_walk, one, others_stay, removed_and_gone,
 };

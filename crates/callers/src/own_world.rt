@@ -66,7 +66,7 @@ pub type Game = World<Parts>;
 
 /// A game that begins: each component belongs to a living entity, and a run keeps that.
 pub fn new_game(alloc: Global) -> Game
-    ensures { OnlyLiving (state_of ⟦<Parts as Storages>⟧.table result) }
+    ensures { OnlyLiving (state_of ⟦<Parts as Storages>⟧.table ⟦<Parts as Storages>⟧.ids result) }
 {
     new_world(alloc)
 }

@@ -16,7 +16,7 @@ pub fn written_and_found<T: Component + Copy, S: Has<T, I>, I>(
     component: T,
 ) -> Result<Option<T>, Unregistered>
     ensures found { IfOk result (λ found. MatchOption found (Unit {0}) (λ x. x ≡ component)) }
-    ensures people { (core_state S.table core.new).people ≡ (core_state S.table core.old).people }
+    ensures people { (core_state S.table S.ids core.new).people ≡ (core_state S.table S.ids core.old).people }
     ensures err { OnErr result (core.new ≡ core.old) }
 {
     let mut view = core.write_storage::<T, I>()?;
@@ -52,7 +52,7 @@ pub fn written_in_world<T: Component + Drop, S: Has<T, I>, I>(
     x: T,
     y: T,
 ) -> Result<(), Unregistered>
-    ensures people { (state_of S.table world.new).people ≡ (state_of S.table world.old).people }
+    ensures people { (state_of S.table S.ids world.new).people ≡ (state_of S.table S.ids world.old).people }
     ensures err { OnErr result (world.new ≡ world.old) }
 {
     two_written(&mut **world, e, f, x, y)
@@ -82,7 +82,7 @@ pub fn built_with<T: Component + Drop, S: Has<T, I>, I>(
     core: &mut Core<S>,
     component: T,
 ) -> Option<Entity>
-    ensures { MatchOption result (Unit {0}) (λ e. Births born (core_state S.table core.old).people e (core_state S.table core.new).people) }
+    ensures { MatchOption result (Unit {0}) (λ e. Births born (core_state S.table S.ids core.old).people e (core_state S.table S.ids core.new).people) }
 {
     let Ok(builder) = core.create_entity() else {
         return None;
@@ -95,7 +95,7 @@ pub fn built_with<T: Component + Drop, S: Has<T, I>, I>(
 
 /// An entity that loses its components stays alive.
 pub fn stripped<S: Storages>(core: &mut Core<S>, e: Entity) -> Result<bool, AllocError>
-    ensures { IfOk result (λ alive. alive ≡ true → IsMerged (core_state S.table core.old).people e) }
+    ensures { IfOk result (λ alive. alive ≡ true → IsMerged (core_state S.table S.ids core.old).people e) }
 {
     core.delete_components(&[e])?;
     Ok(core.is_alive(e))

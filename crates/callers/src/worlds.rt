@@ -17,7 +17,7 @@ pub fn lived<S: Empty + Drop>(
     alloc: Global,
     commands: Vec<Command<S>>,
 ) -> Result<World<S>, AllocError>
-    ensures { IfOk result (λ world. OnlyLiving (state_of S.table world)) }
+    ensures { IfOk result (λ world. OnlyLiving (state_of S.table S.ids world)) }
 {
     let mut world = World::new(alloc, S::empty(alloc));
     let _replies = world.run(commands)?;
@@ -43,7 +43,7 @@ pub fn deleted_is_gone<S: Storages>(
 
 /// Whether an entity that is gone is alive. It never is.
 pub fn is_back<S: Storages>(world: &World<S>, e: Entity) -> bool
-    requires { IsGone (state_of S.table world.now).people e }
+    requires { IsGone (state_of S.table S.ids world.now).people e }
     ensures { result ≡ true → ⊥ }
 {
     world.is_alive(e)
@@ -63,7 +63,7 @@ pub fn position<B: Storages>(world: &mut World<Placed<B>>, e: Entity) -> Option<
 
 /// A new world, in which each component belongs to a living entity, since there is none.
 pub fn new_world<S: Empty>(alloc: Global) -> World<S>
-    ensures { OnlyLiving (state_of S.table result) }
+    ensures { OnlyLiving (state_of S.table S.ids result) }
 {
     World::new(alloc, S::empty(alloc))
 }
@@ -86,7 +86,7 @@ pub fn removed_unheard<S: Storages>(
 
 /// Once everyone died nobody is alive.
 pub fn is_alive_at_the_end<S: Storages>(world: &mut World<S>, e: Entity) -> Result<bool, AllocError>
-    requires { OnlyLiving (state_of S.table world.old) }
+    requires { OnlyLiving (state_of S.table S.ids world.old) }
     ensures { IfOk result (λ alive. alive ≡ true → ⊥) }
 {
     world.delete_all()?;

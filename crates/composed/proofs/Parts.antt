@@ -1,12 +1,15 @@
 -- What a table of two shows of a change of one of them.
-use Rattle.std.proofs.Common.{◌≡◌, refl, sym, ap, ◌∙◌, inl, inr, Option, Some, None}
+use Rattle.std.proofs.Common.{◌≡◌, refl, sym, ap, ◌∙◌, inl, inr, ℕ, Bool, true, false, Option, Some, None}
 use Rattle.std.specs.Prelude.{is_some, ◌⊎◌}
 use Rattle.std.proofs.lemmas.Bool.{false≢true}
 use Rattle.specs.specs.Column.{Column}
 use Rattle.specs.specs.Table.{Table}
 use Rattle.specs.specs.Reached.{HasNoValue}
 use Rattle.specs.specs.Shows.{Shows}
-use Rattle.composed.specs.Both.{table_of_both}
+use Rattle.specs.specs.Ids.{Ids, IdsAfter, LeftAfter}
+use Rattle.composed.specs.Both.{table_of_both, of_either}
+use Rattle.composed.specs.Exact.{sole_is}
+use Rattle.composed.specs.declared.only.Sole.{Sole as OnlySlot}
 use Rattle.composed.specs.declared.either.Either.TheVariants.{First, Rest}
 
 -- a change of the first, and of the rest
@@ -19,3 +22,20 @@ in_rest t u u' = record { before = λ k. refl; after = λ k. refl; only = elim [
 -- where no slot is registered, none has a value
 pub has_no_value : {K V : Type 0} (t : Table K V) → ((k : K) → t k ≡ None) → HasNoValue t
 has_no_value t none k m i e = absurd (false≢true (ap is_some (sym (none k) ∙ e)))
+
+-- what a mark leaves of the ids of the first, and of the rest
+pub ids_in_first : {K L : Type 0} (old new : Ids K) (rest : Ids L) (slot : K) (given : Option Bool) → IdsAfter given old slot new → IdsAfter given (of_either old rest) (First slot) (of_either new rest)
+ids_in_first old new rest slot None same = ap (λ ids. of_either ids rest) same
+ids_in_first old new rest slot (Some false) same = ap (λ ids. of_either ids rest) same
+ids_in_first old new rest slot (Some true) takes = record { here = takes.here; others = elim [ First k ↦ λ d. takes.others k (λ e. d (ap First e)) | Rest l ↦ λ d. refl ] }
+
+pub ids_in_rest : {K L : Type 0} (first : Ids K) (old new : Ids L) (slot : L) (given : Option Bool) → IdsAfter given old slot new → IdsAfter given (of_either first old) (Rest slot) (of_either first new)
+ids_in_rest first old new slot None same = ap (λ ids. of_either first ids) same
+ids_in_rest first old new slot (Some false) same = ap (λ ids. of_either first ids) same
+ids_in_rest first old new slot (Some true) takes = record { here = takes.here; others = elim [ First k ↦ λ d. refl | Rest l ↦ λ d. takes.others l (λ e. d (ap Rest e)) ] }
+
+-- what it leaves of one slot's, where that is the only one
+pub ids_of_sole : (old new : Option ℕ) (slot : OnlySlot) (given : Option Bool) → LeftAfter given old new → IdsAfter given (λ (s : OnlySlot). old) slot (λ (s : OnlySlot). new)
+ids_of_sole old new slot None same = ap (λ left (s : OnlySlot). left) same
+ids_of_sole old new slot (Some false) same = ap (λ left (s : OnlySlot). left) same
+ids_of_sole old new slot (Some true) takes = record { here = takes; others = λ s d. absurd (d (sole_is s slot)) }

@@ -1,5 +1,5 @@
 -- Where a component type stands among many: proofs of the laws.
-use Rattle.std.proofs.Common.{◌≡◌, inl, inr, ℕ, Option, Some, None, refl, sym, ap, ◌∙◌}
+use Rattle.std.proofs.Common.{◌≡◌, inl, inr, ℕ, Bool, false, Option, Some, None, refl, sym, ap, ◌∙◌}
 use Rattle.std.specs.Prelude.{◌⊎◌}
 use mathlib.Core.Path.{fun_ext}
 use Rattle.std.specs.Option.{option_map}
@@ -8,7 +8,7 @@ use Rattle.specs.specs.Table.{Table}
 use Rattle.composed.specs.declared.either.Either.{Either}
 use Rattle.composed.specs.declared.either.Either.TheVariants.{First, Rest}
 use Rattle.specs.specs.Shows.{column_as}
-use Rattle.composed.specs.Both.{table_of_both}
+use Rattle.composed.specs.Both.{table_of_both, of_either}
 
 itself : {V : Type 0} (o : Option V) → o ≡ option_map (λ x. x) o
 itself None = refl
@@ -51,3 +51,9 @@ only_rest t u u' slot only (Rest l) = elim (only l) [
   | inl e ↦ inl (ap Rest e)
   | inr e ↦ inr (ap (option_map (column_as Rest)) e)
 ]
+
+-- where a slot of either without markers has no id, none of both has
+pub idless_of_both : {K L : Type 0} (m : K → Bool) (n : L → Bool) (i : K → Option ℕ) (j : L → Option ℕ) → ((k : K) → m k ≡ false → i k ≡ Some 0) → ((l : L) → n l ≡ false → j l ≡ Some 0)
+    → (k : Either K L) → of_either m n k ≡ false → of_either i j k ≡ Some 0
+idless_of_both m n i j first rest (First k) h = first k h
+idless_of_both m n i j first rest (Rest l) h = rest l h

@@ -135,6 +135,8 @@ where
 
     ghost sees = { λ s. sees_only (field_column s.field) };
 
+    ghost keeps_ids = { λ s w. refl };
+
     ghost only = { λ s w. elim [ Sole ↦ inl refl ] };
 
     ghost places = { λ t. refl };
@@ -167,6 +169,8 @@ where
 
     ghost sees = { λ s. sees_only (field_column s.markers.field) };
 
+    ghost keeps_ids = { λ s w. refl };
+
     ghost only = { λ s w. elim [ Sole ↦ inl refl ] };
 
     ghost places = { λ t. refl };
@@ -174,6 +178,7 @@ where
 
 impl<T: Component, I, A: Has<T, I>, B: Storages> Has<T, InFirst<I>> for Both<A, B> {
     ghost use Rattle.composed.specs.declared.either.Either.TheVariants.{First, Rest};
+    ghost use Rattle.composed.specs.Both.{of_either};
     ghost use Rattle.composed.specs.Places.{sees_first, only_first};
     ghost use Rattle.std.proofs.Common.{ap};
 
@@ -203,11 +208,14 @@ impl<T: Component, I, A: Has<T, I>, B: Storages> Has<T, InFirst<I>> for Both<A, 
 
     ghost only = { λ s w. only_first (A.table s.first) (A.table (A.with_part s.first w)) (B.table s.rest) A.the_slot (A.only s.first w) };
 
+    ghost keeps_ids = { λ s w. ap (λ ids. of_either ids (B.ids s.rest)) (A.keeps_ids s.first w) };
+
     ghost places = { λ t. ap First (A.places t) };
 }
 
 impl<T: Component, I, A: Storages, B: Has<T, I>> Has<T, InRest<I>> for Both<A, B> {
     ghost use Rattle.composed.specs.declared.either.Either.TheVariants.{First, Rest};
+    ghost use Rattle.composed.specs.Both.{of_either};
     ghost use Rattle.composed.specs.Places.{sees_rest, only_rest};
     ghost use Rattle.std.proofs.Common.{ap};
 
@@ -236,6 +244,8 @@ impl<T: Component, I, A: Storages, B: Has<T, I>> Has<T, InRest<I>> for Both<A, B
     ghost sees = { λ s. sees_rest B.as_value (field_column (B.part s.rest)) (B.table s.rest B.the_slot) (B.sees s.rest) };
 
     ghost only = { λ s w. only_rest (A.table s.first) (B.table s.rest) (B.table (B.with_part s.rest w)) B.the_slot (B.only s.rest w) };
+
+    ghost keeps_ids = { λ s w. ap (λ ids. of_either (A.ids s.first) ids) (B.keeps_ids s.rest w) };
 
     ghost places = { λ t. ap Rest (B.places t) };
 }

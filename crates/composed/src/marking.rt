@@ -37,6 +37,7 @@ where
     M::Storage: MaybeTracked<M>,
 {
     ghost use Rattle.std.specs.Prelude.{refl, true};
+    ghost use Rattle.std.proofs.Common.{true≢false};
     ghost use Rattle.composed.specs.Exact.{sole_is};
     ghost use Rattle.specs.specs.Field.{field_column, field_room};
     ghost use Rattle.composed.specs.declared.only.Sole.TheVariants.{Sole};
@@ -52,6 +53,10 @@ where
     ghost exact = { λ a b. (λ _. sole_is a b, λ _. refl) };
 
     ghost marks = { λ _. true };
+
+    ghost ids = { λ s _. A.ids s.allocator };
+
+    ghost idless = { λ _ _ h. absurd (true≢false h) };
 
     ghost place = { λ _. Sole };
 

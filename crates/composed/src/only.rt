@@ -35,7 +35,7 @@ impl<T: Component + Duplicate> Storages for Only<T>
 where
     T::Storage: MaybeTracked<T>,
 {
-    ghost use Rattle.std.specs.Prelude.{refl, false};
+    ghost use Rattle.std.specs.Prelude.{refl, false, Some};
     ghost use Rattle.composed.specs.Exact.{sole_is};
     ghost use Rattle.specs.specs.Field.{field_column, field_room};
     ghost use Rattle.composed.specs.declared.only.Sole.TheVariants.{Sole};
@@ -51,6 +51,10 @@ where
     ghost exact = { λ a b. (λ _. sole_is a b, λ _. refl) };
 
     ghost marks = { λ _. false };
+
+    ghost ids = { λ _ _. Some 0 };
+
+    ghost idless = { λ _ _ _. refl };
 
     ghost place = { λ _. Sole };
 

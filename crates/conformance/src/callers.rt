@@ -9,7 +9,7 @@ use std::alloc::Global;
 
 /// Whether an entity is gone, or not yet merged.
 pub fn is_gone(world: &World<Small>, e: Entity) -> bool
-    ensures { result ≡ true → IsMerged (state_of ⟦<Small as Storages>⟧.table world.now).people e → ⊥ }
+    ensures { result ≡ true → IsMerged (state_of ⟦<Small as Storages>⟧.table ⟦<Small as Storages>⟧.ids world.now).people e → ⊥ }
 {
     !world.is_alive(e)
 }

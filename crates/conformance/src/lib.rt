@@ -30,6 +30,8 @@ mod upstream_entities;
 #[cfg(test)]
 mod upstream_lazy;
 #[cfg(test)]
+mod upstream_markers;
+#[cfg(test)]
 mod upstream_storages;
 #[cfg(test)]
 mod worlds;

@@ -270,3 +270,39 @@ fn texts_of_another_form_load_nothing(rt: HostRuntime) -> Result<(), Fail> {
     )?;
     Ok(())
 }
+
+/// Two are loaded, two are labelled at once, and two by jobs: no two have one marker.
+#[test]
+fn bumps_index_after_reload(rt: HostRuntime) -> Result<(), Fail> {
+    assert_tale(
+        &rt,
+        rt.alloc(),
+        "
+        register pos -> ok
+        register link -> ok
+        register id -> ok
+        load [{\"components\":[[32],null],\"marker\":0},{\"components\":[[64],null],\"marker\":1}] -> ok
+        count id -> 2
+        create pending -> 2:1
+        job insert pos 2:1 128 -> ok
+        job label 2:1 -> ok
+        create pending -> 3:1
+        job insert pos 3:1 256 -> ok
+        job label 3:1 -> ok
+        create -> 4:1
+        insert pos 4:1 512 -> none
+        label 4:1 -> 2
+        create -> 5:1
+        insert pos 5:1 1024 -> none
+        label 5:1 -> 3
+        count id -> 4
+        maintain 9 -> deleted [] ran 4 refused 0 left 0
+        count id -> 6
+        label 0:1 -> 0
+        label 1:1 -> 1
+        label 2:1 -> 4
+        label 3:1 -> 5
+        ",
+    )?;
+    Ok(())
+}

@@ -135,3 +135,46 @@ fn maintain_entity_deletion(rt: HostRuntime) -> Result<(), Fail> {
     )?;
     Ok(())
 }
+
+#[test]
+fn delete_all(rt: HostRuntime) -> Result<(), Fail> {
+    assert_tale(
+        &rt,
+        rt.alloc(),
+        "
+        register pos -> ok
+        register vel -> ok
+        create -> 0:1
+        create -> 1:1
+        insert pos 1:1 1 -> none
+        insert vel 1:1 1 -> none
+        create -> 2:1
+        insert pos 2:1 1 -> none
+        insert vel 2:1 1 -> none
+        select living -> [0, 1, 2]
+        delete-all -> ok
+        select living -> []
+        get pos 1:1 -> none
+        ",
+    )?;
+    Ok(())
+}
+
+#[test]
+fn delete_and_lazy(rt: HostRuntime) -> Result<(), Fail> {
+    assert_tale(
+        &rt,
+        rt.alloc(),
+        "
+        job create -> ok
+        maintain 1 -> deleted [] ran 1 refused 0 left 0
+        job create -> ok
+        living 0:1 -> true
+        delete-all -> ok
+        living 0:1 -> false
+        maintain 1 -> deleted [] ran 1 refused 0 left 0
+        living 0:2 -> true
+        ",
+    )?;
+    Ok(())
+}

@@ -1,13 +1,77 @@
 //! Tests of specs on lazy updates, by their names there.
 use crate::stories::{self, Sample, told};
 use slots::{Position, Tag};
-use specs::{Command, Entity, Reply, Storages, World, value};
+use specs::{Command, Core, Entity, LazyUpdate, Reply, Storages, World, WorldJob, value};
 use specs_run::ScriptJob;
-use std::alloc::Global;
+use std::alloc::{AllocError, Global};
 use std::process::Abort;
 use std::test::Fail;
 
 type Busy<S> = World<S, ScriptJob>;
+
+/// A job that queues itself for a later turn, and then an insertion.
+#[derive(Drop)]
+struct Later<S: Storages> {
+    turns: u32,
+    entity: Entity,
+    value: S::Value,
+}
+
+impl<S: Storages> WorldJob<S> for Later<S> {
+    ghost use Rattle.std.specs.Prelude.{◌≡◌};
+    ghost use Rattle.specs.specs.Lawful.{still_grows, still_lives};
+
+    ghost does = { λ j old more new. new ≡ old };
+
+    ghost spares = { λ j slot n. ⊥ };
+
+    fn update(
+        self,
+        _core: &mut Core<S>,
+        queue: &mut LazyUpdate<S, Self>,
+    ) -> Result<(), (Self, AllocError)> {
+        let Later {
+            turns,
+            entity,
+            value,
+        } = self;
+        if turns > 0 {
+            let later = Later {
+                turns: turns - 1,
+                entity,
+                value,
+            };
+            return match queue.exec(later) {
+                Ok(()) => Ok(()),
+                Err((Later { value, .. }, refused)) => Err((
+                    Later {
+                        turns,
+                        entity,
+                        value,
+                    },
+                    refused,
+                )),
+            };
+        }
+        match queue.insert(entity, value) {
+            Ok(()) => Ok(()),
+            Err((value, refused)) => Err((
+                Later {
+                    turns,
+                    entity,
+                    value,
+                },
+                refused,
+            )),
+        }
+    }
+
+    ghost grows = { λ j old new more s. still_grows old new s };
+
+    ghost lives = { λ j old new more s w. still_lives old new s w };
+
+    ghost tells = { λ j slot n old new more s spared l. absurd spared };
+}
 
 /// Storages for both component types, and two entities whose births are pending.
 fn begin<P, T, S: Sample<P, T>>(world: &mut Busy<S>) -> Option<(Entity, Entity)> {
@@ -79,6 +143,32 @@ fn executes<P, T, S: Sample<P, T>>(world: &mut Busy<S>) -> Option<bool> {
     Some(queued && !before && ran(world) == Some(1) && world.entities().is_alive(next))
 }
 
+/// A job that queues a job that queues an insertion: three turns.
+fn executes_late<P, T, S: Sample<P, T>>(world: &mut World<S, Later<S>>) -> Option<bool> {
+    world.register::<Position, _>().ok()?;
+    let e = match world.apply(Command::CreatePending) {
+        Reply::Entity(e) => e,
+        _ => return None,
+    };
+    let late = Later {
+        turns: 1,
+        entity: e,
+        value: value::<_, S, _>(Position(1)),
+    };
+    let queued = world.parts().lazy.exec(late).is_ok();
+    let first = world.maintain(1).ok()?.left;
+    let early = matches!(
+        world.apply(Command::Get(S::pos(), e)),
+        Reply::Value(Some(_))
+    );
+    let rest = world.maintain(u64::MAX).ok()?.ran;
+    let found = matches!(
+        world.apply(Command::Get(S::pos(), e)),
+        Reply::Value(Some(_))
+    );
+    Some(queued && first == 1 && !early && rest == 2 && found)
+}
+
 /// An entity that is built with a component, which comes with the next maintain.
 fn builds<P, T, S: Sample<P, T>>(world: &mut Busy<S>) -> Option<bool> {
     begin(world)?;
@@ -110,16 +200,20 @@ pub enum Story {
     Inserts,
     Removes,
     Executes,
+    ExecutesLate,
     Builds,
     Drops,
 }
 
 fn told_of<P, T, S: Sample<P, T> + Drop>(alloc: Global, story: Story) -> Option<bool> {
+    if let Story::ExecutesLate = story {
+        return executes_late(&mut World::new(alloc, S::empty(alloc)));
+    }
     let mut world = World::new(alloc, S::empty(alloc));
     match story {
         Story::Inserts => inserts(alloc, &mut world),
         Story::Removes => removes(&mut world),
-        Story::Executes => executes(&mut world),
+        Story::Executes | Story::ExecutesLate => executes(&mut world),
         Story::Builds => builds(&mut world),
         Story::Drops => drops(&mut world),
     }
@@ -153,4 +247,9 @@ fn what_is_built_lazily_comes_with_the_next_maintain(rt: HostRuntime) -> Result<
 #[test]
 fn a_lazy_builder_that_is_dropped_marks_its_entity(rt: HostRuntime) -> Result<(), Fail> {
     told(&rt, rt.alloc(), stories::Story::Lazy(Story::Drops))
+}
+
+#[test]
+fn super_lazy_execution(rt: HostRuntime) -> Result<(), Fail> {
+    told(&rt, rt.alloc(), stories::Story::Lazy(Story::ExecutesLate))
 }

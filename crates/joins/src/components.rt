@@ -44,6 +44,11 @@ impl<'a, T: Component> Join for &'a MaskedStorage<T> {
         let storage: &'a MaskedStorage<T> = *value;
         storage.unprotected_storage().get(id)
     }
+
+    #[inline(always)]
+    fn is_unconstrained() -> bool {
+        false
+    }
 }
 
 impl<'a, 'b, T: Component> Join for &'b ReadStorage<'a, T> {
@@ -78,6 +83,11 @@ impl<'a, 'b, T: Component> Join for &'b ReadStorage<'a, T> {
     fn get(value: &mut &'b ReadStorage<'a, T>, id: Index) -> &'b T {
         let view: &'b ReadStorage<'a, T> = *value;
         view.unprotected_storage().get(id)
+    }
+
+    #[inline(always)]
+    fn is_unconstrained() -> bool {
+        false
     }
 }
 
@@ -114,6 +124,11 @@ impl<'a, 'b, T: Component> Join for &'b WriteStorage<'a, T> {
         let view: &'b WriteStorage<'a, T> = *value;
         view.unprotected_storage().get(id)
     }
+
+    #[inline(always)]
+    fn is_unconstrained() -> bool {
+        false
+    }
 }
 
 impl<'a, T: Combine + Drop> Join for &'a ChangeSet<T> {
@@ -148,5 +163,10 @@ impl<'a, T: Combine + Drop> Join for &'a ChangeSet<T> {
     fn get(value: &mut &'a ChangeSet<T>, id: Index) -> &'a T {
         let changes: &'a ChangeSet<T> = *value;
         changes.present(id)
+    }
+
+    #[inline(always)]
+    fn is_unconstrained() -> bool {
+        false
     }
 }

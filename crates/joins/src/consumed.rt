@@ -43,4 +43,9 @@ impl<T: Combine + Drop> Join for ChangeSet<T> {
             Err(_) => unreachable!(),
         }
     }
+
+    #[inline(always)]
+    fn is_unconstrained() -> bool {
+        false
+    }
 }

@@ -35,6 +35,9 @@ pub trait Join: Sized {
     // whether it gives at each index as often as it is asked
     ghost repeats: { Bool } = { false };
 
+    // whether all of it is what may be there
+    ghost unconstrained: { Bool } = { false };
+
     /// The mask and the values.
     fn open(self) -> (Self::Mask, Self::Value)
         ensures mask { (i : ℕ) → Self.Mask.has result.0 0 i ≡ has self i }
@@ -54,12 +57,9 @@ pub trait Join: Sized {
 
     /// Whether it has every index, as what may be there has. A walk over such joins alone, without one that has fewer, takes all the
     /// indices below the limit: 16,777,216 steps.
-    #[inline(always)]
     fn is_unconstrained() -> bool
-        ensures { result ≡ true → (j : Self) (i : ℕ) → i < INDEX_LIMIT → has j i ≡ true }
-    {
-        false
-    }
+        ensures may { result ≡ unconstrained }
+        ensures all { result ≡ true → (j : Self) (i : ℕ) → i < INDEX_LIMIT → has j i ≡ true };
 
     /// The values at the indices, ascending.
     #[inline(always)]
@@ -99,6 +99,8 @@ impl<A: Join, B: Join> Join for (A, B) {
     ghost most = { λ j. min (A.most j.0) (B.most j.1) };
 
     ghost repeats = { A.repeats && B.repeats };
+
+    ghost unconstrained = { A.unconstrained && B.unconstrained };
 
     ghost gives = { λ j i r. A.gives j.0 i r.0 × B.gives j.1 i r.1 };
 

@@ -1,14 +1,16 @@
 //! Entities, and what has no component, as joins.
-ghost use Rattle.std.specs.Prelude.{◌≡◌, true, not, nat_lt, ◌&&◌, ◌||◌, ◌^◌, ◌+◌, length};
+ghost use Rattle.std.specs.Prelude.{◌≡◌, ℕ, ◌<◌, true, false, not, nat_lt, ◌&&◌, ◌||◌, ◌^◌, ◌+◌, length};
+ghost use Rattle.std.specs.Borrow.{Bor};
 ghost use Rattle.std.specs.FinSet as set;
 ghost use Rattle.hibits.specs.Left.{left};
-ghost use Rattle.entities.specs.Census.{population};
+ghost use Rattle.entities.specs.Census.{Census, population};
 ghost use Rattle.entities.specs.Population.{index_of, generation_of, generation_now};
 ghost use Rattle.storages.specs.Life.{is_alive};
+ghost use Rattle.storages.specs.declared.anti_storage.AntiStorage.{AntiStorage as Anti};
 
 use crate::join::Join;
 use entities::{EntitiesRes, Entity};
-use hibits::{BitSet, BitSetNot, BitSetOr, Index};
+use hibits::{BitSet, BitSetNot, BitSetOr, INDEX_LIMIT, Index};
 use storages::AntiStorage;
 
 // Whether an entity is alive.
@@ -53,6 +55,14 @@ impl<'a> Join for &'a EntitiesRes {
         let entities: &'a EntitiesRes = *value;
         entities.entity(id)
     }
+
+    #[inline(always)]
+    fn is_unconstrained() -> bool
+        ensures may { result ≡ false }
+        ensures all { result ≡ true → (j : Bor Census) (i : ℕ) → i < INDEX_LIMIT → ((population j.now).merged i || (population j.now).pending i) ≡ true }
+    {
+        false
+    }
 }
 
 impl<'a> Join for AntiStorage<'a> {
@@ -85,5 +95,13 @@ impl<'a> Join for AntiStorage<'a> {
     fn get(value: &mut &'a BitSet, id: Index) {
         let _ = value;
         let _ = id;
+    }
+
+    #[inline(always)]
+    fn is_unconstrained() -> bool
+        ensures may { result ≡ false }
+        ensures all { result ≡ true → (j : Anti) (i : ℕ) → i < INDEX_LIMIT → (nat_lt i (64 ^ 4) && not (set.contains j.0.now.members i)) ≡ true }
+    {
+        false
     }
 }

@@ -101,6 +101,11 @@ impl<'a, 'b, T: Component> Join for &'b RestrictedStorage<'a, T> {
             id,
         }
     }
+
+    #[inline(always)]
+    fn is_unconstrained() -> bool {
+        false
+    }
 }
 
 /// What can be restricted to reading.

@@ -1,9 +1,13 @@
 //! Sets as joins: they give their indices.
-ghost use Rattle.std.specs.Prelude.{◌≡◌, true};
+ghost use Rattle.std.specs.Prelude.{◌≡◌, ℕ, ◌<◌, true, false};
+ghost use Rattle.std.specs.Borrow.{Bor};
 ghost use Rattle.std.specs.FinSet as set;
+ghost use Rattle.hibits.specs.Sets.{Layered};
 
 use crate::join::Join;
-use hibits::{BitSet, BitSetAll, BitSetAnd, BitSetNot, BitSetOr, BitSetXor, Index, Layers};
+use hibits::{
+    BitSet, BitSetAll, BitSetAnd, BitSetNot, BitSetOr, BitSetXor, INDEX_LIMIT, Index, Layers,
+};
 
 impl<'a> Join for &'a BitSet {
     type Type = Index;
@@ -35,6 +39,14 @@ impl<'a> Join for &'a BitSet {
     fn get(value: &mut &'a BitSet, id: Index) -> Index {
         let _ = value;
         id
+    }
+
+    #[inline(always)]
+    fn is_unconstrained() -> bool
+        ensures may { result ≡ false }
+        ensures all { result ≡ true → (j : Bor Layered) (i : ℕ) → i < INDEX_LIMIT → set.contains j.now.members i ≡ true }
+    {
+        false
     }
 }
 
@@ -69,6 +81,11 @@ impl<A: Layers + Drop, B: Layers + Drop> Join for BitSetAnd<A, B> {
         let _ = value;
         id
     }
+
+    #[inline(always)]
+    fn is_unconstrained() -> bool {
+        false
+    }
 }
 
 impl<A: Layers + Drop, B: Layers + Drop> Join for BitSetOr<A, B> {
@@ -101,6 +118,11 @@ impl<A: Layers + Drop, B: Layers + Drop> Join for BitSetOr<A, B> {
     fn get(value: &mut (), id: Index) -> Index {
         let _ = value;
         id
+    }
+
+    #[inline(always)]
+    fn is_unconstrained() -> bool {
+        false
     }
 }
 
@@ -135,6 +157,11 @@ impl<A: Layers + Drop, B: Layers + Drop> Join for BitSetXor<A, B> {
         let _ = value;
         id
     }
+
+    #[inline(always)]
+    fn is_unconstrained() -> bool {
+        false
+    }
 }
 
 impl<A: Layers + Drop> Join for BitSetNot<A> {
@@ -168,6 +195,11 @@ impl<A: Layers + Drop> Join for BitSetNot<A> {
         let _ = value;
         id
     }
+
+    #[inline(always)]
+    fn is_unconstrained() -> bool {
+        false
+    }
 }
 
 impl Join for BitSetAll {
@@ -200,5 +232,10 @@ impl Join for BitSetAll {
     fn get(value: &mut (), id: Index) -> Index {
         let _ = value;
         id
+    }
+
+    #[inline(always)]
+    fn is_unconstrained() -> bool {
+        false
     }
 }

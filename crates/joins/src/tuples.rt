@@ -18,6 +18,8 @@ impl<A: Join, B: Join, C: Join> Join for (A, B, C) {
 
     ghost repeats = { ⟦<(A, (B, C)) as Join>⟧.repeats };
 
+    ghost unconstrained = { ⟦<(A, (B, C)) as Join>⟧.unconstrained };
+
     ghost gives = { λ j i r. ⟦<(A, (B, C)) as Join>⟧.gives (j.0, (j.1, j.2)) i (r.0, (r.1, r.2)) };
 
     ghost can_get = { λ v i. ⟦<(A, (B, C)) as Join>⟧.can_get v i };
@@ -56,6 +58,8 @@ impl<A: Join, B: Join, C: Join, D: Join> Join for (A, B, C, D) {
     ghost most = { λ j. ⟦<(A, (B, C, D)) as Join>⟧.most (j.0, (j.1, j.2, j.3)) };
 
     ghost repeats = { ⟦<(A, (B, C, D)) as Join>⟧.repeats };
+
+    ghost unconstrained = { ⟦<(A, (B, C, D)) as Join>⟧.unconstrained };
 
     ghost gives = { λ j i r. ⟦<(A, (B, C, D)) as Join>⟧.gives (j.0, (j.1, j.2, j.3)) i (r.0, (r.1, r.2, r.3)) };
 
@@ -104,6 +108,8 @@ impl<A: Join, B: Join, C: Join, D: Join, E: Join> Join for (A, B, C, D, E) {
 
     ghost repeats = { ⟦<(A, (B, C, D, E)) as Join>⟧.repeats };
 
+    ghost unconstrained = { ⟦<(A, (B, C, D, E)) as Join>⟧.unconstrained };
+
     ghost gives = { λ j i r. ⟦<(A, (B, C, D, E)) as Join>⟧.gives (j.0, (j.1, j.2, j.3, j.4)) i (r.0, (r.1, r.2, r.3, r.4)) };
 
     ghost can_get = { λ v i. ⟦<(A, (B, C, D, E)) as Join>⟧.can_get v i };
@@ -150,6 +156,8 @@ impl<A: Join, B: Join, C: Join, D: Join, E: Join, F: Join> Join for (A, B, C, D,
     ghost most = { λ j. ⟦<(A, (B, C, D, E, F)) as Join>⟧.most (j.0, (j.1, j.2, j.3, j.4, j.5)) };
 
     ghost repeats = { ⟦<(A, (B, C, D, E, F)) as Join>⟧.repeats };
+
+    ghost unconstrained = { ⟦<(A, (B, C, D, E, F)) as Join>⟧.unconstrained };
 
     ghost gives = { λ j i r. ⟦<(A, (B, C, D, E, F)) as Join>⟧.gives (j.0, (j.1, j.2, j.3, j.4, j.5)) i (r.0, (r.1, r.2, r.3, r.4, r.5)) };
 

@@ -103,54 +103,72 @@ fn a_cursor_lends_the_changes(rt: HostRuntime) -> Result<(), Fail> {
 }
 
 // A sum that does not fit is refused, and changes nothing.
-fn refuses_a_sum(set: &mut ChangeSet<i32>, e: Entity) -> bool {
-    set.add(e, 2147483647).is_ok()
-        && matches!(set.add(e, 1), Err(ChangeError::Refused))
-        && at(set, e) == Some(2147483647)
-}
-
-#[test]
-fn a_sum_that_does_not_fit_is_refused(rt: HostRuntime) -> Result<(), Fail> {
+fn refuses_a_sum(set: &mut ChangeSet<i32>) -> Result<bool, Fail> {
     let e = first_at(7)?;
-    let mut set = ChangeSet::new(rt.alloc());
-    assert!(rt; refuses_a_sum(&mut set, e));
-    Ok(())
+    Ok(
+        set.add(e, 2147483647).is_ok()
+            && matches!(set.add(e, 1), Err(ChangeError::Refused))
+            && at(set, e) == Some(2147483647),
+    )
 }
 
-// Adds a list of which one is refused.
-fn stops(alloc: Global, set: &mut ChangeSet<i32>, a: Entity, b: Entity) -> bool {
-    match listed(alloc, [(a, 2147483647), (b, 5), (a, 1), (b, 6)].as_slice()) {
-        Ok(list) => matches!(set.extend(list), Err(ChangeError::Refused)),
-        Err(_) => false,
+// Adds a list of which one is refused; those before it stay.
+fn stops(alloc: Global, set: &mut ChangeSet<i32>) -> Result<bool, Fail> {
+    let a = first_at(0)?;
+    let b = first_at(1)?;
+    let list = listed(alloc, [(a, 2147483647), (b, 5), (a, 1), (b, 6)].as_slice())?;
+    Ok(
+        matches!(set.extend(list), Err(ChangeError::Refused))
+            && at(set, a) == Some(2147483647)
+            && at(set, b) == Some(5),
+    )
+}
+
+// Two lives of an index share a value, and an index past the limit has none.
+fn looks_at_indices(set: &mut ChangeSet<i32>) -> Result<bool, Fail> {
+    let old = first_at(3)?;
+    let new = Entity::from_parts(3, 2).ok_or("no entity")?;
+    let far = first_at(16777216)?;
+    let added = set.add(old, 1).is_ok()
+        && set.add(new, 2).is_ok()
+        && at(set, new) == Some(3)
+        && matches!(set.add(far, 1), Err(ChangeError::IndexLimit));
+    set.clear();
+    Ok(added && at(set, old).is_none() && set.mask().count() == 0)
+}
+
+// What is told of a change set.
+#[derive(Clone, Copy)]
+enum Tale {
+    SumIsRefused,
+    StopsAtARefusal,
+    IndexAloneCounts,
+}
+
+// Whether a tale of a new change set comes true.
+fn tells(alloc: Global, tale: Tale) -> Result<bool, Fail> {
+    let mut set = ChangeSet::new(alloc);
+    match tale {
+        Tale::SumIsRefused => refuses_a_sum(&mut set),
+        Tale::StopsAtARefusal => stops(alloc, &mut set),
+        Tale::IndexAloneCounts => looks_at_indices(&mut set),
     }
 }
 
 #[test]
-fn what_came_before_a_refused_value_stays(rt: HostRuntime) -> Result<(), Fail> {
-    let a = first_at(0)?;
-    let b = first_at(1)?;
-    let mut set = ChangeSet::new(rt.alloc());
-    assert!(rt; stops(rt.alloc(), &mut set, a, b));
-    assert!(rt; at(&set, a) == Some(2147483647) && at(&set, b) == Some(5));
+fn a_sum_that_does_not_fit_is_refused(rt: HostRuntime) -> Result<(), Fail> {
+    assert!(rt; tells(rt.alloc(), Tale::SumIsRefused)?);
     Ok(())
 }
 
-// Two lives of an index share a value, and an index past the limit has none.
-fn looks_at_indices(set: &mut ChangeSet<i32>, old: Entity, new: Entity, far: Entity) -> bool {
-    set.add(old, 1).is_ok()
-        && set.add(new, 2).is_ok()
-        && at(set, new) == Some(3)
-        && matches!(set.add(far, 1), Err(ChangeError::IndexLimit))
+#[test]
+fn what_came_before_a_refused_value_stays(rt: HostRuntime) -> Result<(), Fail> {
+    assert!(rt; tells(rt.alloc(), Tale::StopsAtARefusal)?);
+    Ok(())
 }
 
 #[test]
 fn the_index_alone_counts(rt: HostRuntime) -> Result<(), Fail> {
-    let old = Entity::from_parts(3, 1).ok_or("no entity")?;
-    let new = Entity::from_parts(3, 2).ok_or("no entity")?;
-    let far = first_at(16777216)?;
-    let mut set = ChangeSet::new(rt.alloc());
-    assert!(rt; looks_at_indices(&mut set, old, new, far));
-    set.clear();
-    assert!(rt; at(&set, old).is_none() && set.mask().count() == 0);
+    assert!(rt; tells(rt.alloc(), Tale::IndexAloneCounts)?);
     Ok(())
 }

@@ -359,34 +359,58 @@ fn cursors_tell_their_events(rt: HostRuntime) -> Result<(), Fail> {
     Ok(())
 }
 
+// Through a view: the position beside the first velocity is written to.
+fn written_through_a_view<P: Numbered, V: Numbered>(
+    view: &mut WriteStorage<'_, P>,
+    velocities: &MaskedStorage<V>,
+) -> Option<u32> {
+    let mut cursor = view.join_mut(velocities);
+    let found = cursor.next();
+    match cursor.item() {
+        Ok(position) => *position = P::of(9),
+        Err(_) => return None,
+    }
+    found
+}
+
+// Through a view: the first position is taken out.
+fn taken_through_a_view<P: Numbered>(view: &mut WriteStorage<'_, P>) -> (Option<u32>, Option<i32>) {
+    let mut cursor = view.drain();
+    let other = cursor.next();
+    (other, taken(cursor.item()))
+}
+
 // Through a view: a position is lent, and another taken out.
 fn through_a_view<P: Numbered, V: Numbered>(
     view: &mut WriteStorage<'_, P>,
     velocities: &MaskedStorage<V>,
 ) -> bool {
-    let mut cursor = view.join_mut(velocities);
-    let found = cursor.next();
-    match cursor.item() {
-        Ok(position) => *position = P::of(9),
-        Err(_) => return false,
-    }
-    let mut cursor = view.drain();
-    let other = cursor.next();
-    taken(cursor.item()) == Some(1) && found == Some(1) && other == Some(0)
+    written_through_a_view(view, velocities) == Some(1)
+        && taken_through_a_view(view) == (Some(0), Some(1))
+}
+
+// Through a view: the place of the first of the living.
+fn first_place_of_a_view<P: Numbered>(view: &mut WriteStorage<'_, P>) -> bool {
+    let mut cursor = view.entries();
+    cursor.next() == Some(0) && cursor.item().is_ok()
+}
+
+// Through a view: a look at another's position, which is lent too.
+fn looks_through_a_view<P: Numbered>(view: &mut WriteStorage<'_, P>, one: Entity) -> bool {
+    let mut cursor = view.restrict_mut().join_with(BitSetAll);
+    cursor.next() == Some(1) && cursor.get(one).is_some() && cursor.get_mut(one).is_ok()
+}
+
+// Through a view: a position is shown.
+fn shows_through_a_view<P: Numbered>(view: &WriteStorage<'_, P>) -> bool {
+    let restricted = view.restrict();
+    let mut iter = JoinIter::new(&restricted);
+    iter.next().is_some()
 }
 
 // Through a view: the places of the living, and a look at another's position.
 fn places_of_a_view<P: Numbered>(view: &mut WriteStorage<'_, P>, one: Entity) -> bool {
-    let mut cursor = view.entries();
-    if cursor.next() != Some(0) || cursor.item().is_err() {
-        return false;
-    }
-    let mut cursor = view.restrict_mut().join_with(BitSetAll);
-    let there = cursor.next() == Some(1) && cursor.get(one).is_some();
-    let lent = cursor.get_mut(one).is_ok();
-    let restricted = view.restrict();
-    let mut iter = JoinIter::new(&restricted);
-    there && lent && iter.next().is_some()
+    first_place_of_a_view(view) && looks_through_a_view(view, one) && shows_through_a_view(view)
 }
 
 // The number of an entity.

@@ -14,36 +14,80 @@ fn set_of(alloc: Global, indices: &[u32]) -> Result<BitSet, SetError> {
     Ok(set)
 }
 
+// What two sets have to do with each other.
+#[derive(Clone, Copy)]
+enum Story {
+    FewWordsAreRead,
+    AreApart,
+    AreEmpty,
+    SixAreJoined,
+    MayBeThere,
+    ShareNothing,
+    AreUnconstrained,
+}
+
+// Whether a story of two sets comes true.
+fn tell(alloc: Global, story: Story, a: &BitSet, b: &BitSet) -> Result<bool, Fail> {
+    match story {
+        Story::FewWordsAreRead => is_shared(alloc, a, b, [64, 16777215].as_slice(), 14),
+        Story::AreApart => is_shared(alloc, a, b, [].as_slice(), 8),
+        Story::AreEmpty => is_shared(alloc, a, b, [].as_slice(), 2),
+        Story::SixAreJoined => Ok(six(a, b) == 2 && are_combined(a, b)),
+        Story::MayBeThere => Ok(beside(alloc, a, b)?.as_slice() == [0, 102, 4].as_slice()),
+        Story::ShareNothing => Ok(contradictions(a) == 0),
+        Story::AreUnconstrained => Ok(are_unconstrained(a)),
+    }
+}
+
+// Whether two sets share these indices, for which so many words were read.
+fn is_shared(
+    alloc: Global,
+    a: &BitSet,
+    b: &BitSet,
+    indices: &[u32],
+    words: u64,
+) -> Result<bool, Fail> {
+    let (list, reads) = shared(alloc, a, b)?;
+    Ok(list.as_slice() == indices && reads == words)
+}
+
+// The same of sets of these indices. A function that owns sets is slow to prove, so this one does for all stories.
+fn comes_true(alloc: Global, a: &[u32], b: &[u32], story: Story) -> Result<bool, Fail> {
+    let a = set_of(alloc, a)?;
+    let b = set_of(alloc, b)?;
+    tell(alloc, story, &a, &b)
+}
+
 #[test]
 fn a_join_of_sets_reads_few_words(rt: HostRuntime) -> Result<(), Fail> {
-    let a = set_of(rt.alloc(), [1, 64, 4096, 16777215].as_slice())?;
-    let b = set_of(rt.alloc(), [64, 16777215].as_slice())?;
-    let (list, reads) = shared(rt.alloc(), &a, &b)?;
-    assert!(rt; list.as_slice() == [64, 16777215].as_slice());
-    assert_eq!(rt; reads, 14);
+    assert!(rt;
+        comes_true(
+            rt.alloc(),
+            &[1, 64, 4096, 16777215],
+            &[64, 16777215],
+            Story::FewWordsAreRead
+        )?
+    );
     Ok(())
 }
 
 #[test]
 fn a_join_of_sets_apart_is_empty(rt: HostRuntime) -> Result<(), Fail> {
-    let a = set_of(rt.alloc(), [0].as_slice())?;
-    let b = set_of(rt.alloc(), [1].as_slice())?;
-    let (list, reads) = shared(rt.alloc(), &a, &b)?;
-    assert!(rt; list.is_empty());
-    assert_eq!(rt; reads, 8);
-    let none = BitSet::new(rt.alloc());
-    let (list, reads) = shared(rt.alloc(), &none, &none)?;
-    assert!(rt; list.is_empty());
-    assert_eq!(rt; reads, 2);
+    assert!(rt; comes_true(rt.alloc(), &[0], &[1], Story::AreApart)?);
+    assert!(rt; comes_true(rt.alloc(), &[], &[], Story::AreEmpty)?);
     Ok(())
 }
 
 #[test]
 fn six_are_joined_flat(rt: HostRuntime) -> Result<(), Fail> {
-    let a = set_of(rt.alloc(), [0, 2, 4, 6].as_slice())?;
-    let b = set_of(rt.alloc(), [0, 3, 6, 9].as_slice())?;
-    assert_eq!(rt; six(&a, &b), 2);
-    assert!(rt; are_combined(&a, &b));
+    assert!(rt;
+        comes_true(
+            rt.alloc(),
+            &[0, 2, 4, 6],
+            &[0, 3, 6, 9],
+            Story::SixAreJoined
+        )?
+    );
     Ok(())
 }
 
@@ -55,17 +99,20 @@ fn are_combined(a: &BitSet, b: &BitSet) -> bool {
 
 #[test]
 fn what_may_be_there_shrinks_nothing(rt: HostRuntime) -> Result<(), Fail> {
-    let a = set_of(rt.alloc(), [0, 2, 4].as_slice())?;
-    let b = set_of(rt.alloc(), [2, 3].as_slice())?;
-    let list = beside(rt.alloc(), &a, &b)?;
-    assert!(rt; list.as_slice() == [0, 102, 4].as_slice());
+    assert!(rt; comes_true(rt.alloc(), &[0, 2, 4], &[2, 3], Story::MayBeThere)?);
     Ok(())
 }
 
 #[test]
 fn a_set_and_its_complement_share_nothing(rt: HostRuntime) -> Result<(), Fail> {
-    let a = set_of(rt.alloc(), [0, 1, 2, 3, 4, 5, 6, 7, 8, 9].as_slice())?;
-    assert_eq!(rt; contradictions(&a), 0);
+    assert!(rt;
+        comes_true(
+            rt.alloc(),
+            &[0, 1, 2, 3, 4, 5, 6, 7, 8, 9],
+            &[],
+            Story::ShareNothing
+        )?
+    );
     Ok(())
 }
 
@@ -74,12 +121,16 @@ fn unconstrained<J: Join>(_join: &J) -> bool {
     J::is_unconstrained()
 }
 
+// A join of what may be there alone is, and no join with a set that has to have the index.
+fn are_unconstrained(a: &BitSet) -> bool {
+    !unconstrained(&a)
+        && unconstrained(&maybe(a))
+        && !unconstrained(&(a, maybe(a)))
+        && unconstrained(&(maybe(a), maybe(a), maybe(a)))
+}
+
 #[test]
 fn joins_of_what_may_be_there_alone_are_unconstrained(rt: HostRuntime) -> Result<(), Fail> {
-    let a = set_of(rt.alloc(), [0, 2].as_slice())?;
-    assert!(rt; !unconstrained(&&a));
-    assert!(rt; unconstrained(&maybe(&a)));
-    assert!(rt; !unconstrained(&(&a, maybe(&a))));
-    assert!(rt; unconstrained(&(maybe(&a), maybe(&a), maybe(&a))));
+    assert!(rt; comes_true(rt.alloc(), &[0, 2], &[], Story::AreUnconstrained)?);
     Ok(())
 }

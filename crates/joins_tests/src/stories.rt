@@ -70,7 +70,8 @@ fn tell_of_new<A: Numbered, B: Numbered, C: Numbered>(
     count: u32,
     story: Story,
 ) -> Result<bool, Fail> {
-    let mut world = World::<A, B, C>::with_entities(alloc, count)?;
+    let mut world = World::<A, B, C>::new(alloc)?;
+    world.populate(count)?;
     tell(story, &mut world)
 }
 
@@ -84,7 +85,21 @@ pub fn defaults_come_true(alloc: Global, count: u32, story: Story) -> Result<boo
     tell_of_new::<Place, Velocity, Position>(alloc, count, story)
 }
 
-// Tells of a new world whose first storage tells of each change.
+// Tells of a world whose first storage tells of each change.
+fn tell_tracked<A: Numbered, B: Numbered, C: Numbered>(
+    story: TrackedStory,
+    world: &mut World<A, B, C>,
+) -> Result<bool, Fail>
+where
+    A::Storage: Tracked<A>,
+{
+    match story {
+        TrackedStory::LowOnesAreTold => cursor_tests::low_ones_are_told(world),
+        TrackedStory::AllAreTold => cursor_tests::all_are_told(world),
+    }
+}
+
+// The same of a new one.
 fn tell_of_tracked<A: Numbered, B: Numbered, C: Numbered>(
     alloc: Global,
     count: u32,
@@ -93,11 +108,9 @@ fn tell_of_tracked<A: Numbered, B: Numbered, C: Numbered>(
 where
     A::Storage: Tracked<A>,
 {
-    let mut world = World::<A, B, C>::with_entities(alloc, count)?;
-    match story {
-        TrackedStory::LowOnesAreTold => cursor_tests::low_ones_are_told(&mut world),
-        TrackedStory::AllAreTold => cursor_tests::all_are_told(&mut world),
-    }
+    let mut world = World::<A, B, C>::new(alloc)?;
+    world.populate(count)?;
+    tell_tracked(story, &mut world)
 }
 
 /// Whether it comes true.

@@ -119,9 +119,24 @@ impl Numbered for Place {
     }
 }
 
-/// A storage without components.
-fn empty<T: Component>(alloc: Global) -> Result<MaskedStorage<T>, Fail> {
-    Ok(MaskedStorage::new(alloc, T::Storage::try_default(alloc)?))
+/// What begins with nothing in it. Two of them are made by one function that does not know their types: a function that owns storages is slow
+/// to prove.
+trait Fresh: Sized {
+    /// It, as it begins.
+    fn fresh(alloc: Global) -> Result<Self, Fail>;
+}
+
+impl<T: Component> Fresh for MaskedStorage<T> {
+    fn fresh(alloc: Global) -> Result<Self, Fail> {
+        Ok(MaskedStorage::new(alloc, T::Storage::try_default(alloc)?))
+    }
+}
+
+impl<A: Fresh + Drop, B: Fresh> Fresh for (A, B) {
+    fn fresh(alloc: Global) -> Result<Self, Fail> {
+        let first = A::fresh(alloc)?;
+        Ok((first, B::fresh(alloc)?))
+    }
 }
 
 /// Entities, and storages of two components.
@@ -140,19 +155,24 @@ pub struct World<A: Component, B: Component, C: Component> {
 }
 
 impl<A: Component, B: Component, C: Component> World<A, B, C> {
-    /// So many living entities, from index 0 on, and no component.
-    pub fn with_entities(alloc: Global, count: u32) -> Result<Self, Fail> {
-        let mut entities = EntitiesRes::new(alloc);
-        for _ in 0..count {
-            entities.create().ok().ok_or("no entity")?;
-        }
+    /// Nobody lives, and there is no component.
+    pub fn new(alloc: Global) -> Result<Self, Fail> {
+        let ((first, second), chosen) = Fresh::fresh(alloc)?;
         Ok(World {
             alloc,
-            entities,
-            first: empty(alloc)?,
-            second: empty(alloc)?,
-            chosen: empty(alloc)?,
+            entities: EntitiesRes::new(alloc),
+            first,
+            second,
+            chosen,
         })
+    }
+
+    /// So many are born, from index 0 on.
+    pub fn populate(&mut self, count: u32) -> Result<(), Fail> {
+        for _ in 0..count {
+            self.entities.create().ok().ok_or("no entity")?;
+        }
+        Ok(())
     }
 }
 

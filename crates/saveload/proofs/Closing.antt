@@ -1,7 +1,7 @@
 -- The list that a recursive save saves, step by step.
 use Rattle.std.proofs.Common.{◌≡◌, ℕ, ◌+◌, ◌<◌, ◌≤◌, length, get_or, take, List, [], ◌∷◌, ◌++◌, refl, subst, sym, ap, ◌∙◌, inl, inr, Bool, true, false, arith, cond, is_some, Some, None, append-nil, nat_eq, below_more}
-use Rattle.std.specs.Prelude.{◌⊎◌, ◌||◌, Option, pos}
-use Rattle.std.specs.List.{flat_map, list_any}
+use Rattle.std.specs.Prelude.{◌||◌, Option}
+use Rattle.std.specs.List.{flat_map}
 use Rattle.std.proofs.lemmas.List.{take_more, take-append-le, append_assoc}
 use Rattle.std.proofs.lemmas.List.Folds.{list_any-append}
 use Rattle.std.proofs.lemmas.Grind.{flat_map-append}
@@ -13,7 +13,7 @@ use Rattle.entities.specs.declared.entity.Entity.{Entity}
 use Rattle.entities.specs.Population.{index_of}
 use Rattle.entities.specs.Deaths.{has_index}
 use Rattle.storages.specs.Slot.{Slot}
-use Rattle.saveload.specs.Closing.{one_more, add_new, new_in, marked_in, IsClosed, HasMarked}
+use Rattle.saveload.specs.Closing.{one_more, add_new, new_in, marked_in, HasMarked}
 
 pub add_new-append : (m : ℕ → Bool) (a xs ys : List Entity) → add_new m a (xs ++ ys) ≡ add_new m (add_new m a xs) ys
 add_new-append m a [] ys = refl

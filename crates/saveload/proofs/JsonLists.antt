@@ -1,15 +1,14 @@
 -- The value of a list is read as the list.
-use Rattle.std.proofs.Common.{◌≡◌, ◌≢◌, ℕ, zero, suc, ◌+◌, ◌<◌, ◌≤◌, List, [], ◌∷◌, ◌++◌, length, get_or, take, drop, map, refl, sym, ap, ◌∙◌, subst, Option, Some, None, option_map, codes, Vec, Global, Bool, false, append_assoc, append-nil, arith, add-one}
-use Rattle.std.specs.Option.{option_and_then}
+use Rattle.std.proofs.Common.{◌≡◌, ◌≢◌, ℕ, zero, suc, ◌+◌, ◌<◌, ◌≤◌, List, [], ◌∷◌, ◌++◌, length, get_or, take, drop, map, refl, sym, ap, ◌∙◌, subst, Option, Some, None, option_map, Vec, Global, false, append_assoc, append-nil, arith}
 use Rattle.std.proofs.lemmas.List.{take_all, take_more, drop_more, map-append}
-use Rattle.serde_json.specs.Data.{Data, depth, items_depth, null, array, object, Items, no_items, item, member, no_members, number, unsigned}
+use Rattle.serde_json.specs.Data.{Data, depth, items_depth, array, Items}
 use Rattle.serde_json.specs.Events.{items_len}
 use Rattle.serde_json.specs.View.{view, items_view, items_of}
 use Rattle.serde_json.specs.declared.value.Value.{Value, Array}
 use Rattle.serde_json.specs.Written.{has_float, items_have_float}
 use Rattle.serde_json.proofs.Views.{view-Array}
 use Rattle.saveload.specs.declared.entity_data.EntityData.{EntityData}
-use Rattle.saveload.specs.Json.{place_json, record_json, list_json, only_of, place_from, record_from, records_from, list_from, both_parts, AllBack}
+use Rattle.saveload.specs.Json.{record_json, list_json, only_of, record_from, records_from, list_from, AllBack}
 
 -- a list of more or fewer than one has no only item
 pub not_one : (vs : List Value) → length vs ≢ 1 → only_of (items_view vs) ≡ None

@@ -1,5 +1,5 @@
 -- Texts that are no identifier.
-use Rattle.std.proofs.Common.{◌≡◌, ℕ, List, Option, Some, None, Result, Ok, Err, IsOk, ◌↔◌, refl, false, subst, sym}
+use Rattle.std.proofs.Common.{◌≡◌, ℕ, List, Option, Some, None, Result, Ok, Err, IsOk, ◌↔◌, refl, false}
 use Rattle.std.proofs.lemmas.Bool.{false≢true}
 use Rattle.uuid.specs.Text.{hyphenated_text, lower, parsed}
 use Rattle.saveload.specs.JsonUuids.{uuid_of_text}

@@ -11,3 +11,6 @@ pub mod Renaming
 pub mod JsonLists
 pub mod JsonTexts
 pub mod Remapped
+pub mod Stopped
+pub mod Marked
+pub mod Resting

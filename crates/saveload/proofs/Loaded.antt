@@ -1,14 +1,13 @@
 -- What a load leaves.
-use Rattle.std.proofs.Common.{◌≡◌, ℕ, Bool, eqb, cond, List, [], ◌∷◌, map, refl, sym, ap, ◌∙◌, subst, inl, inr, Option, Some, None}
+use Rattle.std.proofs.Common.{◌≡◌, ℕ, Bool, List, [], ◌∷◌, map, refl, sym, ap, ◌∙◌, subst, inl, inr, Option, Some}
 use Rattle.std.specs.Prelude.{◌⊎◌, unwrap_or, pos}
-use Rattle.std.proofs.lemmas.Bool.{cases_eq, eq-eqb, ne_eqb}
+use Rattle.std.proofs.lemmas.Bool.{eq-eqb, ne_eqb}
 use Rattle.std.proofs.lemmas.Option.{same_Some}
 use Rattle.entities.specs.declared.entity.Entity.{Entity}
 use Rattle.entities.specs.Population.{index_of}
 use Rattle.saveload.specs.declared.entity_data.EntityData.{EntityData}
 use Rattle.saveload.specs.Conversion.{Conversion, IsFaithful, Has}
-use Rattle.saveload.specs.Naming.{Naming}
-use Rattle.saveload.specs.Loads.{Loading, LoadsRecord, Loads, entity_of, named, row_put}
+use Rattle.saveload.specs.Loads.{Loading, LoadsRecord, Loads, entity_of, named}
 use Rattle.saveload.specs.Law.{DistinctIds}
 use Rattle.saveload.proofs.Named.{IsExact, has_map}
 use Rattle.saveload.proofs.Sound.{IsSound, IsNamed, AreNamed, names, names_all}

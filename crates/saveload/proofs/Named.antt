@@ -1,14 +1,13 @@
 -- What naming keeps, in any world.
-use Rattle.std.proofs.Common.{◌≡◌, ℕ, ◌+◌, Bool, true, false, not, ◌&&◌, ◌||◌, eqb, cond, List, [], ◌∷◌, ◌++◌, map, refl, sym, ap, ◌∙◌, subst, inl, inr, Option, Some, None, arith, IsTrue, suc, nat_abs}
+use Rattle.std.proofs.Common.{◌≡◌, ℕ, ◌+◌, Bool, true, false, not, ◌&&◌, ◌||◌, cond, List, [], ◌∷◌, ◌++◌, map, refl, sym, ap, ◌∙◌, subst, inl, inr, Option, Some, arith, IsTrue, suc, nat_abs}
 use Rattle.std.specs.Prelude.{◌⊎◌, ◌↔◌, pos, unwrap_or}
 use Rattle.std.proofs.lemmas.Bool.{false≢true, cases_Bool, cases_eq, eq-eqb, ne_eqb}
 use Rattle.std.proofs.lemmas.Bool.Decides.{Decides-int_eq}
-use Rattle.std.proofs.lemmas.List.{map-append}
 use Rattle.entities.specs.declared.entity.Entity.{Entity}
-use Rattle.entities.specs.Population.{Population, IsAlive, MayBeBorn, born_pending, lives, index_of, generation_of}
+use Rattle.entities.specs.Population.{Population, IsAlive, MayBeBorn, born_pending, lives, index_of}
 use Rattle.storages.specs.Life.{is_alive}
 use Rattle.saveload.specs.Conversion.{Has, Conversion}
-use Rattle.saveload.specs.Naming.{Naming, Knows, Makes, Names, NamesAll, put_id}
+use Rattle.saveload.specs.Naming.{Naming, Names, NamesAll}
 use Rattle.saveload.specs.declared.entity_data.EntityData.{EntityData}
 use Rattle.saveload.specs.Loads.{entity_of, Loading, LoadsRecord, Loads}
 use Rattle.entities.specs.Census.{Census, population}

@@ -1,16 +1,16 @@
 -- What was saved and is loaded into an empty world is renamed.
-use Rattle.std.proofs.Common.{◌≡◌, ℕ, Bool, true, false, List, [], ◌∷◌, map, refl, sym, ap, ◌∙◌, subst, inl, inr, Option, Some, None, is_some}
+use Rattle.std.proofs.Common.{◌≡◌, Bool, true, List, [], ◌∷◌, map, refl, sym, ap, ◌∙◌, subst, inl, inr, Option, Some, None, is_some}
 use Rattle.std.specs.Prelude.{◌⊎◌, unwrap_or, pos}
 use Rattle.std.proofs.lemmas.Bool.{both_ways, false≢true}
 use Rattle.std.proofs.lemmas.Option.{same_Some, none-some}
 use Rattle.entities.specs.declared.entity.Entity.{Entity}
 use Rattle.entities.specs.Population.{IsAlive, lives, index_of}
 use Rattle.saveload.specs.declared.entity_data.EntityData.{EntityData}
-use Rattle.saveload.specs.Conversion.{Conversion, IsFaithful, Has, IsSavedBy}
+use Rattle.saveload.specs.Conversion.{Conversion, IsFaithful, Has}
 use Rattle.saveload.specs.Saved.{IsRecord, IsSavedList}
 use Rattle.saveload.specs.Loads.{Loading, Loads, entity_of, named}
 use Rattle.saveload.specs.Law.{IsOneToOne, IsRenamed, DistinctIds, HoldsReferences, IsEmpty, OneRenaming}
-use Rattle.saveload.proofs.Named.{IsExact, has_map}
+use Rattle.saveload.proofs.Named.{IsExact}
 use Rattle.saveload.proofs.Sound.{IsSound}
 use Rattle.saveload.proofs.Loaded.{AreLoaded, loads}
 

@@ -1,13 +1,12 @@
 -- What a load keeps while ids name entities, from a world in which nobody lives and no id is mapped: mapped ids and living entities are one to one.
-use Rattle.std.proofs.Common.{◌≡◌, ℕ, ◌+◌, Bool, true, false, ◌||◌, eqb, cond, List, [], ◌∷◌, map, refl, sym, ap, ◌∙◌, subst, inl, inr, Option, Some, None}
-use Rattle.std.specs.Prelude.{◌⊎◌, pos, unwrap_or}
+use Rattle.std.proofs.Common.{◌≡◌, ℕ, ◌+◌, Bool, true, false, ◌||◌, eqb, cond, List, [], ◌∷◌, refl, sym, ap, ◌∙◌, subst, inl, inr, Some}
+use Rattle.std.specs.Prelude.{◌⊎◌, pos}
 use Rattle.std.proofs.lemmas.Bool.{false≢true, cases_Bool, cases_eq, eq-eqb, ne_eqb}
 use Rattle.std.proofs.lemmas.Option.{same_Some}
 use Rattle.entities.specs.declared.entity.Entity.{Entity}
-use Rattle.entities.specs.declared.entity.Generation.{Generation}
-use Rattle.entities.specs.Population.{Population, IsAlive, MayBeBorn, born_pending, lives, index_of, generation_of}
+use Rattle.entities.specs.Population.{IsAlive, MayBeBorn, born_pending, lives, index_of, generation_of}
 use Rattle.saveload.specs.Conversion.{Has}
-use Rattle.saveload.specs.Naming.{Naming, Knows, Makes, Names, NamesAll, put_id, put_at}
+use Rattle.saveload.specs.Naming.{Naming, Knows, Names, NamesAll, put_id, put_at}
 use Rattle.saveload.proofs.Named.{IsExact, LivingBorn, fresh, living_born}
 
 pub entity_same : (a b : Entity) → index_of a ≡ index_of b → generation_of a ≡ generation_of b → a ≡ b

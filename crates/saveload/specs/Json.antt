@@ -1,9 +1,8 @@
 -- The JSON form of a saved list: an array of records. A record is an object of exactly the keys `components` and `marker`. `components` is an
 -- array with one place for each storage: null for an absent component, an array of exactly one value for a present one.
-use Rattle.std.specs.Prelude.{◌≡◌, ◌≤◌, ℕ, ◌^◌, ◌==◌, List, [], ◌∷◌, map, Bool, true, false, codes, Option, Some, None, option_map, option_and_then, if◌then◌else◌, is_some, ⊤}
-use Rattle.serde_json.specs.Data.{Data, depth, null, array, object, Items, no_items, item, Members, member, no_members}
+use Rattle.std.specs.Prelude.{◌≡◌, ℕ, ◌==◌, List, [], ◌∷◌, map, Bool, false, codes, Option, Some, None, option_map, option_and_then, if◌then◌else◌, is_some, ⊤}
+use Rattle.serde_json.specs.Data.{Data, null, array, object, Items, no_items, item, Members, member, no_members}
 use Rattle.serde_json.specs.Find.{get, at, as_null, as_array, as_object}
-use Rattle.serde_json.specs.Written.{has_float}
 use Rattle.serde_json.specs.Events.{items_len, members_len}
 use Rattle.serde_json.specs.View.{items_of}
 use Rattle.saveload.specs.declared.entity_data.EntityData.{EntityData}
@@ -73,4 +72,5 @@ list_from marker places d = option_and_then (records_from marker places) (as_arr
 -- the values of all records are these records again
 abbrev pub AllBack : {M D : Type 0} → (M → Data) → (Data → Option M) → (D → List Data) → (Data → Option D) → List (EntityData M D) → Type 0
 AllBack marker_json marker_from places_json places_from [] = ⊤
-AllBack marker_json marker_from places_json places_from (r ∷ rs) = (record_from marker_from places_from (record_json marker_json places_json r) ≡ Some r) × AllBack marker_json marker_from places_json places_from rs
+AllBack marker_json marker_from places_json places_from (r ∷ rs) =
+    (record_from marker_from places_from (record_json marker_json places_json r) ≡ Some r) × AllBack marker_json marker_from places_json places_from rs

@@ -1,7 +1,7 @@
 -- Numbers as JSON values.
-use Rattle.std.specs.Prelude.{◌≡◌, ◌≤◌, ℕ, ◌^◌, ℤ, pos, negsuc, Option, Some, option_map, option_and_then, refl, false}
+use Rattle.std.specs.Prelude.{◌≡◌, ◌≤◌, ℕ, ℤ, pos, negsuc, Option, option_map, option_and_then, refl, false}
 use Rattle.std.proofs.Common.{lit≤}
-use Rattle.serde_json.specs.Data.{Data, depth, number, unsigned, negative}
+use Rattle.serde_json.specs.Data.{Data, depth, number, unsigned}
 use Rattle.serde_json.specs.Find.{as_number, as_u64, as_i64, of_integer}
 use Rattle.serde_json.specs.Written.{has_float}
 use Rattle.saveload.specs.declared.simple.SimpleMarker.{SimpleMarker}

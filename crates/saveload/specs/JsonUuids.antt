@@ -1,5 +1,5 @@
 -- Identifiers of sixteen bytes as JSON values: texts of 36 characters, with hyphens and lower-case letters, and no other spelling.
-use Rattle.std.specs.Prelude.{◌≡◌, ◌≤◌, ℕ, List, Bool, false, Option, Some, None, option_map, option_and_then, if◌then◌else◌, refl}
+use Rattle.std.specs.Prelude.{◌≡◌, ◌≤◌, ℕ, List, false, Option, Some, None, option_map, option_and_then, if◌then◌else◌, refl}
 use Rattle.std.proofs.Common.{lit≤}
 use Rattle.serde_json.specs.Data.{Data, depth, string}
 use Rattle.serde_json.specs.Find.{as_str}

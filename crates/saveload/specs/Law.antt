@@ -14,7 +14,8 @@ pub record IsOneToOne (es : List Entity) (people : Population) (r : Entity → E
   pub onto : (f : Entity) → IsAlive people f → (x : Entity) × Has es x × (r x ≡ f)
 
 -- the loaded rows are the saved ones with each reference renamed, and the ids of the markers agree
-pub record IsRenamed {M I V D : Type 0} (id_of : M → I) (c : Conversion M V D) (marker_of : Entity → Option M) (values : Entity → V) (es : List Entity) (r : Entity → Entity) (s : Loading I V) : Type 0 where
+pub record IsRenamed {M I V D : Type 0} (id_of : M → I) (c : Conversion M V D) (marker_of : Entity → Option M) (values : Entity → V)
+    (es : List Entity) (r : Entity → Entity) (s : Loading I V) : Type 0 where
   pub rows : (x : Entity) → Has es x → s.rows (index_of (r x)) ≡ c.renamed r (values x)
   pub ids : (x : Entity) (m : M) → Has es x → marker_of x ≡ Some m → s.naming.markers (index_of (r x)) ≡ Some (id_of m)
 

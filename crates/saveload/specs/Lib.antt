@@ -10,6 +10,7 @@ pub mod Saved
 pub mod Remapping
 pub mod Closing
 pub mod Loads
+pub mod Stops
 pub mod Law
 pub mod Json
 pub mod JsonNumbers

@@ -1,11 +1,11 @@
 -- Loading: records in order.
-use Rattle.std.specs.Prelude.{◌≡◌, ℕ, pos, List, [], ◌∷◌, map, Option, Some, None, unwrap_or, Bool, ◌==◌, if◌then◌else◌}
+use Rattle.std.specs.Prelude.{◌≡◌, ℕ, pos, List, [], ◌∷◌, map, Option, unwrap_or, Bool, ◌==◌, if◌then◌else◌}
 use Rattle.std.specs.FinMap as finmap
 use Rattle.entities.specs.declared.entity.Entity.{Entity}
 use Rattle.entities.specs.Population.{index_of}
 use Rattle.storages.specs.Slot.{Slot}
 use Rattle.saveload.specs.declared.entity_data.EntityData.{EntityData}
-use Rattle.saveload.specs.Conversion.{Conversion}
+use Rattle.saveload.specs.Conversion.{Conversion, GivesEach}
 use Rattle.saveload.specs.Naming.{Naming, Names, NamesAll}
 
 -- the entity that an id is mapped to
@@ -24,9 +24,17 @@ pub record Loading (I V : Type 0) : Type 0 where
 abbrev pub row_put : {V : Type 0} → (ℕ → V) → ℕ → V → ℕ → V
 row_put rows i v j = if i == j then v else rows j
 
+-- what was saved is put at an entity's index, by what a closure answers
+abbrev pub PutsSaved : {M V D : Type 0} → Conversion M V D → (M → Option Entity → Type 0) → D → Entity → (ℕ → V) → (ℕ → V) → Type 0
+PutsSaved {M} c post d e old new = (f : M → Entity) → GivesEach post (c.mentions d) f → new ≡ row_put old (index_of e) (c.loaded f d)
+
 -- the components of a storage, by index
 abbrev pub column : {T : Type 0} → Slot T → ℕ → Option T
 column s i = finmap.get s.map i
+
+-- a first storage beside the rest of the rows
+abbrev pub beside : {T W : Type 0} → Slot T → (ℕ → W) → ℕ → Option T × W
+beside s rest i = (column s i, rest i)
 
 module _ {M I V D : Type 0} (id_of : M → I) (eq : I → I → Bool) (c : Conversion M V D) where
   -- first its own id, then those that its components mention; then the row is stored

@@ -1,5 +1,5 @@
 -- What `mark` makes of a storage and of the ids.
-use Rattle.std.specs.Prelude.{◌≡◌, ◌⊎◌, ℕ, Bool, Option}
+use Rattle.std.specs.Prelude.{◌≡◌, ◌⊎◌, ◌+◌, ℕ, Bool, true, Option, None, option_map, is_some}
 use Rattle.std.specs.FinMap as map
 use Rattle.entities.specs.declared.entity.Entity.{Entity}
 use Rattle.entities.specs.Population.{index_of}
@@ -18,6 +18,12 @@ pub record Marks {M I : Type 0} (id_of : M → I) (eq : I → I → Bool) (e : E
 abbrev pub MarksNew : {M I : Type 0} → (M → I) → (I → I → Bool) → (I → Type 0) → Entity → (I → Option Entity) → (I → Option Entity) → Slot M → Slot M → Type 0
 MarksNew {M} id_of eq MayBeNew e a a' s s' = (m : M) × MayBeNew (id_of m) × Marks id_of eq e m a a' s s'
 
+-- the entity keeps the marker that it had, and nothing changed, or it got a new one where it had none
+pub record MarksOnce {M I A : Type 0} (id_of : M → I) (eq : I → I → Bool) (MayBeNew : A → I → Type 0) (mapping : A → I → Option Entity)
+    (e : Entity) (a a' : A) (s s' : Slot M) : Type 0 where
+  pub kept : is_some (map.get s.map (index_of e)) ≡ true → (s' ≡ s) × (mapping a' ≡ mapping a)
+  pub new : map.get s.map (index_of e) ≡ None → MarksNew id_of eq (MayBeNew a) e (mapping a) (mapping a') s s'
+
 -- no id is mapped otherwise, or one that may be new, to the entity
 abbrev pub MayHaveGiven : {I : Type 0} → (I → I → Bool) → (I → Type 0) → Entity → (I → Option Entity) → (I → Option Entity) → Type 0
 MayHaveGiven {I} eq MayBeNew e a a' = (a' ≡ a) ⊎ ((id : I) × MayBeNew id × (a' ≡ put_id eq a id e))
@@ -25,3 +31,7 @@ MayHaveGiven {I} eq MayBeNew e a a' = (a' ≡ a) ⊎ ((id : I) × MayBeNew id ×
 -- the ids are why: they are used up, the one drawn is held, or there is no memory for one
 abbrev pub IsOfIds : MarkError → Type 0
 IsOfIds x = (x ≡ IdsExhausted) ⊎ ((x ≡ IdTaken) ⊎ (x ≡ OutOfMemory))
+
+-- of the new ids that are left one is taken, where it is known how many these are
+abbrev pub TakesOne : Option ℕ → Option ℕ → Type 0
+TakesOne left left' = left ≡ option_map (λ n. n + 1) left'

@@ -1,9 +1,9 @@
 -- Places of a tuple, each of which may be empty.
-use Rattle.std.specs.Prelude.{◌≡◌, List, [], ◌∷◌, ◌++◌, map, Option, Some, None, option_map, refl, ◌⊎◌, IsSome}
+use Rattle.std.specs.Prelude.{◌≡◌, List, [], ◌∷◌, ◌++◌, map, Option, Some, None, option_map, refl, ◌⊎◌}
 use Rattle.std.proofs.Common.{ap, sym, inl, inr, ◌∙◌}
 use Rattle.std.proofs.lemmas.List.{map-append}
 use Rattle.entities.specs.declared.entity.Entity.{Entity}
-use Rattle.saveload.specs.Conversion.{Conversion, IsFaithful, Has, AllNamed, NamedBy, IsFirstUnnamed, IsSavedBy}
+use Rattle.saveload.specs.Conversion.{Conversion, IsFaithful, Has}
 
 abbrev pub if_some : {X Y : Type 0} → (X → List Y) → Option X → List Y
 if_some f None = []

@@ -6,7 +6,9 @@ use Rattle.entities.specs.Population.{Population, lives, generation_now}
 use Rattle.storages.specs.Slot.{Slot}
 use Rattle.entities.specs.declared.entity.Entity.{Entity}
 use Rattle.saveload.specs.declared.entity_data.EntityData.{EntityData}
-use Rattle.saveload.specs.Conversion.{Conversion, IsSavedBy}
+use Rattle.saveload.specs.declared.error.SaveError.{SaveError}
+use Rattle.saveload.specs.declared.error.SaveError.TheVariants.{Unmarked, Custom, OutOfMemory, IdsExhausted, IdTaken}
+use Rattle.saveload.specs.Conversion.{Conversion, Has, IsFirstUnnamed, IsSavedBy}
 
 module _ {M V D : Type 0} (c : Conversion M V D) (marker_of : Entity → Option M) (values : Entity → V) where
   -- its marker, and its row with each reference replaced by a marker
@@ -19,6 +21,14 @@ module _ {M V D : Type 0} (c : Conversion M V D) (marker_of : Entity → Option 
   IsSavedList [] (r ∷ rs) = ⊥
   IsSavedList (e ∷ es) [] = ⊥
   IsSavedList (e ∷ es) (r ∷ rs) = IsRecord e r × IsSavedList es rs
+
+-- why a list was not saved: one of it refers to an entity for which there is no marker, or a conversion's own cause, or want of memory
+abbrev pub RefusesSave : {M : Type 0} → (Entity → Option M) → (Entity → List Entity) → List Entity → SaveError → Type 0
+RefusesSave marker_of refs es (Unmarked x) = (e : Entity) × Has es e × IsFirstUnnamed marker_of (refs e) x
+RefusesSave marker_of refs es (Custom t) = Unit {0}
+RefusesSave marker_of refs es OutOfMemory = Unit {0}
+RefusesSave marker_of refs es IdsExhausted = ⊥
+RefusesSave marker_of refs es IdTaken = ⊥
 
 -- the entity of an index, as it lives
 abbrev pub entity_at : Population → ℕ → Entity

@@ -1,5 +1,5 @@
 -- Identifiers of sixteen bytes, and what a giver of such identifiers has given.
-use Rattle.std.specs.Prelude.{◌≡◌, ◌↔◌, ℕ, List, Option, None, IsTrue, nat_eq, Bool, true, false}
+use Rattle.std.specs.Prelude.{◌≡◌, ◌↔◌, ℕ, List, Option, None, IsTrue, nat_eq, Bool}
 use Rattle.std.specs.Cmp.Lexicographic.{pointwise, same_text, other_text}
 use Rattle.std.specs.HashMap as hash
 use Rattle.std.proofs.Common.{sym, inl, inr}

@@ -9,7 +9,13 @@ use Rattle.serde_json.specs.Written.{has_float}
 
 -- such a value is saved as the marker of its entity
 abbrev pub link_conversion : {M V : Type 0} → (V → Entity) → (Entity → V) → Conversion M V M
-link_conversion target link = record { references = λ v. target v ∷ []; mentions = λ m. m ∷ []; saved = λ f v. f (target v); loaded = λ g m. link (g m); renamed = λ r v. link (r (target v)) }
+link_conversion target link = record {
+  references = λ v. target v ∷ [];
+  mentions = λ m. m ∷ [];
+  saved = λ f v. f (target v);
+  loaded = λ g m. link (g m);
+  renamed = λ r v. link (r (target v));
+}
 
 pub link_faithful : {M V : Type 0} → (target : V → Entity) → (link : Entity → V) → IsFaithful (link_conversion {M = M} {V = V} target link)
 link_faithful target link = record {

@@ -1,11 +1,9 @@
 //! Markers for an entity that is being built.
-ghost use Rattle.std.specs.Prelude.{◌≡◌, true, None, IfOk, IfErr, OnOk, OnErr, is_some};
+ghost use Rattle.std.specs.Prelude.{◌≡◌, IfOk, IfErr, OnOk, OnErr};
 ghost use Rattle.std.specs.Borrow.{sem};
-ghost use Rattle.std.specs.FinMap as map;
 ghost use Rattle.entities.specs.Lending.{lent_to_builder, entity_built, KeptRests};
-ghost use Rattle.entities.specs.Population.{index_of};
 ghost use Rattle.storages.specs.Slot.{IsSame};
-ghost use Rattle.saveload.specs.Marking.{MarksNew, IsOfIds};
+ghost use Rattle.saveload.specs.Marking.{MarksOnce, IsOfIds};
 
 use crate::mark_error::MarkError;
 use crate::marker::{Marker, MarkerAllocator};
@@ -39,8 +37,8 @@ impl<'a> WithMarker for EntityResBuilder<'a> {
         ensures same_reference { IfOk result (λ b. (lent_to_builder b).ghost_name ≡ (lent_to_builder self.entry).ghost_name) }
         ensures entity { IfOk result (λ b. entity_built b ≡ entity_built self.entry) }
         ensures entities { IfOk result (λ b. (lent_to_builder b).now ≡ (lent_to_builder self.entry).now) }
-        ensures kept { is_some (map.get storage.old.map (index_of (entity_built self.entry))) ≡ true → OnOk result ((storage.new ≡ storage.old) × (M.Allocator.mapping allocator.new ≡ M.Allocator.mapping allocator.old)) }
-        ensures new { map.get storage.old.map (index_of (entity_built self.entry)) ≡ None → OnOk result (MarksNew M.id_of M.Identifier.eq (M.Allocator.MayBeNew allocator.old) (entity_built self.entry) (M.Allocator.mapping allocator.old) (M.Allocator.mapping allocator.new) storage.old storage.new) }
+        ensures marks { OnOk result (MarksOnce M.id_of M.Identifier.eq M.Allocator.MayBeNew M.Allocator.mapping
+            (entity_built self.entry) allocator.old allocator.new storage.old storage.new) }
         ensures err { OnErr result (IsSame storage.old storage.new) }
         ensures refused { IfErr result IsOfIds }
     {
@@ -57,8 +55,8 @@ fn mark_at<M: Marker>(
 ) -> Result<(), MarkError>
 where
     M::Allocator: MarkerAllocator<M>,
-    ensures kept { is_some (map.get storage.old.map (index_of (entity_built builder.now))) ≡ true → OnOk result ((storage.new ≡ storage.old) × (M.Allocator.mapping allocator.new ≡ M.Allocator.mapping allocator.old)) }
-    ensures new { map.get storage.old.map (index_of (entity_built builder.now)) ≡ None → OnOk result (MarksNew M.id_of M.Identifier.eq (M.Allocator.MayBeNew allocator.old) (entity_built builder.now) (M.Allocator.mapping allocator.old) (M.Allocator.mapping allocator.new) storage.old storage.new) }
+    ensures marks { OnOk result (MarksOnce M.id_of M.Identifier.eq M.Allocator.MayBeNew M.Allocator.mapping
+        (entity_built builder.now) allocator.old allocator.new storage.old storage.new) }
     ensures err { OnErr result (IsSame storage.old storage.new) }
     ensures refused { IfErr result IsOfIds }
 {

@@ -1,7 +1,8 @@
 //! Components that refer to entities.
 ghost use Rattle.std.specs.Prelude.{◌≡◌, Option, Some, None, IfOk, IfErr};
 ghost use Rattle.entities.specs.declared.entity.Entity.{Entity as Being};
-ghost use Rattle.saveload.specs.Conversion.{Conversion, IsFaithful, Answers, AllNamed, NamedBy, IsOwn, entity_conversion, entity_faithful};
+ghost use Rattle.saveload.specs.Conversion.{Conversion, IsFaithful, Answers, AllNamed, GivesEach, IsOwn, entity_conversion, entity_faithful};
+ghost use Rattle.saveload.specs.Stops.{IsOfStoring};
 
 use crate::error::{LoadError, SaveError};
 use crate::marker::Marker;
@@ -30,7 +31,7 @@ pub trait ConvertSaveload<M: Marker>: Sized {
         ids: F,
     ) -> Result<Self::Data, SaveError>
         requires { F.IsAlwaysCallable ids }
-        ensures exact { (g : Being → Option M) (f : Being → M) → Answers (F.post ids) (conversion.references self.now) g → NamedBy g (conversion.references self.now) f → IfOk result (λ d. d ≡ conversion.saved f self.now) }
+        ensures exact { (f : Being → M) → GivesEach (F.post ids) (conversion.references self.now) f → IfOk result (λ d. d ≡ conversion.saved f self.now) }
         ensures refused { (g : Being → Option M) → Answers (F.post ids) (conversion.references self.now) g → AllNamed g (conversion.references self.now) → IfErr result IsOwn };
 
     /// The value again, by the entities that the markers name.
@@ -40,7 +41,8 @@ pub trait ConvertSaveload<M: Marker>: Sized {
         ids: F,
     ) -> Result<Self, LoadError>
         requires { F.IsAlwaysCallable ids }
-        ensures exact { (g : M → Option Being) (f : M → Being) → Answers (F.post ids) (conversion.mentions saved) g → NamedBy g (conversion.mentions saved) f → IfOk result (λ v. v ≡ conversion.loaded f saved) };
+        ensures exact { (f : M → Being) → GivesEach (F.post ids) (conversion.mentions saved) f → IfOk result (λ v. v ≡ conversion.loaded f saved) }
+        ensures refused { (f : M → Being) → GivesEach (F.post ids) (conversion.mentions saved) f → IfErr result IsOfStoring };
 
     ghost faithful: { IsFaithful conversion };
 }

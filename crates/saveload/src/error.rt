@@ -2,6 +2,7 @@
 ghost use Rattle.std.specs.Prelude.{◌≡◌};
 ghost use Rattle.saveload.specs.declared.error.SaveError.TheVariants.{OutOfMemory as NotSaved};
 ghost use Rattle.saveload.specs.declared.error.LoadError.TheVariants.{OutOfMemory as NotLoaded};
+ghost use Rattle.saveload.specs.Stops.{of_creating};
 
 use entities::{CreateError, Entity};
 use std::alloc::AllocError;
@@ -61,6 +62,8 @@ impl From<AllocError> for LoadError {
 }
 
 impl From<CreateError> for LoadError {
+    ghost from_gives = { λ x e. e ≡ of_creating x };
+
     fn from(error: CreateError) -> Self {
         match error {
             CreateError::IndexLimit => LoadError::IndexLimit,

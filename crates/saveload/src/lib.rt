@@ -4,7 +4,6 @@
 
 mod building;
 mod convert;
-mod deserialize_tuples;
 mod entity_data;
 mod error;
 mod json;
@@ -13,6 +12,7 @@ mod json_tuples;
 mod json_uuids;
 mod laws;
 mod load;
+mod loading;
 mod mark_error;
 mod marker;
 mod marking;

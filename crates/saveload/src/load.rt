@@ -6,10 +6,11 @@ ghost use Rattle.entities.specs.declared.entity.Entity.{Entity as Being};
 ghost use Rattle.entities.specs.Census.{population};
 ghost use Rattle.entities.specs.Population.{index_of};
 ghost use Rattle.storages.specs.Life.{is_alive};
-ghost use Rattle.saveload.specs.Conversion.{Conversion, IsFaithful, Answers, NamedBy};
+ghost use Rattle.saveload.specs.Conversion.{Conversion, IsFaithful, GivesEach};
 ghost use Rattle.saveload.specs.Naming.{naming, NamesAll};
-ghost use Rattle.saveload.specs.Places.{place};
-ghost use Rattle.saveload.specs.Loads.{column, row_put, named, LoadsRecord, Loads};
+ghost use Rattle.saveload.specs.Places.{place, both};
+ghost use Rattle.saveload.specs.Loads.{column, beside, PutsSaved, named, LoadsRecord, Loads};
+ghost use Rattle.saveload.specs.Stops.{IsOfStoring, PartlyPair, PutsSome, StopsNaming, RefusesRecord, Stops};
 
 use crate::convert::ConvertSaveload;
 use crate::entity_data::EntityData;
@@ -31,6 +32,10 @@ pub trait DeserializeComponents<M: Marker> {
     ghost conversion: { Conversion M Self.Row Self.Data };
 
     ghost rows: { Self → ℕ → Self.Row };
+
+    // Of an old row and a new one: some first places of a row are the new one's and the others the old one's, but not all are the new one's.
+    ghost Partly: { Self.Row → Self.Row → Self.Row → Type 0 };
+
     // The same storages are lent.
     ghost SameLoans: { Self → Self → Type 0 };
 
@@ -40,7 +45,8 @@ pub trait DeserializeComponents<M: Marker> {
         ensures { IfOk result (λ v. v.items ≡ conversion.mentions saved.now) };
 
     /// Stores what was saved at an entity that is alive, place by place, by the entities that `ids` gives: a component, which takes
-    /// the place of the one that was there, or none, which takes that one out. After a refusal the places before the refused one stay.
+    /// the place of the one that was there, or none, which takes that one out. After a refusal the places before the refused one stay. An
+    /// entity that is not alive gets nothing.
     ///
     /// Ports `DeserializeComponents::deserialize_entity`.
     fn deserialize_entity<F: Fn(M) -> Option<Entity>>(
@@ -53,7 +59,10 @@ pub trait DeserializeComponents<M: Marker> {
     ) -> Result<(), LoadError>
         requires { F.IsAlwaysCallable ids }
         ensures loans { SameLoans self.old self.new }
-        ensures rows { (g : M → Option Being) (f : M → Being) → is_alive (population entities.now) entity ≡ true → Answers (F.post ids) (conversion.mentions saved) g → NamedBy g (conversion.mentions saved) f → OnOk result (rows self.new ≡ row_put (rows self.old) (index_of entity) (conversion.loaded f saved)) };
+        ensures rows { is_alive (population entities.now) entity ≡ true → OnOk result (PutsSaved conversion (F.post ids) saved entity (rows self.old) (rows self.new)) }
+        ensures stopped { is_alive (population entities.now) entity ≡ true → OnErr result (PutsSome Partly conversion (F.post ids) saved entity (rows self.old) (rows self.new)) }
+        ensures refused { (f : M → Being) → GivesEach (F.post ids) (conversion.mentions saved) f → IfErr result IsOfStoring }
+        ensures dead { is_alive (population entities.now) entity ≡ false → rows self.new ≡ rows self.old };
 
     ghost faithful: { IsFaithful conversion };
 
@@ -92,7 +101,11 @@ pub(crate) fn store_place<
     ids: &F,
 ) -> Result<(), LoadError>
     requires { F.IsAlwaysCallable ids.now }
-    ensures { (g : M → Option Being) (f : M → Being) → is_alive (population entities.now) entity ≡ true → Answers (F.post ids.now) ((place T.conversion).mentions saved) g → NamedBy g ((place T.conversion).mentions saved) f → OnOk result (column masked.new ≡ row_put (column masked.old) (index_of entity) ((place T.conversion).loaded f saved)) }
+    ensures stored { is_alive (population entities.now) entity ≡ true
+        → OnOk result (PutsSaved (place T.conversion) (F.post ids.now) saved entity (column masked.old) (column masked.new)) }
+    ensures err { OnErr result (column masked.new ≡ column masked.old) }
+    ensures dead { is_alive (population entities.now) entity ≡ false → column masked.new ≡ column masked.old }
+    ensures refused { (f : M → Being) → GivesEach (F.post ids.now) ((place T.conversion).mentions saved) f → IfErr result IsOfStoring }
 {
     match saved {
         Some(saved) => {
@@ -107,6 +120,35 @@ pub(crate) fn store_place<
     }
 }
 
+// Stores a first place of an entity, and the rest of its row.
+pub(crate) fn store_with_rest<
+    M: Marker,
+    A: Component + Drop + ConvertSaveload<M>,
+    R: DeserializeComponents<M>,
+    F: Fn(M) -> Option<Entity>,
+>(
+    alloc: Global,
+    entities: &EntitiesRes,
+    entity: Entity,
+    first: &mut MaskedStorage<A>,
+    rest: &mut R,
+    saved: (Option<<A as ConvertSaveload<M>>::Data>, R::Data),
+    ids: F,
+) -> Result<(), LoadError>
+    requires { F.IsAlwaysCallable ids }
+    ensures loans { R.SameLoans rest.old rest.new }
+    ensures rows { is_alive (population entities.now) entity ≡ true
+        → OnOk result (PutsSaved (both (place A.conversion) R.conversion) (F.post ids) saved entity (beside first.old (R.rows rest.old)) (beside first.new (R.rows rest.new))) }
+    ensures stopped { is_alive (population entities.now) entity ≡ true → OnErr result (PutsSome (PartlyPair R.Partly) (both (place A.conversion) R.conversion)
+        (F.post ids) saved entity (beside first.old (R.rows rest.old)) (beside first.new (R.rows rest.new))) }
+    ensures refused { (f : M → Being) → GivesEach (F.post ids) ((both (place A.conversion) R.conversion).mentions saved) f → IfErr result IsOfStoring }
+    ensures dead { is_alive (population entities.now) entity ≡ false → beside first.new (R.rows rest.new) ≡ beside first.old (R.rows rest.old) }
+{
+    let (place, others) = saved;
+    store_place(alloc, entities, first, entity, place, &ids)?;
+    rest.deserialize_entity(alloc, entities, entity, others, ids)
+}
+
 // Puts a component at an entity that is alive.
 fn put_at<T: Component + Drop>(
     entities: &EntitiesRes,
@@ -116,6 +158,7 @@ fn put_at<T: Component + Drop>(
 ) -> Result<(), AllocError>
     ensures alive { is_alive (population entities.now) entity ≡ true → OnOk result (masked.new.map ≡ finmap.insert masked.old.map (index_of entity) value) }
     ensures dead { is_alive (population entities.now) entity ≡ false → OnOk result (masked.new.map ≡ masked.old.map) }
+    ensures err { OnErr result (masked.new.map ≡ masked.old.map) }
 {
     match WriteStorage::new(entities, masked).insert(entity, value) {
         Ok(_) => Ok(()),
@@ -132,6 +175,7 @@ fn take_out<T: Component + Drop>(
 ) -> Result<(), AllocError>
     ensures present { is_some (found_in entities.now masked.old entity) ≡ true → OnOk result (masked.new.map ≡ finmap.remove masked.old.map (index_of entity)) }
     ensures absent { found_in entities.now masked.old entity ≡ None → OnOk result (masked.new.map ≡ masked.old.map) }
+    ensures err { OnErr result (masked.new.map ≡ masked.old.map) }
 {
     match WriteStorage::new(entities, masked).remove(entity) {
         Ok(_) => Ok(()),
@@ -161,6 +205,10 @@ where
         (record { naming = naming M.id_of entities.old (M.Allocator.mapping allocator.old) markers.old; rows = P.rows masked.old })
         list.items
         (record { naming = naming M.id_of entities.new (M.Allocator.mapping allocator.new) markers.new; rows = P.rows masked.new })) }
+    ensures refused { IfErr result (λ e. Stops M.id_of M.Identifier.eq P.conversion P.Partly
+        (record { naming = naming M.id_of entities.old (M.Allocator.mapping allocator.old) markers.old; rows = P.rows masked.old })
+        list.items e
+        (record { naming = naming M.id_of entities.new (M.Allocator.mapping allocator.new) markers.new; rows = P.rows masked.new })) }
 {
     for saved in list {
         load_record(alloc, masked, entities, markers, allocator, saved)?;
@@ -185,6 +233,10 @@ where
         (record { naming = naming M.id_of entities.old (M.Allocator.mapping allocator.old) markers.old; rows = P.rows masked.old })
         saved
         (record { naming = naming M.id_of entities.new (M.Allocator.mapping allocator.new) markers.new; rows = P.rows masked.new })) }
+    ensures refused { IfErr result (λ e. RefusesRecord M.id_of M.Identifier.eq P.conversion P.Partly
+        (record { naming = naming M.id_of entities.old (M.Allocator.mapping allocator.old) markers.old; rows = P.rows masked.old })
+        saved e
+        (record { naming = naming M.id_of entities.new (M.Allocator.mapping allocator.new) markers.new; rows = P.rows masked.new })) }
 {
     let EntityData { marker, components } = saved;
     let entity = allocator.retrieve_entity(marker, markers, entities)?;
@@ -204,7 +256,14 @@ fn name_all<M: Marker>(
 ) -> Result<(), LoadError>
 where
     M::Allocator: MarkerAllocator<M>,
-    ensures { OnOk result (NamesAll M.Identifier.eq (naming M.id_of entities.old (M.Allocator.mapping allocator.old) markers.old) (map M.id_of mentioned.items) (naming M.id_of entities.new (M.Allocator.mapping allocator.new) markers.new)) }
+    ensures named { OnOk result (NamesAll M.Identifier.eq
+        (naming M.id_of entities.old (M.Allocator.mapping allocator.old) markers.old)
+        (map M.id_of mentioned.items)
+        (naming M.id_of entities.new (M.Allocator.mapping allocator.new) markers.new)) }
+    ensures refused { IfErr result (λ e. StopsNaming M.Identifier.eq
+        (naming M.id_of entities.old (M.Allocator.mapping allocator.old) markers.old)
+        (map M.id_of mentioned.items) e
+        (naming M.id_of entities.new (M.Allocator.mapping allocator.new) markers.new)) }
 {
     for m in mentioned {
         let _ = allocator.retrieve_entity(m, markers, entities)?;

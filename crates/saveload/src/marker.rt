@@ -7,9 +7,9 @@ ghost use Rattle.storages.specs.Life.{is_alive};
 ghost use Rattle.storages.specs.Limit.{IsIndex};
 ghost use Rattle.storages.specs.Slot.{IsSame};
 ghost use Rattle.storages.specs.WriteView.{slot, entities_of, found, storage_name};
-ghost use Rattle.saveload.specs.Naming.{naming, ids_in, Names, NamesNone, put_id, put_at};
+ghost use Rattle.saveload.specs.Naming.{naming, ids_in, Knows, Names, NamesNone, put_id, put_at};
 ghost use Rattle.saveload.specs.Remapping.{living_ids};
-ghost use Rattle.saveload.specs.Marking.{MarksNew, IsOfIds, MayHaveGiven};
+ghost use Rattle.saveload.specs.Marking.{MarksNew, IsOfIds, MayHaveGiven, TakesOne};
 
 use crate::mark_error::MarkError;
 use entities::{CreateError, EntitiesRes, Entity};
@@ -56,6 +56,12 @@ pub trait MarkerAllocator<M: Marker> {
     // Whether an id may be given as a new one.
     ghost MayBeNew: { Self → M.Identifier → Type 0 };
 
+    // How many new ids are left, and none where that can't be told: ids that are drawn may turn out to be taken.
+    ghost ids: { Self → Option ℕ };
+
+    // How many are left once this id was given from outside.
+    ghost ids_past: { Self → M.Identifier → Option ℕ };
+
     /// A marker of the given id, or of a new one, which is then mapped to the entity. A refusal leaves the map; for a given id
     /// it is want of memory.
     fn allocate(&mut self, entity: Entity, id: Option<M::Identifier>) -> Result<M, MarkError>
@@ -64,7 +70,12 @@ pub trait MarkerAllocator<M: Marker> {
         ensures mapped { IfOk result (λ m. mapping self.new ≡ put_id M.Identifier.eq (mapping self.old) (M.id_of m) entity) }
         ensures err { OnErr result (mapping self.new ≡ mapping self.old) }
         ensures refused { IfErr result IsOfIds }
-        ensures given_refused { (i : M.Identifier) → id ≡ Some i → IfErr result (λ e. e ≡ MarkError.OutOfMemory) };
+        ensures given_refused { (i : M.Identifier) → id ≡ Some i → IfErr result (λ e. e ≡ MarkError.OutOfMemory) }
+        ensures takes { id ≡ None → OnOk result (TakesOne (ids self.old) (ids self.new)) }
+        ensures passes { (i : M.Identifier) → id ≡ Some i → OnOk result (ids self.new ≡ ids_past self.old i) }
+        ensures err_ids { OnErr result (ids self.new ≡ ids self.old) }
+        ensures used_up { result ≡ Err MarkError.IdsExhausted → ids self.old ≡ Some 0 }
+        ensures drawn { result ≡ Err MarkError.IdTaken → ids self.old ≡ None };
 
     /// The entity that an id is mapped to.
     fn retrieve_entity_internal(&self, id: M::Identifier) -> Option<Entity>
@@ -83,6 +94,8 @@ pub trait MarkerAllocator<M: Marker> {
         ensures named { IfOk result (λ e. Names M.Identifier.eq (naming M.id_of entities.old (mapping self.old) storage.old) (M.id_of marker) e (naming M.id_of entities.new (mapping self.new) storage.new)) }
         ensures err { OnErr result (NamesNone M.Identifier.eq (naming M.id_of entities.old (mapping self.old) storage.old) (M.id_of marker) (naming M.id_of entities.new (mapping self.new) storage.new)) }
         ensures limit { result ≡ Err CreateError.IndexLimit → NoneFree (population entities.old) × NoneUnused (population entities.old) }
+        ensures known { IfOk result (λ e. Knows (naming M.id_of entities.old (mapping self.old) storage.old) (M.id_of marker) e → ids self.new ≡ ids self.old) }
+        ensures ids { (ids self.new ≡ ids self.old) ⊎ (ids self.new ≡ ids_past self.old (M.id_of marker)) }
     {
         let id = marker.id();
         if let Some(known) = self.retrieve_entity_internal(id) {
@@ -110,12 +123,13 @@ pub trait MarkerAllocator<M: Marker> {
         storage: &MaskedStorage<M>,
     ) -> Result<(), AllocError>
         ensures ok { OnOk result (mapping self.new ≡ living_ids M.id_of M.Identifier.eq (population entities.now) storage.now) }
-        ensures err { OnErr result (mapping self.new ≡ mapping self.old) };
+        ensures err { OnErr result (mapping self.new ≡ mapping self.old) }
+        ensures ids { ids self.new ≡ ids self.old };
 
     /// Gives an entity that is alive a marker of a new id, if it has none. The answer is whether it is new, and none for an
     /// entity that isn't alive; the marker is then found in the storage.
     ///
-    /// After a refusal the storage is as before; where memory for the marker was refused, its id may stay mapped.
+    /// A refused call takes no id, and leaves the storage as before; where memory for the marker was refused, an id may stay mapped.
     fn mark(
         &mut self,
         entity: Entity,
@@ -128,22 +142,14 @@ pub trait MarkerAllocator<M: Marker> {
         ensures old { IfOk result (λ o. (o ≡ Some true → ⊥) → (slot storage.new ≡ slot storage.old) × (mapping self.new ≡ mapping self.old)) }
         ensures was { IfOk result (λ o. o ≡ Some false → is_some (found storage.old entity) ≡ true) }
         ensures new { IfOk result (λ o. o ≡ Some true → MarksNew M.id_of M.Identifier.eq (MayBeNew self.old) entity (mapping self.old) (mapping self.new) (slot storage.old) (slot storage.new)) }
+        ensures takes { IfOk result (λ o. o ≡ Some true → TakesOne (ids self.old) (ids self.new)) }
+        ensures old_ids { IfOk result (λ o. (o ≡ Some true → ⊥) → ids self.new ≡ ids self.old) }
         ensures err { OnErr result (IsSame (slot storage.old) (slot storage.new)) }
         ensures err_mapped { OnErr result (MayHaveGiven M.Identifier.eq (MayBeNew self.old) entity (mapping self.old) (mapping self.new)) }
+        ensures err_ids { OnErr result (ids self.new ≡ ids self.old) }
         ensures refused { IfErr result IsOfIds }
-    {
-        if !storage.fetched_entities().is_alive(entity) {
-            return Ok(None);
-        }
-        if storage.contains(entity) {
-            return Ok(Some(false));
-        }
-        let marker = self.allocate(entity, None)?;
-        match storage.insert(entity, marker) {
-            Ok(_) => Ok(Some(true)),
-            Err(_) => Err(MarkError::OutOfMemory),
-        }
-    }
+        ensures used_up { result ≡ Err MarkError.IdsExhausted → ids self.old ≡ Some 0 }
+        ensures drawn { result ≡ Err MarkError.IdTaken → ids self.old ≡ None };
 }
 
 // Whether an index has a marker of this id.

@@ -1,13 +1,13 @@
 //! Marking what saved entities refer to.
-ghost use Rattle.std.specs.Prelude.{◌≡◌, ℕ, ◌++◌, Option, Some, None, Ok, Err, IfOk, IfErr, OnOk, OnErr, List, [], ◌∷◌};
+ghost use Rattle.std.specs.Prelude.{◌≡◌, ℕ, ◌++◌, Option, Some, None, Ok, Err, IfOk, IfErr, OnOk, OnErr, IsSome, List, [], ◌∷◌};
 ghost use Rattle.std.specs.FinMap as map;
 ghost use Rattle.entities.specs.declared.entity.Entity.{Entity as Being};
 ghost use Rattle.entities.specs.Census.{population};
 ghost use Rattle.entities.specs.Population.{index_of, IsAlive};
 ghost use Rattle.storages.specs.WriteView.{slot, entities_of, storage_name, found};
-ghost use Rattle.saveload.specs.Conversion.{Has};
+ghost use Rattle.saveload.specs.Conversion.{Has, AllNamed};
 ghost use Rattle.saveload.specs.Saved.{IsRecord, IsSavedList};
-ghost use Rattle.saveload.specs.Closing.{new_in, marked_in, IsClosed, HasMarked};
+ghost use Rattle.saveload.specs.Closing.{new_in, marked_in, IsClosed, HasMarked, IsMentioned, MarksSome, MarksBefore, MarksUpTo, RefusesMarking};
 
 use crate::error::SaveError;
 use crate::mark_error::MarkError;
@@ -29,6 +29,10 @@ pub(crate) fn mark_all<M: Marker, A: MarkerAllocator<M>, P: SerializeComponents<
     ensures entities { entities_of markers.new ≡ entities_of markers.old }
     ensures closed { OnOk result (IsClosed (marked_in (slot markers.old)) (λ e. P.conversion.references (P.values places.now e)) list.old.items list.new.items) }
     ensures marked { OnOk result ((added : List Being) × (list.new.items ≡ list.old.items ++ added) × HasMarked (slot markers.old) (slot markers.new) added) }
+    ensures named { OnOk result ((e : Being) → Has list.new.items e → AllNamed (λ x. found markers.new x) (P.conversion.references (P.values places.now e))) }
+    ensures marks { MarksSome (population (entities_of markers.old)) (IsMentioned (λ e. P.conversion.references (P.values places.now e)) list.old.items) (slot markers.old) (slot markers.new) }
+    ensures refused { IfErr result (RefusesMarking (population (entities_of markers.old))
+        (MarksUpTo (λ e. P.conversion.references (P.values places.now e)) list.old.items (slot markers.old) (slot markers.new))) }
 {
     let mut i = 0;
     while i < list.len() {
@@ -50,6 +54,9 @@ fn mark_references<M: Marker, A: MarkerAllocator<M>>(
     ensures entities { entities_of markers.new ≡ entities_of markers.old }
     ensures list { OnOk result (list.new.items ≡ list.old.items ++ new_in (marked_in (slot markers.old)) references.now) }
     ensures marked { OnOk result (HasMarked (slot markers.old) (slot markers.new) (new_in (marked_in (slot markers.old)) references.now)) }
+    ensures named { OnOk result (AllNamed (λ e. found markers.new e) references.now) }
+    ensures marks { MarksSome (population (entities_of markers.old)) (Has references.now) (slot markers.old) (slot markers.new) }
+    ensures refused { IfErr result (RefusesMarking (population (entities_of markers.old)) (MarksBefore references.now (slot markers.old) (slot markers.new))) }
 {
     for x in references {
         mark_one(*x, allocator, markers, list)?;
@@ -68,6 +75,9 @@ fn mark_one<M: Marker, A: MarkerAllocator<M>>(
     ensures entities { entities_of markers.new ≡ entities_of markers.old }
     ensures list { OnOk result (list.new.items ≡ list.old.items ++ new_in (marked_in (slot markers.old)) (entity ∷ [])) }
     ensures marked { OnOk result (HasMarked (slot markers.old) (slot markers.new) (new_in (marked_in (slot markers.old)) (entity ∷ []))) }
+    ensures named { OnOk result (IsSome (found markers.new entity)) }
+    ensures marks { MarksSome (population (entities_of markers.old)) (Has (entity ∷ [])) (slot markers.old) (slot markers.new) }
+    ensures refused { IfErr result (RefusesMarking (population (entities_of markers.old)) (MarksBefore (entity ∷ []) (slot markers.old) (slot markers.new))) }
 {
     match allocator.mark(entity, markers) {
         Ok(Some(true)) => {

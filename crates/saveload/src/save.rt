@@ -1,13 +1,14 @@
 //! Saving the entities that have markers, and those that they refer to.
-ghost use Rattle.std.specs.Prelude.{◌≡◌, ◌++◌, Some, None, IfOk, IfErr, List, [], ◌∷◌};
+ghost use Rattle.std.specs.Prelude.{◌≡◌, ◌++◌, Some, None, IfOk, IfErr, OnErr, IsSome, List, [], ◌∷◌};
 ghost use Rattle.std.specs.FinMap as map;
 ghost use Rattle.entities.specs.declared.entity.Entity.{Entity};
 ghost use Rattle.entities.specs.Census.{population};
 ghost use Rattle.hibits.specs.Left.{left};
 ghost use Rattle.storages.specs.ReadView.{found, slot as slot_read, entities_of as entities_read};
 ghost use Rattle.storages.specs.WriteView.{slot, entities_of, storage_name, found as found_by};
-ghost use Rattle.saveload.specs.Saved.{IsRecord, IsSavedList, all_marked};
-ghost use Rattle.saveload.specs.Closing.{marked_in, SavesAll};
+ghost use Rattle.saveload.specs.Conversion.{AllNamed, Refuses};
+ghost use Rattle.saveload.specs.Saved.{IsRecord, IsSavedList, RefusesSave, all_marked};
+ghost use Rattle.saveload.specs.Closing.{marked_in, IsMentioned, MarksSome, RefusesAll, SavesAll};
 
 use crate::entity_data::EntityData;
 use crate::error::SaveError;
@@ -27,15 +28,18 @@ pub fn serialize<M: Marker + Copy, P: SerializeComponents<M>>(
     places: &P,
     markers: &ReadStorage<'_, M>,
 ) -> Result<Vec<EntityData<M, P::Data>>, SaveError>
-    ensures { IfOk result (λ rs. IsSavedList P.conversion (λ e. found markers.now e) (λ e. P.values places.now e)
+    ensures saved { IfOk result (λ rs. IsSavedList P.conversion (λ e. found markers.now e) (λ e. P.values places.now e)
         (all_marked (population (entities_read markers.now)) (slot_read markers.now)) rs.items) }
+    ensures refused { IfErr result (RefusesSave (λ e. found markers.now e) (λ e. P.conversion.references (P.values places.now e))
+        (all_marked (population (entities_read markers.now)) (slot_read markers.now))) }
 {
     let list = marked(alloc, markers.fetched_entities(), markers.storage())?;
     save_list(alloc, places, markers, &list)
 }
 
 /// Saves every entity that is alive and has a marker, ascending, and then those that they lead to, which get markers, in the order in
-/// which they are first mentioned. After a refusal the markers that were given stay.
+/// which they are first mentioned. After a refusal the markers that were given stay: of those that are mentioned the first ones have one, in
+/// that order.
 ///
 /// Ports `SerializeComponents::serialize_recursive`.
 pub fn serialize_recursive<M: Marker + Copy, A: MarkerAllocator<M>, P: SerializeComponents<M>>(
@@ -48,6 +52,10 @@ pub fn serialize_recursive<M: Marker + Copy, A: MarkerAllocator<M>, P: Serialize
     ensures entities { entities_of markers.new ≡ entities_of markers.old }
     ensures ok { IfOk result (λ rs. SavesAll P.conversion (λ e. found_by markers.new e) (λ e. P.values places.now e) (slot markers.old) (slot markers.new)
         (all_marked (population (entities_of markers.old)) (slot markers.old)) rs.items) }
+    ensures marks { MarksSome (population (entities_of markers.old)) (IsMentioned (λ e. P.conversion.references (P.values places.now e))
+        (all_marked (population (entities_of markers.old)) (slot markers.old))) (slot markers.old) (slot markers.new) }
+    ensures refused { IfErr result (RefusesAll (population (entities_of markers.old)) (λ e. P.conversion.references (P.values places.now e))
+        (all_marked (population (entities_of markers.old)) (slot markers.old)) (slot markers.old) (slot markers.new)) }
 {
     let mut list = marked(alloc, markers.fetched_entities(), markers.storage())?;
     mark_all(alloc, places, allocator, markers, &mut list)?;
@@ -72,14 +80,16 @@ pub(crate) fn marked<M: Marker>(
     Ok(list)
 }
 
-// Saves the entities of a list.
+// Saves the entities of a list, which are alive and have markers.
 fn save_list<M: Marker + Copy, P: SerializeComponents<M>>(
     alloc: Global,
     places: &P,
     markers: &ReadStorage<'_, M>,
     list: &[Entity],
 ) -> Result<Vec<EntityData<M, P::Data>>, SaveError>
-    ensures { IfOk result (λ rs. IsSavedList P.conversion (λ e. found markers.now e) (λ e. P.values places.now e) list.now rs.items) }
+    requires { AllNamed (λ e. found markers.now e) list.now }
+    ensures saved { IfOk result (λ rs. IsSavedList P.conversion (λ e. found markers.now e) (λ e. P.values places.now e) list.now rs.items) }
+    ensures refused { IfErr result (RefusesSave (λ e. found markers.now e) (λ e. P.conversion.references (P.values places.now e)) list.now) }
 {
     let mut records = Vec::new(alloc);
     for e in list {
@@ -91,14 +101,16 @@ fn save_list<M: Marker + Copy, P: SerializeComponents<M>>(
     Ok(records)
 }
 
-// Saves an entity.
+// Saves an entity, which is alive and has a marker.
 fn save_one<M: Marker + Copy, P: SerializeComponents<M>>(
     alloc: Global,
     places: &P,
     markers: &ReadStorage<'_, M>,
     entity: Entity,
 ) -> Result<EntityData<M, P::Data>, SaveError>
-    ensures { IfOk result (IsRecord P.conversion (λ e. found markers.now e) (λ e. P.values places.now e) entity) }
+    requires { IsSome (found markers.now entity) }
+    ensures saved { IfOk result (IsRecord P.conversion (λ e. found markers.now e) (λ e. P.values places.now e) entity) }
+    ensures refused { IfErr result (Refuses (λ e. found markers.now e) (P.conversion.references (P.values places.now entity))) }
 {
     match markers.get(entity) {
         Some(marker) => {

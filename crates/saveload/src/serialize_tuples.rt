@@ -1,5 +1,6 @@
 //! Tuples of one to six storages whose components are saved.
-ghost use Rattle.saveload.specs.Tuples.{one_place, one_place_faithful, two_places, two_places_faithful, three_places, three_places_faithful, four_places, four_places_faithful, five_places, five_places_faithful, six_places, six_places_faithful};
+ghost use Rattle.saveload.specs.Tuples.{one_place, two_places, three_places, four_places, five_places, six_places};
+ghost use Rattle.saveload.specs.Tuples.{one_place_faithful, two_places_faithful, three_places_faithful, four_places_faithful, five_places_faithful, six_places_faithful};
 
 use crate::convert::ConvertSaveload;
 use crate::error::SaveError;

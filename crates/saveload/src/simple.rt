@@ -5,7 +5,7 @@ ghost use Rattle.storages.specs.Life.{is_alive};
 ghost use Rattle.storages.specs.Slot.{IsSame};
 ghost use Rattle.storages.specs.WriteView.{slot, entities_of, found, storage_name};
 ghost use Rattle.saveload.specs.Naming.{put_id};
-ghost use Rattle.saveload.specs.Marking.{MarksNew, MayHaveGiven, IsOfIds};
+ghost use Rattle.saveload.specs.Marking.{MarksNew, MayHaveGiven, IsOfIds, TakesOne};
 ghost use Rattle.saveload.specs.Remapping.{living_ids};
 ghost use Rattle.saveload.specs.Numbers.{same_numbers};
 
@@ -101,11 +101,15 @@ impl<T> SimpleMarkerAllocator<T> {
 }
 
 impl<T> MarkerAllocator<SimpleMarker<T>> for SimpleMarkerAllocator<T> {
-    ghost use Rattle.saveload.specs.Simple.{given, number_of_marker};
+    ghost use Rattle.saveload.specs.Simple.{given, number_of_marker, numbers_from, numbers_past};
 
     ghost mapping = { λ a. given a };
 
     ghost MayBeNew = { λ a id. id ≡ a.next };
+
+    ghost ids = { λ a. numbers_from a.next };
+
+    ghost ids_past = { λ a id. numbers_past a.next id };
 
     fn allocate(&mut self, entity: Entity, id: Option<u64>) -> Result<SimpleMarker<T>, MarkError>
         ensures given { (i : ℕ) → id ≡ Some i → IfOk result (λ m. m.id ≡ i) }
@@ -118,6 +122,8 @@ impl<T> MarkerAllocator<SimpleMarker<T>> for SimpleMarkerAllocator<T> {
         ensures err_next { OnErr result (self.new.next ≡ self.old.next) }
         ensures refused { IfErr result IsOfIds }
         ensures given_refused { (i : ℕ) → id ≡ Some i → IfErr result (λ e. e ≡ MarkError.OutOfMemory) }
+        ensures takes { id ≡ None → OnOk result (TakesOne (numbers_from self.old.next) (numbers_from self.new.next)) }
+        ensures passes { (i : ℕ) → id ≡ Some i → OnOk result (numbers_from self.new.next ≡ numbers_past self.old.next i) }
     {
         let chosen = match id {
             Some(given) => given,
@@ -181,6 +187,7 @@ impl<T> MarkerAllocator<SimpleMarker<T>> for SimpleMarkerAllocator<T> {
         ensures exhausted { result ≡ Err MarkError.IdsExhausted → 2 ^ 64 ≤ self.old.next }
         ensures others { IfErr result (λ e. (e ≡ MarkError.IdsExhausted → ⊥) → e ≡ MarkError.OutOfMemory) }
         ensures refused { IfErr result IsOfIds }
+        ensures takes { IfOk result (λ o. o ≡ Some true → TakesOne (numbers_from self.old.next) (numbers_from self.new.next)) }
     {
         if !storage.fetched_entities().is_alive(entity) {
             return Ok(None);

@@ -142,6 +142,10 @@ impl<R: Rng> MarkerAllocator<UuidMarker<R>> for UuidMarkerAllocator<R> {
 
     ghost MayBeNew = { λ a id. IsDrawn (given_uuids a) (R.stream a.generator) id };
 
+    ghost ids = { λ a. None };
+
+    ghost ids_past = { λ a id. None };
+
     fn allocate(&mut self, entity: Entity, id: Option<Uuid>) -> Result<UuidMarker<R>, MarkError>
         ensures given { (i : _) → id ≡ Some i → IfOk result (λ m. m.uuid ≡ i) }
         ensures new { id ≡ None → IfOk result (λ m. IsDrawn (given_uuids self.old) (R.stream self.old.generator) m.uuid) }
@@ -150,6 +154,7 @@ impl<R: Rng> MarkerAllocator<UuidMarker<R>> for UuidMarkerAllocator<R> {
         ensures refused { IfErr result IsOfIds }
         ensures given_refused { (i : _) → id ≡ Some i → IfErr result (λ e. e ≡ MarkError.OutOfMemory) }
         ensures taken { result ≡ Err MarkError.IdTaken → (id ≡ None) × (is_some (given_uuids self.old (drawn_from (R.stream self.old.generator))) ≡ true) }
+        ensures never_used_up { result ≡ Err MarkError.IdsExhausted → ⊥ }
     {
         match id {
             Some(given) => self.map_to(given, entity),
@@ -192,6 +197,7 @@ impl<R: Rng> MarkerAllocator<UuidMarker<R>> for UuidMarkerAllocator<R> {
         ensures err_mapped { OnErr result (MayHaveGiven (⟦<Uuid as PartialEq>⟧.eq) (IsDrawn (given_uuids self.old) (R.stream self.old.generator)) entity (given_uuids self.old) (given_uuids self.new)) }
         ensures refused { IfErr result IsOfIds }
         ensures taken { result ≡ Err MarkError.IdTaken → is_some (given_uuids self.old (drawn_from (R.stream self.old.generator))) ≡ true }
+        ensures never_used_up { result ≡ Err MarkError.IdsExhausted → ⊥ }
     {
         if !storage.fetched_entities().is_alive(entity) {
             return Ok(None);

@@ -51,6 +51,52 @@ impl<M: Marker> ConvertSaveload<M> for Position {
     ghost faithful = { plain_faithful };
 }
 
+/// How high an entity stands. A load refuses one below zero.
+#[derive(Clone, Copy, PartialEq, Eq)]
+pub struct Level(
+    /// The height.
+    pub i64,
+);
+
+impl Component for Level {
+    type Storage = VecStorage<Self>;
+}
+
+impl<M: Marker> ConvertSaveload<M> for Level {
+    type Data = Level;
+
+    ghost conversion = { plain_conversion };
+
+    fn references(&self, alloc: Global) -> Result<Vec<Entity>, AllocError> {
+        Ok(Vec::new(alloc))
+    }
+
+    fn mentions(alloc: Global, _saved: &Level) -> Result<Vec<M>, AllocError> {
+        Ok(Vec::new(alloc))
+    }
+
+    fn convert_into<F: Fn(Entity) -> Option<M>>(
+        &self,
+        _alloc: Global,
+        _ids: F,
+    ) -> Result<Level, SaveError> {
+        Ok(*self)
+    }
+
+    fn convert_from<F: Fn(M) -> Option<Entity>>(
+        saved: Level,
+        alloc: Global,
+        _ids: F,
+    ) -> Result<Self, LoadError> {
+        if saved.0 < 0 {
+            return Err(LoadError::Custom("below zero".to_string(alloc)?));
+        }
+        Ok(saved)
+    }
+
+    ghost faithful = { plain_faithful };
+}
+
 /// What an entity is linked to.
 #[derive(Clone, Copy, PartialEq, Eq)]
 pub struct Link(

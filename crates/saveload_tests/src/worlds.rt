@@ -54,8 +54,8 @@ pub trait Told: Sized {
     fn with_entities(alloc: Global, count: u32) -> Result<Self, Fail>;
 }
 
-// A storage without components.
-fn empty<T: Component>(alloc: Global) -> Result<MaskedStorage<T>, Fail> {
+/// A storage without components.
+pub fn empty<T: Component>(alloc: Global) -> Result<MaskedStorage<T>, Fail> {
     Ok(MaskedStorage::new(alloc, T::Storage::try_default(alloc)?))
 }
 

@@ -33,7 +33,8 @@ use Rattle.specs.specs.declared.job.Job.TheVariants.{InsertAll, Own}
 use Rattle.specs.specs.Evolving.{Evolves, ValuesLive}
 use Rattle.specs.specs.Jobs.{RunsJobs}
 use Rattle.specs.proofs.Carrying.{carried, each_more}
-use Rattle.specs.proofs.Lasting.{grown, merged_kept, inserted_living, removed_living, living_step}
+use Rattle.specs.specs.Ids.{Ids}
+use Rattle.specs.proofs.Lasting.{living_whatever_ids, grown, merged_kept, inserted_living, removed_living, living_step}
 use Rattle.specs.specs.Leading.{index_at, replay, is_named}
 use Rattle.specs.specs.Following.{values, unread, IsListening, IsFollowed, Advances, Follows, Replays, given_by, given, Each, Throughout, JobSpares, AllSpare, Spared, IsWatched, IsQuiet, AreQuiet, Tells}
 use Rattle.specs.proofs.Leading.{leads_more, replay-append, or_false}
@@ -54,7 +55,7 @@ some_below : {V : Type 0} (o : Option (Column V)) → ((c : Column V) (i : ℕ) 
 some_below None below i h = absurd (false≢true h)
 some_below (Some c) below i h = below c i refl h
 
-living_below : {K V : Type 0} (slot : K) (s : State K V) → OnlyLiving s → IsBelow (s.table slot)
+pub living_below : {K V : Type 0} (slot : K) (s : State K V) → OnlyLiving s → IsBelow (s.table slot)
 living_below slot s w = some_below (s.table slot) (λ c i is has. w.below i (w.born i (w.values slot c i is has)))
 
 -- a slot is this one or not
@@ -158,7 +159,7 @@ module _ {K V : Type 0} (slot : K) (n : ℕ) (here : K → Bool) (tells : Tells 
   }
 
   -- what the insertion and the removal of a job leave the reader
-  inserted_keeps : (place : V → K) (old new : State K V) (e : Entity) (value : V) (before : Option V) → OnTable (λ t t'. Inserts place old.people t e value before t') old new → IsFollowed slot n old → KeepsAt old.table new.table []
+  pub inserted_keeps : (place : V → K) (old new : State K V) (e : Entity) (value : V) (before : Option V) → OnTable (λ t t'. Inserts place old.people t e value before t') old new → IsFollowed slot n old → KeepsAt old.table new.table []
   inserted_keeps place old new e value before s l = keeps_following {S = ℕ} {J = ℕ} (λ _ _ _. Unit {0}) place (λ _. false) old (Insert e value) (Value before) new s tt l
 
   removed_keeps : (place : V → K) (old new : State K V) (k : K) (e : Entity) (found : Option V) → OnTable (λ t t'. Removes old.people t k e found t') old new → IsFollowed slot n old → KeepsAt old.table new.table []
@@ -170,6 +171,13 @@ module _ {K V : Type 0} (slot : K) (n : ℕ) (here : K → Bool) (tells : Tells 
     followed : IsFollowed slot n s
     follows : Follows slot n first s []
 
+  goes_whatever_ids : (first s : State K V) (ids : Ids K) → GoesOn first s → GoesOn first (record s { ids = ids })
+  goes_whatever_ids first s ids h = record {
+    living = living_whatever_ids s ids h.living;
+    followed = h.followed;
+    follows = record { events = h.follows.events; leads = h.follows.leads; told = h.follows.told };
+  }
+
   goes_on : (first old new : State K V) → GoesOn first old → OnlyLiving new → KeepsAt old.table new.table [] → GoesOn first new
   goes_on first old new h living k = record { living = living; followed = k.listening; follows = follows_more first old new [] [] h.follows (k.advances (living_below slot old h.living)) }
 
@@ -177,7 +185,7 @@ module _ {K V : Type 0} (slot : K) (n : ℕ) (here : K → Bool) (tells : Tells 
       (law : (j : J) (slot : K) (n : ℕ) (old new : State K V) (more : List (Job S J K V)) → does j old more new → spares j slot n → IsFollowed slot n old → Spared spares slot n old more new) where
     -- jobs that spare a reader let it follow the slot
     followed_jobs : (stopped : Bool) (limit count counted : ℕ) (old new : State K V) (jobs left : List (Job S J K V)) → RunsJobs place marks does stopped limit count counted old jobs new left → AllSpare spares slot n jobs → IsFollowed slot n old → IsFollowed slot n new × AllSpare spares slot n left
-    followed_jobs = carried place marks does (IsFollowed slot n) (JobSpares spares slot n)
+    followed_jobs = carried place marks does (IsFollowed slot n) (JobSpares spares slot n) (λ s ids l. l)
         (λ place old new e value before s l. (inserted_keeps place old new e value before s l).listening)
         (λ old new k e found s l. (removed_keeps place old new k e found s l).listening)
         (λ j old new more q s l. ((law j slot n old new more s q l).followed, (law j slot n old new more s q l).added))
@@ -213,7 +221,7 @@ module _ {K V : Type 0} (slot : K) (n : ℕ) (here : K → Bool) (tells : Tells 
       maintain_follows : (old new : WorldState S J K V) (limit : ℕ) (m : Maintained) → Maintains place marks does old limit m new → OnlyLiving old.core → IsWatched spares slot n old → Follows slot n old.core new.core []
       maintain_follows old new limit m s w h =
           let dying = deaths (the_marked old.core.people) old.core (merged old.core) refl h.followed in
-          (carried place marks does (GoesOn old.core) (JobSpares spares slot n)
+          (carried place marks does (GoesOn old.core) (JobSpares spares slot n) (goes_whatever_ids old.core)
           (λ place a b e value before s h. goes_on old.core a b h (inserted_living place a b e value before s h.living) (inserted_keeps place a b e value before s h.followed))
           (λ a b k e found s h. goes_on old.core a b h (removed_living place a b k e found s h.living) (removed_keeps place a b k e found s h.followed))
           (λ j a b more q s h. (own_goes_on old.core j a b more q s h, (law j slot n a b more s q h.followed).added))

@@ -11,6 +11,7 @@ use Rattle.specs.specs.declared.command.Reply.TheVariants.{Done, Entity as Told,
 use Rattle.specs.specs.declared.job.Job.{Job}
 use Rattle.specs.specs.Evolving.{OnePeopleStep, PeopleSteps, Evolves, ValuesLive}
 use Rattle.specs.specs.Gone.{IsGone}
+use Rattle.specs.specs.Ids.{Ids}
 use Rattle.specs.specs.Reached.{OnlyLiving}
 use Rattle.specs.specs.State.{State, OnTable, merged}
 use Rattle.specs.specs.Steps.{WorldState, CoreStep, Maintains, Step, Run}
@@ -22,13 +23,13 @@ use Rattle.specs.specs.Living.{keeps_step, deletes_kept, maintains_kept}
 
 -- the population alone, over no storage
 abbrev bare : Population → State ℕ ℕ
-bare p = record { people = p; table = λ _. None }
+bare p = record { people = p; table = λ _. None; ids = λ _. None }
 
 one_step : (p q : Population) → OnePeopleStep p q → OnlyLiving (bare p) → OnlyLiving (bare q)
-one_step p q (inl s) = keeps_step {S = ℕ} {J = ℕ} (λ v. v) (λ _. false) (bare p) Create (Told s.0) (bare q) (record { people = s.1; table = refl })
-one_step p q (inr (inl s)) = keeps_step {S = ℕ} {J = ℕ} (λ v. v) (λ _. false) (bare p) CreatePending (Told s.0) (bare q) (record { people = s.1; table = refl })
-one_step p q (inr (inr (inl s))) = deletes_kept s.0 (bare p) (bare q) (record { people = s.1; table = λ slot. refl })
-one_step p q (inr (inr (inr (inl s)))) = keeps_step {S = ℕ} {J = ℕ} (λ v. v) (λ _. false) (bare p) (MarkDead s.0) Done (bare q) (record { people = s.1; table = refl })
+one_step p q (inl s) = keeps_step {S = ℕ} {J = ℕ} (λ v. v) (λ _. false) (bare p) Create (Told s.0) (bare q) (record { people = s.1; table = refl; ids = refl })
+one_step p q (inr (inl s)) = keeps_step {S = ℕ} {J = ℕ} (λ v. v) (λ _. false) (bare p) CreatePending (Told s.0) (bare q) (record { people = s.1; table = refl; ids = refl })
+one_step p q (inr (inr (inl s))) = deletes_kept s.0 (bare p) (bare q) (record { people = s.1; table = λ slot. refl; ids = refl })
+one_step p q (inr (inr (inr (inl s)))) = keeps_step {S = ℕ} {J = ℕ} (λ v. v) (λ _. false) (bare p) (MarkDead s.0) Done (bare q) (record { people = s.1; table = refl; ids = refl })
 one_step p q (inr (inr (inr (inr e)))) = maintains_kept (bare p) (bare q) e (λ s. refl)
 
 steps : (n : ℕ) (p q : Population) → PeopleSteps n p q → OnlyLiving (bare p) → OnlyLiving (bare q)
@@ -48,6 +49,10 @@ inserted_living place old new e value before s w = keeps_step {S = ℕ} {J = ℕ
 
 pub removed_living : {K V : Type 0} (place : V → K) (old new : State K V) (slot : K) (e : Entity) (found : Option V) → OnTable (λ t t'. Removes old.people t slot e found t') old new → OnlyLiving old → OnlyLiving new
 removed_living place old new slot e found s w = keeps_step {S = ℕ} {J = ℕ} place (λ _. false) old (AskRemove slot e) (Value found) new s w
+
+-- ids count for nothing here
+pub living_whatever_ids : {K V : Type 0} (s : State K V) (ids : Ids K) → OnlyLiving s → OnlyLiving (record s { ids = ids })
+living_whatever_ids s ids w = record { values = w.values; born = w.born; below = w.below }
 
 -- what each step keeps, a run keeps
 module _ {S J K V : Type 0} (place : V → K) (allocates marks : K → Bool) (does : J → State K V → List (Job S J K V) → State K V → Type 0) (P : State K V → Type 0)
@@ -70,7 +75,7 @@ module _ {S J K V : Type 0} (place : V → K) (allocates marks : K → Bool) (do
   pub gone_jobs : (e : Entity) (old new : State K V) (jobs left : List (Job S J K V)) (stopped : Bool) (limit count counted : ℕ) → RunsJobs place marks does stopped limit count counted old jobs new left → IsGone old.people e → IsGone new.people e
   gone_jobs e old new jobs left stopped limit count counted s w =
       (carried place marks does (λ (s : State K V). IsGone s.people e) (λ _. Unit {0})
-      (λ place old new x value before s w. subst (λ p. IsGone p e) (sym s.people) w)
+      (λ s ids w. w) (λ place old new x value before s w. subst (λ p. IsGone p e) (sym s.people) w)
       (λ old new slot x found s w. subst (λ p. IsGone p e) (sym s.people) w)
       (λ j old new more q s w. (gone_evolved (grows j old new more s).count old.people new.people e (grows j old new more s).steps w, each_unit more))
       (λ pairs rest q. tt)
@@ -88,7 +93,7 @@ module _ {S J K V : Type 0} (place : V → K) (allocates marks : K → Bool) (do
 
     living_maintained : (old new : WorldState S J K V) (limit : ℕ) (m : Maintained) → Maintains place marks does old limit m new → OnlyLiving old.core → OnlyLiving new.core
     living_maintained old new limit m s w =
-        (carried place marks does OnlyLiving (λ _. Unit {0}) inserted_living (removed_living place)
+        (carried place marks does OnlyLiving (λ _. Unit {0}) living_whatever_ids inserted_living (removed_living place)
         (λ j old new more q s w. (own_living j old new more s w, each_unit more)) (λ pairs rest q. tt)
         m.stopped limit m.ran m.refused (merged old.core) new.core old.jobs new.jobs s.jobs (each_unit old.jobs) (merged_kept old.core w)).0
 

@@ -13,3 +13,4 @@ mod Telling
 pub mod Leading
 mod Advancing
 pub mod Following
+pub mod Lawful

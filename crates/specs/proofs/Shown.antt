@@ -122,12 +122,12 @@ module _ {K L V W : Type 0} {slot : K → L} {value : V → W} {t t' : Table K V
     put = becomes_this (slot k) _ _ (put_as g.column (index_of e) g.value) (shown_becomes k _ g.put);
   }
 
-  pub shown_marker_refused : (b : Bool) (p : Population) (k : K) (e : Entity) (r : MarkError) → MarkerIsRefused b p t k e r → MarkerIsRefused b p u (slot k) e r
-  shown_marker_refused b p k e failure.Unregistered h = s.before k ∙ ap (option_map (column_as value)) h
-  shown_marker_refused b p k e failure.NoMarker h = (some_as k h.0, h.1)
-  shown_marker_refused b p k e failure.IdsExhausted h = (lacks_as p k e h.0, h.1)
-  shown_marker_refused b p k e failure.IdTaken h = (lacks_as p k e h.0, h.1)
-  shown_marker_refused b p k e failure.OutOfMemory h = (lacks_as p k e h.0, h.1)
+  pub shown_marker_refused : (b : Bool) (left : Option ℕ) (p : Population) (k : K) (e : Entity) (r : MarkError) → MarkerIsRefused b left p t k e r → MarkerIsRefused b left p u (slot k) e r
+  shown_marker_refused b left p k e failure.Unregistered h = s.before k ∙ ap (option_map (column_as value)) h
+  shown_marker_refused b left p k e failure.NoMarker h = (some_as k h.0, h.1)
+  shown_marker_refused b left p k e failure.IdsExhausted h = (lacks_as p k e h.0, h.1, h.2)
+  shown_marker_refused b left p k e failure.IdTaken h = (lacks_as p k e h.0, h.1, h.2)
+  shown_marker_refused b left p k e failure.OutOfMemory h = (lacks_as p k e h.0, h.1)
 
   pub shown_removes : (p : Population) (k : K) (e : Entity) (found : Option V) → Removes p t k e found t' → Removes p u (slot k) e (option_map value found) u'
   shown_removes p k e found r = record {

@@ -1,7 +1,7 @@
 -- What a storage is as a slot, after its calls.
 use Rattle.std.proofs.Common.{◌≡◌, ℕ, Bool, true, false, cond, ◌==◌, List, [], ◌∷◌, length, refl, sym, ap, ◌∙◌, inl, inr, Option, Some, None, arith, ◌&&◌, ◌||◌}
 use mathlib.Core.Path.{fun_ext}
-use Rattle.std.specs.Prelude.{option_map, IsSome, is_some, ◌⊎◌}
+use Rattle.std.specs.Prelude.{option_map, IsSome, is_some, ◌⊎◌, ◌↔◌}
 use Rattle.std.specs.Ordering.{nat_cmp}
 use Rattle.std.specs.Cmp.{nat_cmp_total, unsigned_tied}
 use Rattle.std.specs.FinMap as map
@@ -209,3 +209,16 @@ module _ {T : Type 0} where
 pub found_at : {T : Type 0} (p : Population) (e : Entity) → IsAlive p e → (o : Option (masked.Slot T)) (x : T) → option_map (λ (w : masked.Slot T). map.get w.map (index_of e)) o ≡ Some (Some x) → FieldGets p (field_column o) e (Some x)
 found_at p e alive None x is = absurd (false≢true (ap is_some is))
 found_at p e alive (Some s) x is = record { column = column_of s; registered = refl; alive = λ _. sym (same_Some _ _ is); dead = λ d. absurd (d alive) }
+
+-- and an entity that is alive finds nothing where nothing is there
+pub lacks_at : {T : Type 0} (p : Population) (e : Entity) → IsAlive p e → (o : Option (masked.Slot T)) → (option_map (λ (w : masked.Slot T). map.get w.map (index_of e)) o ≡ Some None) ↔ FieldGets p (field_column o) e None
+lacks_at p e alive None = (λ is. absurd (false≢true (ap is_some is)), λ f. absurd (false≢true (ap is_some f.registered)))
+lacks_at p e alive (Some s) = (
+  λ is. record { column = column_of s; registered = refl; alive = λ _. sym (same_Some _ _ is); dead = λ d. absurd (d alive) },
+  λ f. ap Some (ap (λ (k : Column _). k.values (index_of e)) (same_Some _ _ f.registered) ∙ sym (f.alive alive)),
+)
+
+-- as does one that is not alive
+pub lacks_dead : {T : Type 0} (p : Population) (e : Entity) → (IsAlive p e → ⊥) → (o : Option (masked.Slot T)) → IsSome o → FieldGets p (field_column o) e None
+lacks_dead p e dead None there = absurd (false≢true there)
+lacks_dead p e dead (Some s) there = record { column = column_of s; registered = refl; alive = λ a. absurd (dead a); dead = λ _. refl }

@@ -4,6 +4,7 @@ use Rattle.std.specs.Borrow.{RattleType, RestsIfErr, MutBor, Fml}
 use Rattle.entities.specs.declared.entity.Entity.{Entity}
 use Rattle.entities.specs.Census.{population}
 use Rattle.entities.specs.Population.{Population, MarkedIfAlive}
+use Rattle.specs.specs.Ids.{Ids}
 use Rattle.specs.specs.Table.{Table, Inserts}
 use Rattle.specs.specs.State.{State, core_state, OnPeople, OnTable}
 use Rattle.specs.specs.declared.core_parts.Core.{Core}
@@ -20,8 +21,8 @@ module _ {S : Type 0} where
   built b = b.entity
 
   -- what the core shows
-  abbrev pub shown : {K V : Type 0} → (S → Table K V) → EntityBuilder S → State K V
-  shown table b = core_state table (lent_to b).now
+  abbrev pub shown : {K V : Type 0} → (S → Table K V) → (S → Ids K) → EntityBuilder S → State K V
+  shown table ids b = core_state table ids (lent_to b).now
 
   -- the entity is marked, if it is alive, and nothing else changes
   pub record IsDropped (old : Core S) (e : Entity) (new : Core S) : Type 0 where
@@ -37,18 +38,22 @@ abbrev pub RestsUnborn : (S : RattleType) {E : Type 0} → MutBor (Core S.Denot)
 RestsUnborn S c r = RestsIfErr (the_row S) c (λ b. (lent_to b).ghost_name) r (λ n. n ≡ c.now)
 
 -- an entity that was refused a component is marked, if it is alive, and no component changed
-abbrev pub RestsMarkedAt : (S : RattleType) {K V E : Type 0} → (S.Denot → Table K V) → MutBor (Core S.Denot) → Entity → Result (EntityBuilder S.Denot) E → Fml
-RestsMarkedAt S table c e r = RestsIfErr (the_row S) c (λ b. (lent_to b).ghost_name) r (λ n. MarksOne e (core_state table c.now) (core_state table n))
+abbrev pub RestsMarkedAt : (S : RattleType) {K V E : Type 0} → (S.Denot → Table K V) → (S.Denot → Ids K) → MutBor (Core S.Denot) → Entity → Result (EntityBuilder S.Denot) E → Fml
+RestsMarkedAt S table ids c e r = RestsIfErr (the_row S) c (λ b. (lent_to b).ghost_name) r (λ n. MarksOne e (core_state table ids c.now) (core_state table ids n))
 
-abbrev pub RestsMarked : (S : RattleType) {K V E : Type 0} → (S.Denot → Table K V) → EntityBuilder S.Denot → Result (EntityBuilder S.Denot) E → Fml
-RestsMarked S table b r = RestsMarkedAt S table (lent_to b) (built b) r
+abbrev pub RestsMarked : (S : RattleType) {K V E : Type 0} → (S.Denot → Table K V) → (S.Denot → Ids K) → EntityBuilder S.Denot → Result (EntityBuilder S.Denot) E → Fml
+RestsMarked S table ids b r = RestsMarkedAt S table ids (lent_to b) (built b) r
 
 -- an entity that is alive gets the value, whatever it had before
 pub record PutsIn {K V : Type 0} (place : V → K) (p : Population) (old : Table K V) (e : Entity) (value : V) (new : Table K V) : Type 0 where
   pub before : Option V
   pub inserts : Inserts place p old e value before new
 
+-- the same of a state, in which nothing else changes
+abbrev pub PutsAlone : {K V : Type 0} → (V → K) → Entity → V → State K V → State K V → Type 0
+PutsAlone place e value old new = OnTable (λ t t'. PutsIn place old.people t e value t') old new
+
 -- it gets a component that is there, and without one nothing changes
 abbrev pub MaybePuts : {K V T : Type 0} → (V → K) → (T → V) → Entity → Option T → State K V → State K V → Type 0
-MaybePuts place value e (Some x) old new = OnTable (λ t t'. PutsIn place old.people t e (value x) t') old new
+MaybePuts place value e (Some x) old new = PutsAlone place e (value x) old new
 MaybePuts place value e None old new = new ≡ old

@@ -11,3 +11,4 @@ use Rattle.specs.specs.State.{State}
 pub record DropsComponents {K V : Type 0} (es : List Entity) (old new : State K V) : Type 0 where
   pub people : new.people ≡ old.people
   pub table : (s : K) → new.table s ≡ option_map (without_values (filter (is_alive old.people) es)) (old.table s)
+  pub ids : new.ids ≡ old.ids

@@ -4,10 +4,10 @@ use Rattle.entities.specs.declared.entity.Entity.{Entity}
 use Rattle.specs.specs.declared.command.Refusal.{Refusal}
 use Rattle.specs.specs.declared.command.Refusal.TheVariants.{OutOfMemory}
 use Rattle.specs.specs.Table.{Inserts, InsertIsRefused, Removes, RemovalWantsMemory}
-use Rattle.specs.specs.Marks.{GivesMarker, MarkerIsRefused}
+use Rattle.specs.specs.Marking.{GivesMarkerIn, GetsNoMarker}
 use Rattle.saveload.specs.declared.mark_error.MarkError.{MarkError}
 use Rattle.saveload.specs.declared.mark_error.MarkError.TheVariants.{OutOfMemory as NoMemory}
-use Rattle.specs.specs.State.{State, OnTable}
+use Rattle.specs.specs.State.{State, InsertsAlone, RemovesAlone}
 use Rattle.specs.specs.declared.job.Job.{Job}
 use Rattle.specs.specs.declared.job.Job.TheVariants.{Insert, InsertAll, Remove, Mark, Own}
 
@@ -17,7 +17,7 @@ count_of b = if b then 1 else 0
 
 -- an insertion, or its refusal for another cause than memory, which is counted
 abbrev pub InsertStep : {K V : Type 0} → (V → K) → State K V → Entity → V → Bool → State K V → Type 0
-InsertStep {K} {V} place old e value false new = (before : Option V) × OnTable (λ t t'. Inserts place old.people t e value before t') old new
+InsertStep {K} {V} place old e value false new = (before : Option V) × InsertsAlone place e value before old new
 InsertStep place old e value true new = ((r : Refusal) × InsertIsRefused place old.people old.table e value r × (r ≢ OutOfMemory)) × (new ≡ old)
 
 -- an insertion that wants memory
@@ -44,17 +44,17 @@ pub record KeepsRest {K V : Type 0} (place : V → K) (old : State K V) (pairs :
 
 -- a removal, or nothing where the slot is not registered
 abbrev pub RemoveStep : {K V : Type 0} → State K V → K → Entity → State K V → Type 0
-RemoveStep {K} {V} old slot e new = MatchOption (old.table slot) (new ≡ old) (λ _. (found : Option V) × OnTable (λ t t'. Removes old.people t slot e found t') old new)
+RemoveStep {K} {V} old slot e new = MatchOption (old.table slot) (new ≡ old) (λ _. (found : Option V) × RemovesAlone slot e found old new)
 
 -- A marker where there was none, or one that was there, in a slot that holds markers; or its refusal for another cause than memory, which is counted,
 -- as is an entity that is not alive. `marks` tells which slots hold markers.
 abbrev pub MarkStep : {K V : Type 0} → (K → Bool) → State K V → K → Entity → Bool → State K V → Type 0
-MarkStep marks old slot e false new = (marks slot ≡ true) × (given : Bool) × OnTable (λ t t'. GivesMarker old.people t slot e (Some given) t') old new
-MarkStep marks old slot e true new = ((marks slot ≡ true) × OnTable (λ t t'. GivesMarker old.people t slot e None t') old new) ⊎ (((r : MarkError) × MarkerIsRefused (marks slot) old.people old.table slot e r × (r ≢ NoMemory)) × (new ≡ old))
+MarkStep marks old slot e false new = (marks slot ≡ true) × (given : Bool) × GivesMarkerIn slot e (Some given) old new
+MarkStep marks old slot e true new = ((marks slot ≡ true) × GivesMarkerIn slot e None old new) ⊎ (((r : MarkError) × GetsNoMarker marks old slot e r × (r ≢ NoMemory)) × (new ≡ old))
 
 -- a mark that wants memory
 abbrev pub MarkWantsRoom : {K V : Type 0} → (K → Bool) → State K V → K → Entity → Type 0
-MarkWantsRoom marks s slot e = MarkerIsRefused (marks slot) s.people s.table slot e NoMemory
+MarkWantsRoom marks s slot e = GetsNoMarker marks s slot e NoMemory
 
 module _ {S J K V : Type 0} (place : V → K) (marks : K → Bool) (does : J → State K V → List (Job S J K V) → State K V → Type 0) where
   -- a job, how many refusals it counts, and the further jobs that it queues

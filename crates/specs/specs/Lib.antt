@@ -2,10 +2,12 @@ pub mod Column
 pub mod Readers
 pub mod Maps
 pub mod Table
+pub mod Ids
 pub mod Marks
 pub mod Sets
 pub mod People
 pub mod State
+pub mod Marking
 pub mod Queue
 pub mod Evolving
 pub mod Jobs
@@ -25,5 +27,6 @@ pub mod Creating
 pub mod Dropping
 pub mod Leading
 pub mod Following
+pub mod Laws
 pub mod Living
 pub mod Lawful

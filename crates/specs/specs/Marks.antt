@@ -1,5 +1,5 @@
 -- Markers for entities.
-use Rattle.std.specs.Prelude.{◌≡◌, Bool, true, false, Option, Some, None, IsSome}
+use Rattle.std.specs.Prelude.{◌≡◌, ℕ, Bool, true, false, Option, Some, None, IsSome}
 use Rattle.entities.specs.declared.entity.Entity.{Entity}
 use Rattle.entities.specs.Population.{index_of, Population, IsAlive}
 use Rattle.saveload.specs.declared.mark_error.MarkError.{MarkError}
@@ -36,14 +36,14 @@ GivesMarker p old slot e None new = IsSome (old slot) × (IsAlive p e → ⊥) �
 GivesMarker p old slot e (Some false) new = HasMarker p (old slot) e × (new ≡ old)
 GivesMarker p old slot e (Some true) new = GetsMarker p old slot e new
 
--- Why an entity gets no marker, in a slot that holds markers or does not: an id, or memory, is wanted only in a slot of markers, for an entity that
--- is alive and has none.
-abbrev pub MarkerIsRefused : {K V : Type 0} → Bool → Population → Table K V → K → Entity → MarkError → Type 0
-MarkerIsRefused holds_markers p table slot e Unregistered = table slot ≡ None
-MarkerIsRefused holds_markers p table slot e NoMarker = IsSome (table slot) × (holds_markers ≡ false)
-MarkerIsRefused holds_markers p table slot e IdsExhausted = LacksMarker p (table slot) e × (holds_markers ≡ true)
-MarkerIsRefused holds_markers p table slot e IdTaken = LacksMarker p (table slot) e × (holds_markers ≡ true)
-MarkerIsRefused holds_markers p table slot e OutOfMemory = LacksMarker p (table slot) e × (holds_markers ≡ true)
+-- Why an entity gets no marker, in a slot that holds markers or does not, with so many ids left: an id, or memory, is wanted only in a slot of
+-- markers, for an entity that is alive and has none; the ids are used up only where none is left, and one is taken only where that can't be told.
+abbrev pub MarkerIsRefused : {K V : Type 0} → Bool → Option ℕ → Population → Table K V → K → Entity → MarkError → Type 0
+MarkerIsRefused holds_markers left p table slot e Unregistered = table slot ≡ None
+MarkerIsRefused holds_markers left p table slot e NoMarker = IsSome (table slot) × (holds_markers ≡ false)
+MarkerIsRefused holds_markers left p table slot e IdsExhausted = LacksMarker p (table slot) e × (holds_markers ≡ true) × (left ≡ Some 0)
+MarkerIsRefused holds_markers left p table slot e IdTaken = LacksMarker p (table slot) e × (holds_markers ≡ true) × (left ≡ None)
+MarkerIsRefused holds_markers left p table slot e OutOfMemory = LacksMarker p (table slot) e × (holds_markers ≡ true)
 
 -- the same of one field
 pub record FieldGetsMarker {V : Type 0} (p : Population) (old : Option (Column V)) (e : Entity) (new : Option (Column V)) : Type 0 where
@@ -59,9 +59,9 @@ FieldGivesMarker p old e None new = IsSome old × (IsAlive p e → ⊥) × (new 
 FieldGivesMarker p old e (Some false) new = HasMarker p old e × (new ≡ old)
 FieldGivesMarker p old e (Some true) new = FieldGetsMarker p old e new
 
-abbrev pub FieldMarkerIsRefused : {V : Type 0} → Population → Option (Column V) → Entity → MarkError → Type 0
-FieldMarkerIsRefused p field e Unregistered = field ≡ None
-FieldMarkerIsRefused p field e NoMarker = ⊥
-FieldMarkerIsRefused p field e IdsExhausted = LacksMarker p field e
-FieldMarkerIsRefused p field e IdTaken = LacksMarker p field e
-FieldMarkerIsRefused p field e OutOfMemory = LacksMarker p field e
+abbrev pub FieldMarkerIsRefused : {V : Type 0} → Option ℕ → Population → Option (Column V) → Entity → MarkError → Type 0
+FieldMarkerIsRefused left p field e Unregistered = field ≡ None
+FieldMarkerIsRefused left p field e NoMarker = ⊥
+FieldMarkerIsRefused left p field e IdsExhausted = LacksMarker p field e × (left ≡ Some 0)
+FieldMarkerIsRefused left p field e IdTaken = LacksMarker p field e × (left ≡ None)
+FieldMarkerIsRefused left p field e OutOfMemory = LacksMarker p field e

@@ -1,5 +1,5 @@
 -- Queues and lists of jobs, as lists.
-use Rattle.std.specs.Prelude.{List}
+use Rattle.std.specs.Prelude.{◌≡◌, ◌++◌, List}
 use Rattle.specs.specs.declared.job.Job.{Job}
 use Rattle.specs.specs.declared.job.LazyUpdate.{LazyUpdate}
 use Rattle.specs.specs.declared.job.JobList.{JobList}
@@ -8,6 +8,10 @@ module _ {S J K V : Type 0} where
   -- the jobs of a queue, the first first
   abbrev pub queued : LazyUpdate S J K V → List (Job S J K V)
   queued q = q.jobs.items
+
+  -- jobs of which something holds come at the end of a queue
+  abbrev pub QueuesMore : LazyUpdate S J K V → LazyUpdate S J K V → (List (Job S J K V) → Type 0) → Type 0
+  QueuesMore old new R = (more : List (Job S J K V)) × (queued new ≡ queued old ++ more) × R more
 
   -- the jobs of a list, the first first
   abbrev pub listed : JobList S J K V → List (Job S J K V)

@@ -12,12 +12,13 @@ use Rattle.specs.specs.declared.command.Refusal.{Refusal}
 use Rattle.specs.specs.declared.command.Refusal.TheVariants.{WrongGeneration as Wrong, OutOfMemory}
 use Rattle.specs.specs.declared.job.Job.{Job}
 use Rattle.specs.specs.declared.world.World.{World}
+use Rattle.specs.specs.Ids.{Ids}
 use Rattle.specs.specs.Jobs.{RunsJobs}
 use Rattle.specs.specs.People.{Births, BirthIsRefused, DeathIsRefused, Marks, MarkIsRefused, IsEntityAt, NoneMarked, NobodyLives, the_living}
 use Rattle.specs.specs.Queue.{queued}
 use Rattle.specs.specs.Readers.{RegistersReader, RegisterReaderIsRefused, ReadsEvents, DropsReader, ReaderIsRefused, Switches, SwitchIsRefused}
 use Rattle.specs.specs.Sets.{SelectIsRefused}
-use Rattle.specs.specs.State.{State, state_of, OnPeople, OnTable, Deletes, Selects, DeletionWantsMemory, merged}
+use Rattle.specs.specs.State.{State, state_of, OnPeople, OnTable, InsertsAlone, RemovesAlone, Deletes, Selects, DeletionWantsMemory, merged}
 use Rattle.specs.specs.Table.{Table, Registers, Inserts, InsertIsRefused, Gets, GetIsRefused, Removes, RemoveIsRefused, Clears, ClearIsRefused, Counts, IsUnregistered}
 
 -- entities with their components, and the jobs that wait, the first first
@@ -26,8 +27,8 @@ pub record WorldState (S J K V : Type 0) : Type 0 where
   pub jobs : List (Job S J K V)
 
 -- what a world shows: a job that found no memory is the first of those that wait
-abbrev pub world_state : {S J K V : Type 0} → (S → Table K V) → World S J K V → WorldState S J K V
-world_state table w = record { core = state_of table w; jobs = option_to_list w.kept ++ queued w.parts.lazy }
+abbrev pub world_state : {S J K V : Type 0} → (S → Table K V) → (S → Ids K) → World S J K V → WorldState S J K V
+world_state table ids w = record { core = state_of table ids w; jobs = option_to_list w.kept ++ queued w.parts.lazy }
 
 -- only entities and components changed
 pub record OnCore {S J K V : Type 0} (change : State K V → State K V → Type 0) (old new : WorldState S J K V) : Type 0 where
@@ -81,10 +82,10 @@ CoreStep place allocates old (MarkDead e) Done new = OnPeople (λ p p'. Marks p 
 CoreStep place allocates old (AskAlive e) (Yes b) new = (IsTrue b ↔ IsMerged old.people e) × (new ≡ old)
 CoreStep place allocates old (AskLiving e) (Yes b) new = (IsTrue b ↔ IsAlive old.people e) × (new ≡ old)
 CoreStep place allocates old (EntityAt i) (Told e) new = IsEntityAt old.people i e × (new ≡ old)
-CoreStep place allocates old (Insert e value) (Value before) new = OnTable (λ t t'. Inserts place old.people t e value before t') old new
+CoreStep place allocates old (Insert e value) (Value before) new = InsertsAlone place e value before old new
 CoreStep place allocates old (Insert e value) (InsertRefused r back) new = InsertIsRefused place old.people old.table e value r × (back ≡ value) × (new ≡ old)
 CoreStep place allocates old (Get slot e) (Value found) new = Gets old.people old.table slot e found × (new ≡ old)
-CoreStep place allocates old (Remove slot e) (Value found) new = OnTable (λ t t'. Removes old.people t slot e found t') old new
+CoreStep place allocates old (Remove slot e) (Value found) new = RemovesAlone slot e found old new
 CoreStep place allocates old (Clear slot) Done new = OnTable (λ t t'. Clears t slot t') old new
 CoreStep place allocates old (AskCount slot) (Count n) new = Counts old.table slot n × (new ≡ old)
 CoreStep place allocates old (Select x) (Indices is) new = Selects old x is.items × (new ≡ old)

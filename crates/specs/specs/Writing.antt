@@ -8,6 +8,7 @@ use Rattle.storages.specs.Lending.{SlotWrites, SlotRefuses}
 use Rattle.entities.specs.declared.entity.Entity.{Entity}
 use Rattle.entities.specs.Population.{index_of}
 use Rattle.storages.specs.contracts.masked.MaskedStorage as masked
+use Rattle.specs.specs.Ids.{Ids}
 use Rattle.specs.specs.Table.{Table}
 use Rattle.specs.specs.State.{State, core_state}
 use Rattle.specs.specs.contracts.writing.Writing as view
@@ -25,8 +26,8 @@ module _ {S T I : Type 0} where
   storages_of w = (lent w).now.parts.storages
 
   -- what the core shows
-  abbrev pub shown : {K V : Type 0} → (S → Table K V) → Writing S T I → State K V
-  shown table w = core_state table (lent w).now
+  abbrev pub shown : {K V : Type 0} → (S → Table K V) → (S → Ids K) → Writing S T I → State K V
+  shown table ids w = core_state table ids (lent w).now
 
 -- without a storage the core ends as it was
 abbrev pub RestsUnregistered : (S : RattleType) {T I E : Type 0} → MutBor (Core S.Denot) → Result (Writing S.Denot T I) E → Fml

@@ -1,15 +1,16 @@
 //! A builder of one entity of a core.
 ghost use Rattle.std.specs.Prelude.{◌≡◌, Some, IfOk, IfErr};
 ghost use Rattle.std.specs.Borrow.{sem};
-ghost use Rattle.specs.specs.Building.{lent_to, built, shown, RestsMarked, PutsIn, MaybePuts};
+ghost use Rattle.specs.specs.Building.{lent_to, built, shown, RestsMarked, MaybePuts, PutsAlone};
 ghost use Rattle.specs.specs.Field.{FieldInsertIsRefused, field_column};
-ghost use Rattle.specs.specs.State.{OnTable};
+ghost use Rattle.specs.specs.Marking.{HasMarkerThen, GetsNoMarker};
 
 use crate::command::Refusal;
 use crate::core_parts::Core;
 use crate::has::{Field, Has};
 use crate::slots::Storages;
 use entities::Entity;
+use saveload::MarkError;
 use storages::Component;
 
 /// Puts components at an entity that is being built. Ports `specs::Builder`.
@@ -55,15 +56,31 @@ impl<'a, S> EntityBuilder<'a, S> {
     }
 }
 
+impl<'a, S: Storages> EntityBuilder<'a, S> {
+    /// The builder again, once its entity has a marker in a slot of markers: a new one, or the one that it had. A refused call drops the builder, so
+    /// that the entity is marked as one that dies. Ports `MarkedBuilder::marked`.
+    pub fn marked(self, slot: S::Slot) -> Result<Self, MarkError>
+        ensures* rests { sem 𝓛 (RestsMarked S.row S.table S.ids self.entry result) }
+        ensures same_reference { IfOk result (λ b. (lent_to b).ghost_name ≡ (lent_to self.entry).ghost_name) }
+        ensures entity { IfOk result (λ b. built b ≡ built self.entry) }
+        ensures ok { IfOk result (λ b. HasMarkerThen slot (built self.entry) (shown S.table S.ids self.entry) (shown S.table S.ids b)) }
+        ensures refused { IfErr result (GetsNoMarker S.marks (shown S.table S.ids self.entry) slot (built self.entry)) }
+    {
+        let EntityBuilder { core, entity } = self;
+        core.build_marked(entity, slot)
+    }
+}
+
 impl<'a, S: Storages> Builder<S> for EntityBuilder<'a, S> {
+    #[inline(always)]
     fn with<T: Component + Drop, I>(self, component: T) -> Result<Self, (Refusal, T)>
     where
         S: Has<T, I>,
-        ensures* rests { sem 𝓛 (RestsMarked S.row S.table self.entry result) }
+        ensures* rests { sem 𝓛 (RestsMarked S.row S.table S.ids self.entry result) }
         ensures same_reference { IfOk result (λ b. (lent_to b).ghost_name ≡ (lent_to self.entry).ghost_name) }
         ensures entity { IfOk result (λ b. built b ≡ built self.entry) }
-        ensures ok { IfOk result (λ b. OnTable (λ t t'. PutsIn S.place (shown S.table self.entry).people t (built self.entry) (S.as_value component) t') (shown S.table self.entry) (shown S.table b)) }
-        ensures refused { IfErr result (λ r. FieldInsertIsRefused (shown S.table self.entry).people (field_column (S.part (lent_to self.entry).now.parts.storages)) (built self.entry) r.0) }
+        ensures ok { IfOk result (λ b. PutsAlone S.place (built self.entry) (S.as_value component) (shown S.table S.ids self.entry) (shown S.table S.ids b)) }
+        ensures refused { IfErr result (λ r. FieldInsertIsRefused (shown S.table S.ids self.entry).people (field_column (S.part (lent_to self.entry).now.parts.storages)) (built self.entry) r.0) }
         ensures back { IfErr result (λ r. r.1 ≡ component) }
     {
         let EntityBuilder { core, entity } = self;
@@ -73,10 +90,10 @@ impl<'a, S: Storages> Builder<S> for EntityBuilder<'a, S> {
     fn maybe_with<T: Component + Drop, I>(self, component: Option<T>) -> Result<Self, (Refusal, T)>
     where
         S: Has<T, I>,
-        ensures* rests { sem 𝓛 (RestsMarked S.row S.table self.entry result) }
+        ensures* rests { sem 𝓛 (RestsMarked S.row S.table S.ids self.entry result) }
         ensures same_reference { IfOk result (λ b. (lent_to b).ghost_name ≡ (lent_to self.entry).ghost_name) }
         ensures entity { IfOk result (λ b. built b ≡ built self.entry) }
-        ensures ok { IfOk result (λ b. MaybePuts S.place S.as_value (built self.entry) component (shown S.table self.entry) (shown S.table b)) }
+        ensures ok { IfOk result (λ b. MaybePuts S.place S.as_value (built self.entry) component (shown S.table S.ids self.entry) (shown S.table S.ids b)) }
         ensures back { IfErr result (λ r. component ≡ Some r.1) }
     {
         let EntityBuilder { core, entity } = self;
@@ -86,6 +103,7 @@ impl<'a, S: Storages> Builder<S> for EntityBuilder<'a, S> {
         }
     }
 
+    #[inline(always)]
     fn build(self) -> Entity
         ensures entity { result ≡ built self.entry }
         ensures core { self.exit.0.now ≡ (lent_to self.entry).now }

@@ -15,6 +15,7 @@ use std::alloc::Global;
 use storages::{Component, MaskedStorage};
 
 /// Puts a component at an entity that is alive, and answers the one before. A refused component is handed back, and nothing changed.
+#[inline(always)]
 pub fn insert<T: Component, S: Has<T, I>, I>(
     storages: &mut S,
     entities: &EntitiesRes,
@@ -27,6 +28,7 @@ pub fn insert<T: Component, S: Has<T, I>, I>(
     ensures back { IfErr result (λ r. r.1 ≡ component) }
     ensures there { IsSome (S.part storages.old) → IsSome (S.part storages.new) }
     ensures err { OnErr result (S.table storages.new ≡ S.table storages.old) }
+    ensures ids { S.ids storages.new ≡ S.ids storages.old }
 {
     match storages.field_mut() {
         Some(storage) => field::insert_in(storage, entities, e, component),
@@ -62,6 +64,7 @@ pub fn remove<T: Component, S: Has<T, I>, I>(
     ensures refused { IfErr result (FieldRemoveIsRefused (population entities.now) (field_column (S.part storages.old)) e) }
     ensures there { IsSome (S.part storages.old) → IsSome (S.part storages.new) }
     ensures err { OnErr result (S.table storages.new ≡ S.table storages.old) }
+    ensures ids { S.ids storages.new ≡ S.ids storages.old }
 {
     match storages.field_mut() {
         Some(storage) => field::remove_in(storage, entities, e),
@@ -76,6 +79,7 @@ pub fn clear<T: Component, S: Has<T, I>, I>(storages: &mut S) -> Result<(), Refu
     ensures refused { IfErr result (FieldClearIsRefused (field_column (S.part storages.old))) }
     ensures there { IsSome (S.part storages.old) → IsSome (S.part storages.new) }
     ensures err { OnErr result (S.table storages.new ≡ S.table storages.old) }
+    ensures ids { S.ids storages.new ≡ S.ids storages.old }
 {
     match storages.field_mut() {
         Some(storage) => field::clear_in::<T>(storage),
@@ -91,7 +95,8 @@ pub fn register_with<T: Component, S: Has<T, I>, I>(
     storage: T::Storage,
 )
     requires { (q : ℕ) → (T.Storage.meaning storage).is_free q ≡ true }
-    ensures { RegistersAs (S.table storages.old) S.the_slot (column_with (T.Storage.meaning storage)) (S.table storages.new) }
+    ensures registers { RegistersAs (S.table storages.old) S.the_slot (column_with (T.Storage.meaning storage)) (S.table storages.new) }
+    ensures ids { S.ids storages.new ≡ S.ids storages.old }
 {
     if storages.field().is_none() {
         storages.set_field(MaskedStorage::new(alloc, storage));

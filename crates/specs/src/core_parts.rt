@@ -60,10 +60,11 @@ impl<S: Storages> Core<S> {
     /// A core without entities, over storages that are empty or not registered.
     #[tactic(auto, using(crate::specs::Living::begins))]
     pub fn new(alloc: Global, storages: S) -> Self
-        ensures people { (core_state S.table result).people ≡ no_one }
-        ensures table { (core_state S.table result).table ≡ S.table storages }
-        ensures begins { HasNoValue (S.table storages) → IsNew (core_state S.table result) }
-        ensures living { HasNoValue (S.table storages) → OnlyLiving (core_state S.table result) }
+        ensures people { (core_state S.table S.ids result).people ≡ no_one }
+        ensures table { (core_state S.table S.ids result).table ≡ S.table storages }
+        ensures ids { (core_state S.table S.ids result).ids ≡ S.ids storages }
+        ensures begins { HasNoValue (S.table storages) → IsNew (core_state S.table S.ids result) }
+        ensures living { HasNoValue (S.table storages) → OnlyLiving (core_state S.table S.ids result) }
     {
         Core {
             parts: Parts {
@@ -76,7 +77,7 @@ impl<S: Storages> Core<S> {
 
     /// The entities.
     pub fn entities(&self) -> &EntitiesRes
-        ensures { population result.now ≡ (core_state S.table self.now).people }
+        ensures { population result.now ≡ (core_state S.table S.ids self.now).people }
     {
         &self.parts.entities
     }
@@ -91,7 +92,7 @@ impl<S: Storages> Core<S> {
 
     /// Whether the entity is alive and not pending. Ports `World::is_alive`.
     pub fn is_alive(&self, e: Entity) -> bool
-        ensures { IsTrue result ↔ IsMerged (core_state S.table self.now).people e }
+        ensures { IsTrue result ↔ IsMerged (core_state S.table S.ids self.now).people e }
     {
         self.parts.entities.is_alive(e) && self.parts.entities.alive().contains(e.id())
     }
@@ -99,10 +100,10 @@ impl<S: Storages> Core<S> {
     /// The death at once of an entity, with its components. Ports `WorldExt::delete_entity`.
     #[tactic(auto, using(crate::proofs::Gone::gone_deleted_one))]
     pub fn delete_entity(&mut self, e: Entity) -> Result<(), DeleteError>
-        ensures ok { OnOk result (Deletes (e ∷ []) (core_state S.table self.old) (core_state S.table self.new)) }
-        ensures gone { OnOk result (IsGone (core_state S.table self.new).people e) }
-        ensures refused { IfErr result (DeleteIsRefused (core_state S.table self.old) (e ∷ [])) }
-        ensures err { OnErr result (core_state S.table self.new ≡ core_state S.table self.old) }
+        ensures ok { OnOk result (Deletes (e ∷ []) (core_state S.table S.ids self.old) (core_state S.table S.ids self.new)) }
+        ensures gone { OnOk result (IsGone (core_state S.table S.ids self.new).people e) }
+        ensures refused { IfErr result (DeleteIsRefused (core_state S.table S.ids self.old) (e ∷ [])) }
+        ensures err { OnErr result (core_state S.table S.ids self.new ≡ core_state S.table S.ids self.old) }
     {
         self.delete_entities(&[e])
     }
@@ -110,10 +111,10 @@ impl<S: Storages> Core<S> {
     /// The death at once of a list of entities, with their components. The whole list is tested first. It takes time near linear in the
     /// list, and memory for events alone. Ports `WorldExt::delete_entities`.
     pub fn delete_entities(&mut self, list: &[Entity]) -> Result<(), DeleteError>
-        ensures ok { OnOk result (Deletes list.now (core_state S.table self.old) (core_state S.table self.new)) }
-        ensures gone { OnOk result (All (IsGone (core_state S.table self.new).people) list.now) }
-        ensures refused { IfErr result (DeleteIsRefused (core_state S.table self.old) list.now) }
-        ensures err { OnErr result (core_state S.table self.new ≡ core_state S.table self.old) }
+        ensures ok { OnOk result (Deletes list.now (core_state S.table S.ids self.old) (core_state S.table S.ids self.new)) }
+        ensures gone { OnOk result (All (IsGone (core_state S.table S.ids self.new).people) list.now) }
+        ensures refused { IfErr result (DeleteIsRefused (core_state S.table S.ids self.old) list.now) }
+        ensures err { OnErr result (core_state S.table S.ids self.new ≡ core_state S.table S.ids self.old) }
     {
         if self.parts.storages.reserve_drop(list.len()).is_err() {
             return Err(self.no_room(list));
@@ -129,11 +130,11 @@ impl<S: Storages> Core<S> {
 
     // Takes up pending births, and lets the marked die with their components. All room is got before anything changes.
     pub(crate) fn merge(&mut self) -> Result<Vec<Entity>, AllocError>
-        ensures dead { IfOk result (λ dead. dead.items ≡ the_marked (core_state S.table self.old).people) }
-        ensures gone { IfOk result (λ dead. All (IsGone (core_state S.table self.new).people) dead.items) }
-        ensures merged { OnOk result (core_state S.table self.new ≡ merged (core_state S.table self.old)) }
-        ensures idle { NoneMarked (core_state S.table self.old).people → IsOk result }
-        ensures err { OnErr result (core_state S.table self.new ≡ core_state S.table self.old) }
+        ensures dead { IfOk result (λ dead. dead.items ≡ the_marked (core_state S.table S.ids self.old).people) }
+        ensures gone { IfOk result (λ dead. All (IsGone (core_state S.table S.ids self.new).people) dead.items) }
+        ensures merged { OnOk result (core_state S.table S.ids self.new ≡ merged (core_state S.table S.ids self.old)) }
+        ensures idle { NoneMarked (core_state S.table S.ids self.old).people → IsOk result }
+        ensures err { OnErr result (core_state S.table S.ids self.new ≡ core_state S.table S.ids self.old) }
     {
         let alloc = self.alloc;
         self.parts
@@ -146,9 +147,9 @@ impl<S: Storages> Core<S> {
 
     // Why a list is not deleted that has no room: it is tested first.
     fn no_room(&mut self, list: &[Entity]) -> DeleteError
-        requires { WantsMemory (core_state S.table self.old).table }
-        ensures refused { DeleteIsRefused (core_state S.table self.old) list.now result }
-        ensures same { core_state S.table self.new ≡ core_state S.table self.old }
+        requires { WantsMemory (core_state S.table S.ids self.old).table }
+        ensures refused { DeleteIsRefused (core_state S.table S.ids self.old) list.now result }
+        ensures same { core_state S.table S.ids self.new ≡ core_state S.table S.ids self.old }
     {
         match self.parts.entities.alloc_mut().may_kill(list) {
             Ok(()) => DeleteError::OutOfMemory,

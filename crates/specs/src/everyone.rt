@@ -20,11 +20,11 @@ impl<S: Storages> Core<S> {
     /// The death at once of every living entity, pending births among them, with their components. It takes memory for the list of them, and
     /// for events. Ports `WorldExt::delete_all`.
     pub fn delete_all(&mut self) -> Result<(), AllocError>
-        ensures ok { OnOk result (Deletes (the_living (core_state S.table self.old).people) (core_state S.table self.old) (core_state S.table self.new)) }
-        ensures nobody { OnOk result (OnlyLiving (core_state S.table self.old) → NobodyLives (core_state S.table self.new).people) }
-        ensures gone { OnOk result (All (IsGone (core_state S.table self.new).people) (the_living (core_state S.table self.old).people)) }
-        ensures idle { NobodyLives (core_state S.table self.old).people → IsOk result }
-        ensures err { OnErr result (core_state S.table self.new ≡ core_state S.table self.old) }
+        ensures ok { OnOk result (Deletes (the_living (core_state S.table S.ids self.old).people) (core_state S.table S.ids self.old) (core_state S.table S.ids self.new)) }
+        ensures nobody { OnOk result (OnlyLiving (core_state S.table S.ids self.old) → NobodyLives (core_state S.table S.ids self.new).people) }
+        ensures gone { OnOk result (All (IsGone (core_state S.table S.ids self.new).people) (the_living (core_state S.table S.ids self.old).people)) }
+        ensures idle { NobodyLives (core_state S.table S.ids self.old).people → IsOk result }
+        ensures err { OnErr result (core_state S.table S.ids self.new ≡ core_state S.table S.ids self.old) }
     {
         let list = self.living()?;
         let Parts { entities, storages } = &mut self.parts;
@@ -40,8 +40,8 @@ impl<S: Storages> Core<S> {
 
     /// The living entities, pending births among them, ascending.
     fn living(&self) -> Result<Vec<Entity>, AllocError>
-        ensures all { IfOk result (λ list. list.items ≡ the_living (core_state S.table self.now).people) }
-        ensures none { NobodyLives (core_state S.table self.now).people → IsOk result }
+        ensures all { IfOk result (λ list. list.items ≡ the_living (core_state S.table S.ids self.now).people) }
+        ensures none { NobodyLives (core_state S.table S.ids self.now).people → IsOk result }
     {
         let entities = &self.parts.entities;
         list_of(self.alloc, entities, &entities.living())

@@ -67,6 +67,7 @@ pub fn insert<T: Component>(
 }
 
 /// Puts a component at an entity that is alive, in its storage, and answers the one before.
+#[inline(always)]
 pub fn insert_in<T: Component>(
     storage: &mut MaskedStorage<T>,
     entities: &EntitiesRes,
@@ -89,6 +90,7 @@ pub fn insert_in<T: Component>(
 }
 
 // `WriteStorage::insert`, on the storage.
+#[inline(always)]
 #[tactic(auto, using(crate::proofs::Values::same))]
 fn put<T: Component>(
     storage: &mut MaskedStorage<T>,

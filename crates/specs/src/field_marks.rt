@@ -1,10 +1,11 @@
 //! Markers in a storage of one component type.
-ghost use Rattle.std.specs.Prelude.{◌≡◌, None, Some, true, false, is_some, IfOk, OnErr, IfErr};
+ghost use Rattle.std.specs.Prelude.{◌≡◌, None, Some, Err, true, false, is_some, IfOk, OnErr, IfErr};
 ghost use Rattle.entities.specs.Census.{population};
-ghost use Rattle.saveload.specs.Marking.{MarksNew, IsOfIds};
+ghost use Rattle.saveload.specs.Marking.{MarksNew, IsOfIds, TakesOne};
 ghost use Rattle.storages.specs.Found.{found_in};
 ghost use Rattle.storages.specs.Life.{is_alive};
 ghost use Rattle.specs.specs.Field.{column_of, field_column};
+ghost use Rattle.specs.specs.Ids.{LeftAfter};
 ghost use Rattle.specs.specs.Marks.{FieldGivesMarker, FieldMarkerIsRefused};
 
 use crate::field::Field;
@@ -20,8 +21,10 @@ pub fn mark<M: Marker, A: MarkerAllocator<M>>(
     e: Entity,
 ) -> Result<Option<bool>, MarkError>
     ensures ok { IfOk result (λ given. FieldGivesMarker (population entities.now) (field_column field.old) e given (field_column field.new)) }
-    ensures refused { IfErr result (FieldMarkerIsRefused (population entities.now) (field_column field.old) e) }
+    ensures refused { IfErr result (FieldMarkerIsRefused (A.ids allocator.old) (population entities.now) (field_column field.old) e) }
     ensures err { OnErr result (field_column field.new ≡ field_column field.old) }
+    ensures ids { IfOk result (λ given. LeftAfter given (A.ids allocator.old) (A.ids allocator.new)) }
+    ensures err_ids { OnErr result (A.ids allocator.new ≡ A.ids allocator.old) }
 {
     match field {
         Some(storage) => mark_in(storage, allocator, entities, e),
@@ -37,8 +40,10 @@ fn mark_in<M: Marker, A: MarkerAllocator<M>>(
     e: Entity,
 ) -> Result<Option<bool>, MarkError>
     ensures ok { IfOk result (λ given. FieldGivesMarker (population entities.now) (Some (column_of storage.old)) e given (Some (column_of storage.new))) }
-    ensures refused { IfErr result (FieldMarkerIsRefused (population entities.now) (Some (column_of storage.old)) e) }
+    ensures refused { IfErr result (FieldMarkerIsRefused (A.ids allocator.old) (population entities.now) (Some (column_of storage.old)) e) }
     ensures err { OnErr result (column_of storage.new ≡ column_of storage.old) }
+    ensures ids { IfOk result (λ given. LeftAfter given (A.ids allocator.old) (A.ids allocator.new)) }
+    ensures err_ids { OnErr result (A.ids allocator.new ≡ A.ids allocator.old) }
 {
     if !entities.is_alive(e) {
         return Ok(None);
@@ -62,6 +67,11 @@ fn give<M: Marker, A: MarkerAllocator<M>>(
     ensures new { IfOk result (λ given. given ≡ Some true → MarksNew M.id_of M.Identifier.eq (A.MayBeNew allocator.old) e (A.mapping allocator.old) (A.mapping allocator.new) storage.old storage.new) }
     ensures err { OnErr result (column_of storage.new ≡ column_of storage.old) }
     ensures refused { IfErr result IsOfIds }
+    ensures takes { IfOk result (λ given. given ≡ Some true → TakesOne (A.ids allocator.old) (A.ids allocator.new)) }
+    ensures old_ids { IfOk result (λ given. (given ≡ Some true → ⊥) → A.ids allocator.new ≡ A.ids allocator.old) }
+    ensures err_ids { OnErr result (A.ids allocator.new ≡ A.ids allocator.old) }
+    ensures used_up { result ≡ Err MarkError.IdsExhausted → A.ids allocator.old ≡ Some 0 }
+    ensures drawn { result ≡ Err MarkError.IdTaken → A.ids allocator.old ≡ None }
 {
     allocator.mark(e, &mut WriteStorage::new(entities, storage))
 }

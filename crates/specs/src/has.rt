@@ -60,6 +60,9 @@ pub trait Has<T: Component, I>: Storages + Field<MaskedStorage<T>, I> {
     /// Another storage in the field changes no other slot.
     ghost only: { (s : Self) (w : masked.Slot T) (k : Self.Slot) → (k ≡ the_slot) ⊎ (Self.table (Self.with_part s w) k ≡ Self.table s k) };
 
+    /// Another storage in the field takes no id and gives none back.
+    ghost keeps_ids: { (s : Self) (w : masked.Slot T) → Self.ids (Self.with_part s w) ≡ Self.ids s };
+
     ghost places: { (t : T) → Self.place (as_value t) ≡ the_slot };
 }
 

@@ -1,5 +1,6 @@
 //! Jobs, and lists of them.
 ghost use Rattle.std.specs.Prelude.{◌≡◌, List, [], ◌∷◌, ◌++◌, ◌<◌, ◌^◌, length, IfOk, IfErr, OnOk, OnErr, IfSome, IfNone};
+ghost use Rattle.std.specs.VecDeque.{deque_len, deque_capacity};
 ghost use Rattle.specs.specs.Queue.{queued, listed};
 ghost use Rattle.specs.specs.declared.job.Job.TheVariants.{Insert, InsertAll, Remove, Mark, Own};
 
@@ -8,6 +9,9 @@ use crate::slots::Storages;
 use entities::Entity;
 use std::alloc::{AllocError, Global};
 use std::collections::VecDeque;
+
+// From so many jobs on, a full queue gets room for twice as many and no longer for four times as many.
+const MANY: usize = 1 << 20;
 
 /// A job, which `World::maintain` does.
 #[derive(Drop)]
@@ -64,6 +68,19 @@ impl<S: Storages, J: Drop> LazyUpdate<S, J> {
         self.jobs.pop_front()
     }
 
+    // Gets room for one job more, and where there is memory for several times as many, so that a queue that fills up is seldom moved.
+    #[inline(always)]
+    fn make_room(&mut self) -> Result<(), AllocError>
+        ensures same { queued self.new ≡ queued self.old }
+        ensures room { OnOk result (deque_len self.new.jobs < deque_capacity self.new.jobs) }
+    {
+        let len = self.jobs.len();
+        if len < self.jobs.capacity() || len < MANY && self.jobs.reserve(3 * len + 1).is_ok() {
+            return Ok(());
+        }
+        self.jobs.reserve(1)
+    }
+
     /// Queues a job.
     pub fn push(&mut self, job: Job<S, J>) -> Result<(), (Job<S, J>, AllocError)>
         ensures ok { OnOk result (queued self.new ≡ queued self.old ++ job ∷ []) }
@@ -82,7 +99,7 @@ impl<S: Storages, J: Drop> LazyUpdate<S, J> {
         ensures back { IfErr result (λ r. r.0 ≡ value) }
         ensures err { OnErr result (queued self.new ≡ queued self.old) }
     {
-        if let Err(refused) = self.jobs.reserve(1) {
+        if let Err(refused) = self.make_room() {
             return Err((value, refused));
         }
         let _ = self.jobs.push_back(Job::Insert(e, value));
@@ -98,7 +115,7 @@ impl<S: Storages, J: Drop> LazyUpdate<S, J> {
         ensures back { IfErr result (λ r. r.0 ≡ pairs) }
         ensures err { OnErr result (queued self.new ≡ queued self.old) }
     {
-        if let Err(refused) = self.jobs.reserve(1) {
+        if let Err(refused) = self.make_room() {
             return Err((pairs, refused));
         }
         let _ = self.jobs.push_back(Job::InsertAll(pairs));
@@ -110,7 +127,7 @@ impl<S: Storages, J: Drop> LazyUpdate<S, J> {
         ensures ok { OnOk result (queued self.new ≡ queued self.old ++ Remove slot e ∷ []) }
         ensures err { OnErr result (queued self.new ≡ queued self.old) }
     {
-        self.jobs.reserve(1)?;
+        self.make_room()?;
         let _ = self.jobs.push_back(Job::Remove(slot, e));
         Ok(())
     }
@@ -120,7 +137,7 @@ impl<S: Storages, J: Drop> LazyUpdate<S, J> {
         ensures ok { OnOk result (queued self.new ≡ queued self.old ++ Mark slot e ∷ []) }
         ensures err { OnErr result (queued self.new ≡ queued self.old) }
     {
-        self.jobs.reserve(1)?;
+        self.make_room()?;
         let _ = self.jobs.push_back(Job::Mark(slot, e));
         Ok(())
     }
@@ -131,7 +148,7 @@ impl<S: Storages, J: Drop> LazyUpdate<S, J> {
         ensures back { IfErr result (λ r. r.0 ≡ job) }
         ensures err { OnErr result (queued self.new ≡ queued self.old) }
     {
-        if let Err(refused) = self.jobs.reserve(1) {
+        if let Err(refused) = self.make_room() {
             return Err((job, refused));
         }
         let _ = self.jobs.push_back(Job::Own(job));

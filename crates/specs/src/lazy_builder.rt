@@ -27,9 +27,9 @@ impl<S: Storages, J: Drop> WorldParts<S, J> {
     pub fn create_entity(&mut self) -> Result<LazyBuilder<'_, S, J>, CreateError>
         ensures* rests { sem 𝓛 (RestsUnborn S.row J.row S.Slot.row S.Value.row self.entry result) }
         ensures same_reference { IfOk result (λ b. (lent_to b).ghost_name ≡ self.entry.ghost_name) }
-        ensures ok { IfOk result (λ b. OnPeople (λ p p'. Births born_pending p (built b) p') (core_state S.table self.old.core) (shown S.table b)) }
+        ensures ok { IfOk result (λ b. OnPeople (λ p p'. Births born_pending p (built b) p') (core_state S.table S.ids self.old.core) (shown S.table S.ids b)) }
         ensures queue { IfOk result (λ b. waiting b ≡ queued self.old.lazy) }
-        ensures refused { IfErr result (CreateIsRefused (core_state S.table self.old.core).people) }
+        ensures refused { IfErr result (CreateIsRefused (core_state S.table S.ids self.old.core).people) }
     {
         let entity = self.core.parts.entities.create()?;
         Ok(LazyBuilder {
@@ -44,10 +44,10 @@ impl<S: Storages, J: Drop> WorldParts<S, J> {
         entity: Entity,
         job: Job<S, J>,
     ) -> Result<LazyBuilder<'_, S, J>, (Job<S, J>, AllocError)>
-        ensures* rests { sem 𝓛 (RestsMarkedAt S.row J.row S.Slot.row S.Value.row S.table self.entry entity result) }
+        ensures* rests { sem 𝓛 (RestsMarkedAt S.row J.row S.Slot.row S.Value.row S.table S.ids self.entry entity result) }
         ensures same_reference { IfOk result (λ b. (lent_to b).ghost_name ≡ self.entry.ghost_name) }
         ensures entity { IfOk result (λ b. built b ≡ entity) }
-        ensures core { IfOk result (λ b. shown S.table b ≡ core_state S.table self.old.core) }
+        ensures core { IfOk result (λ b. shown S.table S.ids b ≡ core_state S.table S.ids self.old.core) }
         ensures queue { IfOk result (λ b. waiting b ≡ queued self.old.lazy ++ job ∷ []) }
         ensures back { IfErr result (λ r. r.0 ≡ job) }
     {
@@ -65,9 +65,9 @@ fn push_or_mark<S: Storages, J: Drop>(
     entity: Entity,
     job: Job<S, J>,
 ) -> Result<(), (Job<S, J>, AllocError)>
-    ensures core { OnOk result (core_state S.table parts.new.core ≡ core_state S.table parts.old.core) }
+    ensures core { OnOk result (core_state S.table S.ids parts.new.core ≡ core_state S.table S.ids parts.old.core) }
     ensures queue { OnOk result (queued parts.new.lazy ≡ queued parts.old.lazy ++ job ∷ []) }
-    ensures err { OnErr result (Marked S.table entity parts.old parts.new) }
+    ensures err { OnErr result (Marked S.table S.ids entity parts.old parts.new) }
     ensures back { IfErr result (λ r. r.0 ≡ job) }
 {
     match parts.lazy.push(job) {
@@ -83,7 +83,7 @@ impl<S: Storages, J: Drop> Drop for LazyBuilder<'_, S, J> {
     ghost use Rattle.specs.specs.LazyBuilding.{lent_to, built, Marked};
 
     fn drop(self)
-        ensures { Marked S.table (built self.entry) (lent_to self.entry).now self.exit.0.now }
+        ensures { Marked S.table S.ids (built self.entry) (lent_to self.entry).now self.exit.0.now }
     {
         let LazyBuilder { parts, entity } = self;
         let _ = parts.core.parts.entities.delete(entity);
@@ -100,10 +100,10 @@ impl<'a, S: Storages, J: Drop> LazyBuilder<'a, S, J> {
 
     /// Queues a component. A refused call drops the builder, and hands the component back.
     pub fn with(self, value: S::Value) -> Result<Self, (Job<S, J>, AllocError)>
-        ensures* rests { sem 𝓛 (RestsMarked S.row J.row S.Slot.row S.Value.row S.table self.entry result) }
+        ensures* rests { sem 𝓛 (RestsMarked S.row J.row S.Slot.row S.Value.row S.table S.ids self.entry result) }
         ensures same_reference { IfOk result (λ b. (lent_to b).ghost_name ≡ (lent_to self.entry).ghost_name) }
         ensures entity { IfOk result (λ b. built b ≡ built self.entry) }
-        ensures core { IfOk result (λ b. shown S.table b ≡ shown S.table self.entry) }
+        ensures core { IfOk result (λ b. shown S.table S.ids b ≡ shown S.table S.ids self.entry) }
         ensures queue { IfOk result (λ b. waiting b ≡ waiting self.entry ++ Insert (built self.entry) value ∷ []) }
         ensures back { IfErr result (λ r. r.0 ≡ Insert (built self.entry) value) }
     {
@@ -113,10 +113,10 @@ impl<'a, S: Storages, J: Drop> LazyBuilder<'a, S, J> {
 
     /// Queues a marker, in a slot of markers. A refused call drops the builder. Ports `MarkedBuilder::marked`.
     pub fn marked(self, slot: S::Slot) -> Result<Self, (Job<S, J>, AllocError)>
-        ensures* rests { sem 𝓛 (RestsMarked S.row J.row S.Slot.row S.Value.row S.table self.entry result) }
+        ensures* rests { sem 𝓛 (RestsMarked S.row J.row S.Slot.row S.Value.row S.table S.ids self.entry result) }
         ensures same_reference { IfOk result (λ b. (lent_to b).ghost_name ≡ (lent_to self.entry).ghost_name) }
         ensures entity { IfOk result (λ b. built b ≡ built self.entry) }
-        ensures core { IfOk result (λ b. shown S.table b ≡ shown S.table self.entry) }
+        ensures core { IfOk result (λ b. shown S.table S.ids b ≡ shown S.table S.ids self.entry) }
         ensures queue { IfOk result (λ b. waiting b ≡ waiting self.entry ++ Mark slot (built self.entry) ∷ []) }
         ensures back { IfErr result (λ r. r.0 ≡ Mark slot (built self.entry)) }
     {

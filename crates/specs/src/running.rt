@@ -42,10 +42,10 @@ pub(crate) struct Ending {
 
 /// An insertion: whether it was refused for another cause than memory. One that finds no memory hands the value back.
 fn insert_one<S: Storages>(core: &mut Core<S>, e: Entity, value: S::Value) -> Result<bool, S::Value>
-    ensures ok { IfOk result (λ counted. InsertStep S.place (core_state S.table core.old) e value counted (core_state S.table core.new)) }
-    ensures wants { OnErr result (InsertWantsRoom S.place (core_state S.table core.old) e value) }
+    ensures ok { IfOk result (λ counted. InsertStep S.place (core_state S.table S.ids core.old) e value counted (core_state S.table S.ids core.new)) }
+    ensures wants { OnErr result (InsertWantsRoom S.place (core_state S.table S.ids core.old) e value) }
     ensures back { IfErr result (λ v. v ≡ value) }
-    ensures err { OnErr result (core_state S.table core.new ≡ core_state S.table core.old) }
+    ensures err { OnErr result (core_state S.table S.ids core.new ≡ core_state S.table S.ids core.old) }
 {
     let Parts { entities, storages } = &mut core.parts;
     match storages.insert(entities, e, value) {
@@ -57,7 +57,9 @@ fn insert_one<S: Storages>(core: &mut Core<S>, e: Entity, value: S::Value) -> Re
 
 /// Insertions in order.
 fn insert_all<S: Storages>(core: &mut Core<S>, pairs: Vec<(Entity, S::Value)>) -> Inserted<S::Value>
-    ensures done { MatchOption result.rest (InsertsAll S.place (core_state S.table core.old) pairs.items result.refused (core_state S.table core.new)) (λ rest. KeepsRest S.place (core_state S.table core.old) pairs.items result.refused rest.items (core_state S.table core.new)) }
+    ensures done { MatchOption result.rest
+        (InsertsAll S.place (core_state S.table S.ids core.old) pairs.items result.refused (core_state S.table S.ids core.new))
+        (λ rest. KeepsRest S.place (core_state S.table S.ids core.old) pairs.items result.refused rest.items (core_state S.table S.ids core.new)) }
 {
     let mut left = VecDeque::from_vec(pairs);
     let mut refused = 0;
@@ -85,9 +87,9 @@ fn insert_all<S: Storages>(core: &mut Core<S>, pairs: Vec<(Entity, S::Value)>) -
 
 /// A removal, or nothing where the slot is not registered. It is refused where it finds no memory.
 fn remove_one<S: Storages>(core: &mut Core<S>, slot: S::Slot, e: Entity) -> Result<(), AllocError>
-    ensures ok { OnOk result (RemoveStep (core_state S.table core.old) slot e (core_state S.table core.new)) }
-    ensures wants { OnErr result (RemovalWantsMemory (core_state S.table core.old).people ((core_state S.table core.old).table slot) e) }
-    ensures err { OnErr result (core_state S.table core.new ≡ core_state S.table core.old) }
+    ensures ok { OnOk result (RemoveStep (core_state S.table S.ids core.old) slot e (core_state S.table S.ids core.new)) }
+    ensures wants { OnErr result (RemovalWantsMemory (core_state S.table S.ids core.old).people ((core_state S.table S.ids core.old).table slot) e) }
+    ensures err { OnErr result (core_state S.table S.ids core.new ≡ core_state S.table S.ids core.old) }
 {
     let Parts { entities, storages } = &mut core.parts;
     match storages.remove(entities, slot, e) {
@@ -99,9 +101,9 @@ fn remove_one<S: Storages>(core: &mut Core<S>, slot: S::Slot, e: Entity) -> Resu
 
 /// A mark: whether it was refused for another cause than memory, as it is where the entity is not alive. It is an error where it finds no memory.
 fn mark_one<S: Storages>(core: &mut Core<S>, slot: S::Slot, e: Entity) -> Result<bool, AllocError>
-    ensures ok { IfOk result (λ counted. MarkStep S.marks (core_state S.table core.old) slot e counted (core_state S.table core.new)) }
-    ensures wants { OnErr result (MarkWantsRoom S.marks (core_state S.table core.old) slot e) }
-    ensures err { OnErr result (core_state S.table core.new ≡ core_state S.table core.old) }
+    ensures ok { IfOk result (λ counted. MarkStep S.marks (core_state S.table S.ids core.old) slot e counted (core_state S.table S.ids core.new)) }
+    ensures wants { OnErr result (MarkWantsRoom S.marks (core_state S.table S.ids core.old) slot e) }
+    ensures err { OnErr result (core_state S.table S.ids core.new ≡ core_state S.table S.ids core.old) }
 {
     let Parts { entities, storages } = &mut core.parts;
     match storages.mark(entities, slot, e) {
@@ -125,8 +127,9 @@ pub(crate) fn run_one<S: Storages, J: WorldJob<S>>(
     job: Job<S, J>,
 ) -> Outcome<S, J>
     ensures done { MatchOption result.kept
-        ((more : List (Job S J S.Slot S.Value)) × (queued queue.new ≡ queued queue.old ++ more) × JobStep S.place S.marks J.does (core_state S.table core.old) job result.refused more (core_state S.table core.new))
-        (λ kept. (queued queue.new ≡ queued queue.old) × JobStops S.place S.marks J.does (core_state S.table core.old) job result.refused kept (core_state S.table core.new)) }
+        ((more : List (Job S J S.Slot S.Value)) × (queued queue.new ≡ queued queue.old ++ more) ×
+        JobStep S.place S.marks J.does (core_state S.table S.ids core.old) job result.refused more (core_state S.table S.ids core.new))
+        (λ kept. (queued queue.new ≡ queued queue.old) × JobStops S.place S.marks J.does (core_state S.table S.ids core.old) job result.refused kept (core_state S.table S.ids core.new)) }
 {
     match job {
         Job::Insert(e, value) => match insert_one(core, e, value) {
@@ -210,8 +213,8 @@ pub(crate) fn run_jobs<S: Storages, J: WorldJob<S>>(
     limit: u64,
 ) -> Ending
     ensures { RunsJobs S.place S.marks J.does result.stopped limit result.ran result.refused
-        (core_state S.table core.old) (option_to_list first.old ++ queued queue.old)
-        (core_state S.table core.new) (option_to_list first.new ++ queued queue.new) }
+        (core_state S.table S.ids core.old) (option_to_list first.old ++ queued queue.old)
+        (core_state S.table S.ids core.new) (option_to_list first.new ++ queued queue.new) }
 {
     let mut ran = 0;
     let mut refused: u128 = 0;

@@ -14,8 +14,8 @@ use std::alloc::AllocError;
 impl<S: Storages> Core<S> {
     /// The ascending list of the members of a set, or `Unregistered` where it names a slot without a storage.
     pub fn select(&self, set: &SetExpr<S::Slot>) -> Result<Vec<Index>, Refusal>
-        ensures ok { IfOk result (λ indices. Selects (core_state S.table self.now) set.now indices.items) }
-        ensures refused { IfErr result (SelectIsRefused (core_state S.table self.now).table set.now) }
+        ensures ok { IfOk result (λ indices. Selects (core_state S.table S.ids self.now) set.now indices.items) }
+        ensures refused { IfErr result (SelectIsRefused (core_state S.table S.ids self.now).table set.now) }
     {
         if !self.names_registered(set) {
             return Err(Refusal::Unregistered);
@@ -34,7 +34,7 @@ impl<S: Storages> Core<S> {
     }
 
     fn names_registered(&self, set: &SetExpr<S::Slot>) -> bool
-        ensures { result ≡ is_registered (core_state S.table self.now).table set.now }
+        ensures { result ≡ is_registered (core_state S.table S.ids self.now).table set.now }
     {
         match set {
             SetExpr::Slot(slot) => self.parts.storages.is_registered(*slot),
@@ -48,8 +48,8 @@ impl<S: Storages> Core<S> {
 
     /// The masks of a set, none of which is copied.
     fn mask_of(&self, set: &SetExpr<S::Slot>) -> Result<MaskExpr<&BitSet>, AllocError>
-        requires { is_registered (core_state S.table self.now).table set.now ≡ true }
-        ensures { IfOk result (λ mask. (i : ℕ) → expr_has (λ m. has_part m.now.members) mask 0 i ≡ is_member (core_state S.table self.now).people (core_state S.table self.now).table set.now i) }
+        requires { is_registered (core_state S.table S.ids self.now).table set.now ≡ true }
+        ensures { IfOk result (λ mask. (i : ℕ) → expr_has (λ m. has_part m.now.members) mask 0 i ≡ is_member (core_state S.table S.ids self.now).people (core_state S.table S.ids self.now).table set.now i) }
     {
         let alloc = self.alloc;
         match set {

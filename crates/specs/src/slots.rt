@@ -1,10 +1,11 @@
 //! What a world asks of a struct of storages.
-ghost use Rattle.std.specs.Prelude.{◌≡◌, ℕ, Bool, Option, None, true, IfOk, OnOk, IfErr, OnErr, IsTrue, ◌↔◌, IsOk, IsSome, MatchOption, length};
+ghost use Rattle.std.specs.Prelude.{◌≡◌, ℕ, Bool, Option, Some, None, true, false, IfOk, OnOk, IfErr, OnErr, IsTrue, ◌↔◌, IsOk, IsSome, MatchOption, length};
 ghost use Rattle.std.specs.Bool.{Decides};
 ghost use Rattle.std.specs.Option.{option_map};
 ghost use Rattle.entities.specs.Census.{population};
 ghost use Rattle.storages.specs.Meaning.{HasRoom};
 ghost use Rattle.specs.specs.Column.{Column, WantsNone, without_values};
+ghost use Rattle.specs.specs.Ids.{IdsAfter};
 ghost use Rattle.specs.specs.Marks.{GivesMarker, MarkerIsRefused};
 ghost use Rattle.specs.specs.Readers.{RegistersReader, RegisterReaderIsRefused, ReadsEvents, DropsReader, ReaderIsRefused, Switches, SwitchIsRefused};
 ghost use Rattle.specs.specs.Table.{Registers, Inserts, InsertIsRefused, Gets, GetIsRefused, Removes, RemoveIsRefused, Clears, ClearIsRefused, IsMask};
@@ -39,6 +40,9 @@ pub trait Storages {
     /// Whether the slot is of markers.
     ghost marks: { Self.Slot → Bool };
 
+    /// How many new ids a slot's markers can still get, and none where that can't be told.
+    ghost ids: { Self → Self.Slot → Option ℕ };
+
     /// The slot of a value.
     fn slot_of(value: &Self::Value) -> Self::Slot
         ensures { result ≡ place value.now };
@@ -47,7 +51,8 @@ pub trait Storages {
     fn register(&mut self, alloc: Global, slot: Self::Slot) -> Result<(), AllocError>
         ensures ok { OnOk result (Registers (table self.old) slot (table self.new)) }
         ensures memory { OnErr result (table self.old slot ≡ None) }
-        ensures err { OnErr result (table self.new ≡ table self.old) };
+        ensures err { OnErr result (table self.new ≡ table self.old) }
+        ensures ids { ids self.new ≡ ids self.old };
 
     /// Whether the slot has a storage.
     fn is_registered(&self, slot: Self::Slot) -> bool
@@ -67,7 +72,8 @@ pub trait Storages {
         ensures ok { IfOk result (λ before. Inserts place (population entities.now) (table self.old) e value before (table self.new)) }
         ensures refused { IfErr result (λ r. InsertIsRefused place (population entities.now) (table self.old) e value r.0) }
         ensures back { IfErr result (λ r. r.1 ≡ value) }
-        ensures err { OnErr result (table self.new ≡ table self.old) };
+        ensures err { OnErr result (table self.new ≡ table self.old) }
+        ensures ids { ids self.new ≡ ids self.old };
 
     /// A copy of the value of an entity, or none where it is not alive.
     fn get(
@@ -88,16 +94,18 @@ pub trait Storages {
     ) -> Result<Option<Self::Value>, Refusal>
         ensures ok { IfOk result (λ found. Removes (population entities.now) (table self.old) slot e found (table self.new)) }
         ensures refused { IfErr result (RemoveIsRefused (population entities.now) (table self.old) slot e) }
-        ensures err { OnErr result (table self.new ≡ table self.old) };
+        ensures err { OnErr result (table self.new ≡ table self.old) }
+        ensures ids { ids self.new ≡ ids self.old };
 
     /// Removes every value of a slot. It takes memory for events alone.
     fn clear(&mut self, slot: Self::Slot) -> Result<(), Refusal>
         ensures ok { OnOk result (Clears (table self.old) slot (table self.new)) }
         ensures refused { IfErr result (ClearIsRefused (table self.old) slot) }
-        ensures err { OnErr result (table self.new ≡ table self.old) };
+        ensures err { OnErr result (table self.new ≡ table self.old) }
+        ensures ids { ids self.new ≡ ids self.old };
 
     /// Gives an entity a marker in a slot of markers, if it is alive and has none there. The answer is whether the marker is new, and none for an
-    /// entity that is not alive. After a refusal no component changed; what gives the ids may have used one up.
+    /// entity that is not alive. A new marker takes an id, and a refused call changes nothing.
     fn mark(
         &mut self,
         entities: &EntitiesRes,
@@ -105,38 +113,45 @@ pub trait Storages {
         e: Entity,
     ) -> Result<Option<bool>, MarkError>
         ensures ok { IfOk result (λ given. GivesMarker (population entities.now) (table self.old) slot e given (table self.new)) }
+        ensures ids { IfOk result (λ given. IdsAfter given (ids self.old) slot (ids self.new)) }
         ensures marker { OnOk result (marks slot ≡ true) }
-        ensures refused { IfErr result (MarkerIsRefused (marks slot) (population entities.now) (table self.old) slot e) }
-        ensures err { OnErr result (table self.new ≡ table self.old) };
+        ensures refused { IfErr result (MarkerIsRefused (marks slot) (ids self.old slot) (population entities.now) (table self.old) slot e) }
+        ensures err { OnErr result (table self.new ≡ table self.old) }
+        ensures err_ids { OnErr result (ids self.new ≡ ids self.old) };
 
     /// Registers a reader of a slot's events, which has nothing to read yet.
     fn register_reader(&mut self, slot: Self::Slot) -> Result<ReaderId, Refusal>
         ensures ok { IfOk result (λ n. RegistersReader (table self.old) slot n (table self.new)) }
         ensures refused { IfErr result (RegisterReaderIsRefused (table self.old slot)) }
-        ensures err { OnErr result (table self.new ≡ table self.old) };
+        ensures err { OnErr result (table self.new ≡ table self.old) }
+        ensures ids { ids self.new ≡ ids self.old };
 
     /// What a reader has not read of a slot's events, which it has read then. It takes no memory.
     fn read(&mut self, slot: Self::Slot, reader: &ReaderId) -> Result<Vec<ComponentEvent>, Refusal>
         ensures ok { IfOk result (λ es. ReadsEvents (table self.old) slot reader.now es.items (table self.new)) }
         ensures refused { IfErr result (ReaderIsRefused reader.now (table self.old slot)) }
-        ensures err { OnErr result (table self.new ≡ table self.old) };
+        ensures err { OnErr result (table self.new ≡ table self.old) }
+        ensures ids { ids self.new ≡ ids self.old };
 
     /// Ends a reader of a slot's events. Its number is not used again.
     fn drop_reader(&mut self, slot: Self::Slot, reader: ReaderId) -> Result<(), Refusal>
         ensures ok { OnOk result (DropsReader (table self.old) slot reader (table self.new)) }
         ensures refused { IfErr result (ReaderIsRefused reader (table self.old slot)) }
-        ensures err { OnErr result (table self.new ≡ table self.old) };
+        ensures err { OnErr result (table self.new ≡ table self.old) }
+        ensures ids { ids self.new ≡ ids self.old };
 
     /// Turns the events of a slot on or off.
     fn set_event_emission(&mut self, slot: Self::Slot, on: bool) -> Result<(), Refusal>
         ensures ok { OnOk result (Switches (table self.old) slot on (table self.new)) }
         ensures refused { IfErr result (SwitchIsRefused (table self.old slot)) }
-        ensures err { OnErr result (table self.new ≡ table self.old) };
+        ensures err { OnErr result (table self.new ≡ table self.old) }
+        ensures ids { ids self.new ≡ ids self.old };
 
     /// Makes room for the events of a removal of the values of so many entities. It takes no memory where nobody hears of any slot, or for
     /// no entity. Nothing changes but the room.
     fn reserve_drop(&mut self, count: usize) -> Result<(), AllocError>
         ensures same { table self.new ≡ table self.old }
+        ensures ids { ids self.new ≡ ids self.old }
         ensures ok { OnOk result ((s : Self.Slot) → HasRoom (room self.new s) count) }
         ensures none { count ≡ 0 → IsOk result }
         ensures unheard { ((s : Self.Slot) → WantsNone (table self.old s)) → IsOk result };
@@ -144,8 +159,12 @@ pub trait Storages {
     /// Removes the values at the indices of a list of entities, of each slot, in room that is there for the events.
     fn drop_all(&mut self, es: &[Entity])
         requires { (s : Self.Slot) → HasRoom (room self.old s) (length es.now) }
-        ensures { (s : Self.Slot) → table self.new s ≡ option_map (without_values es.now) (table self.old s) };
+        ensures values { (s : Self.Slot) → table self.new s ≡ option_map (without_values es.now) (table self.old s) }
+        ensures ids { ids self.new ≡ ids self.old };
 
     /// Equal slots are one.
     ghost exact: { (a b : Self.Slot) → Decides (Self.Slot.eq a b) (a ≡ b) };
+
+    /// A slot without markers has no id to give.
+    ghost idless: { (s : Self) (k : Self.Slot) → marks k ≡ false → ids s k ≡ Some 0 };
 }

@@ -27,9 +27,9 @@ impl<S: Storages> Core<S> {
     pub fn register<T: Component, I>(&mut self) -> Result<(), AllocError>
     where
         S: Has<T, I>,
-        ensures ok { OnOk result (OnTable (λ t t'. Registers t S.the_slot t') (core_state S.table self.old) (core_state S.table self.new)) }
-        ensures memory { OnErr result ((core_state S.table self.old).table S.the_slot ≡ None) }
-        ensures err { OnErr result (core_state S.table self.new ≡ core_state S.table self.old) }
+        ensures ok { OnOk result (OnTable (λ t t'. Registers t S.the_slot t') (core_state S.table S.ids self.old) (core_state S.table S.ids self.new)) }
+        ensures memory { OnErr result ((core_state S.table S.ids self.old).table S.the_slot ≡ None) }
+        ensures err { OnErr result (core_state S.table S.ids self.new ≡ core_state S.table S.ids self.old) }
     {
         self.parts.storages.register(self.alloc, S::slot())
     }
@@ -40,7 +40,7 @@ impl<S: Storages> Core<S> {
     where
         S: Has<T, I>,
         requires { (q : ℕ) → (T.Storage.meaning storage).is_free q ≡ true }
-        ensures { OnTable (λ t t'. RegistersAs t S.the_slot (column_with (T.Storage.meaning storage)) t') (core_state S.table self.old) (core_state S.table self.new) }
+        ensures { OnTable (λ t t'. RegistersAs t S.the_slot (column_with (T.Storage.meaning storage)) t') (core_state S.table S.ids self.old) (core_state S.table S.ids self.new) }
     {
         by_type::register_with(&mut self.parts.storages, self.alloc, storage);
     }

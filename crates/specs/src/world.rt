@@ -4,8 +4,8 @@ ghost use Rattle.std.specs.Borrow.{sem};
 ghost use Rattle.std.specs.List.{All};
 ghost use Rattle.entities.specs.declared.entity.Entity.{Entity as AnEntity};
 ghost use Rattle.entities.specs.Population.{no_one};
-ghost use Rattle.specs.specs.Following.{AreQuiet, AllSpare, IsFollowed, Follows, given};
 ghost use Rattle.specs.specs.Gone.{IsGone};
+ghost use Rattle.specs.specs.Laws.{FollowsQuietly};
 ghost use Rattle.specs.specs.Lending.{LendsWorldParts};
 ghost use Rattle.specs.specs.People.{NoneMarked};
 ghost use Rattle.specs.specs.Reached.{HasNoValue, IsNew, OnlyLiving};
@@ -41,11 +41,12 @@ pub struct World<S: Storages, J = NoJob> {
 impl<S: Storages, J: WorldJob<S>> World<S, J> {
     /// A world without entities and jobs, over storages that are empty or not registered.
     pub fn new(alloc: Global, storages: S) -> Self
-        ensures people { (state_of S.table result).people ≡ no_one }
-        ensures table { (state_of S.table result).table ≡ S.table storages }
-        ensures jobs { (world_state S.table result).jobs ≡ [] }
-        ensures begins { HasNoValue (S.table storages) → IsNew (state_of S.table result) }
-        ensures living { HasNoValue (S.table storages) → OnlyLiving (state_of S.table result) }
+        ensures people { (state_of S.table S.ids result).people ≡ no_one }
+        ensures table { (state_of S.table S.ids result).table ≡ S.table storages }
+        ensures ids { (state_of S.table S.ids result).ids ≡ S.ids storages }
+        ensures jobs { (world_state S.table S.ids result).jobs ≡ [] }
+        ensures begins { HasNoValue (S.table storages) → IsNew (state_of S.table S.ids result) }
+        ensures living { HasNoValue (S.table storages) → OnlyLiving (state_of S.table S.ids result) }
     {
         World {
             parts: WorldParts {
@@ -68,10 +69,10 @@ impl<S: Storages, J: WorldJob<S>> World<S, J> {
     /// those that jobs queue come last. It takes memory for the list of the dead, for events, and for what the jobs do. A refused call did
     /// nothing. A job that finds no memory ends the run and stays the first. Ports `WorldExt::maintain`.
     pub fn maintain(&mut self, limit: u64) -> Result<Maintained, AllocError>
-        ensures ok { IfOk result (λ m. Maintains S.place S.marks J.does (world_state S.table self.old) limit m (world_state S.table self.new)) }
-        ensures gone { IfOk result (λ m. All (IsGone (state_of S.table self.new).people) m.deleted.items) }
-        ensures idle { NoneMarked (state_of S.table self.old).people → IsOk result }
-        ensures err { OnErr result (world_state S.table self.new ≡ world_state S.table self.old) }
+        ensures ok { IfOk result (λ m. Maintains S.place S.marks J.does (world_state S.table S.ids self.old) limit m (world_state S.table S.ids self.new)) }
+        ensures gone { IfOk result (λ m. All (IsGone (state_of S.table S.ids self.new).people) m.deleted.items) }
+        ensures idle { NoneMarked (state_of S.table S.ids self.old).people → IsOk result }
+        ensures err { OnErr result (world_state S.table S.ids self.new ≡ world_state S.table S.ids self.old) }
     {
         let deleted = self.parts.core.merge()?;
         let ending = run_jobs(
@@ -91,7 +92,7 @@ impl<S: Storages, J: WorldJob<S>> World<S, J> {
 
     /// How many jobs wait.
     pub fn waiting(&self) -> usize
-        ensures { result ≡ length (world_state S.table self.now).jobs }
+        ensures { result ≡ length (world_state S.table S.ids self.now).jobs }
     {
         let queued = self.parts.lazy.count();
         if self.kept.is_some() {
@@ -103,13 +104,13 @@ impl<S: Storages, J: WorldJob<S>> World<S, J> {
 
     /// Does commands in order, with room for all replies got first. Where that room was refused, nothing was done.
     pub fn run(&mut self, commands: Vec<Command<S, J>>) -> Result<Vec<Reply<S::Value>>, AllocError>
-        ensures run { IfOk result (λ replies. Run S.place S.allocates S.marks J.does (world_state S.table self.old) commands.items replies.items (world_state S.table self.new)) }
-        ensures err { OnErr result (world_state S.table self.new ≡ world_state S.table self.old) }
+        ensures run { IfOk result (λ replies. Run S.place S.allocates S.marks J.does (world_state S.table S.ids self.old) commands.items replies.items (world_state S.table S.ids self.new)) }
+        ensures err { OnErr result (world_state S.table S.ids self.new ≡ world_state S.table S.ids self.old) }
 
         // The laws of runs, as this run kept them.
-        ensures living { OnlyLiving (state_of S.table self.old) → OnlyLiving (state_of S.table self.new) }
-        ensures gone { (e : AnEntity) → IsGone (state_of S.table self.old).people e → IsGone (state_of S.table self.new).people e }
-        ensures events { IfOk result (λ replies. (slot : S.Slot) (n : ℕ) → AreQuiet J.spares slot n commands.items → AllSpare J.spares slot n (world_state S.table self.old).jobs → OnlyLiving (state_of S.table self.old) → IsFollowed slot n (state_of S.table self.old) → Follows slot n (state_of S.table self.old) (state_of S.table self.new) (given (λ s. S.Slot.eq s slot) n commands.items replies.items)) }
+        ensures living { OnlyLiving (state_of S.table S.ids self.old) → OnlyLiving (state_of S.table S.ids self.new) }
+        ensures gone { (e : AnEntity) → IsGone (state_of S.table S.ids self.old).people e → IsGone (state_of S.table S.ids self.new).people e }
+        ensures events { IfOk result (λ replies. FollowsQuietly J.spares S.Slot.eq (world_state S.table S.ids self.old) commands.items replies.items (world_state S.table S.ids self.new)) }
     {
         let mut replies = Vec::with_capacity(self.parts.core.alloc, commands.len())?;
         for command in commands {

@@ -2,7 +2,7 @@
 ghost use Rattle.std.specs.Prelude.{◌≡◌, ℕ, List, ◌++◌, OnOk, OnErr, IfErr};
 ghost use Rattle.specs.specs.Evolving.{Evolves, ValuesLive};
 ghost use Rattle.specs.specs.Following.{IsFollowed, Spared};
-ghost use Rattle.specs.specs.Queue.{queued};
+ghost use Rattle.specs.specs.Queue.{queued, QueuesMore};
 ghost use Rattle.specs.specs.Reached.{OnlyLiving};
 ghost use Rattle.specs.specs.State.{State, core_state};
 ghost use Rattle.specs.specs.declared.job.Job.{Job};
@@ -27,9 +27,9 @@ pub trait WorldJob<S: Storages>: Sized + Drop {
         core: &mut Core<S>,
         queue: &mut LazyUpdate<S, Self>,
     ) -> Result<(), (Self, AllocError)>
-        ensures ok { OnOk result ((more : List (Job S Self S.Slot S.Value)) × (queued queue.new ≡ queued queue.old ++ more) × does self (core_state S.table core.old) more (core_state S.table core.new)) }
+        ensures ok { OnOk result (QueuesMore queue.old queue.new (λ more. does self (core_state S.table S.ids core.old) more (core_state S.table S.ids core.new))) }
         ensures back { IfErr result (λ r. r.0 ≡ self) }
-        ensures err_core { OnErr result (core_state S.table core.new ≡ core_state S.table core.old) }
+        ensures err_core { OnErr result (core_state S.table S.ids core.new ≡ core_state S.table S.ids core.old) }
         ensures err_queue { OnErr result (queued queue.new ≡ queued queue.old) };
 
     /// The population changes by steps of its own alone.

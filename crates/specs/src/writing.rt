@@ -1,12 +1,12 @@
 //! A storage of a core, to write to.
-ghost use Rattle.std.specs.Prelude.{◌≡◌, ◌↔◌, Some, IsSome, IsTrue, IfOk, IfErr, OnOk, OnErr, option_copied};
+ghost use Rattle.std.specs.Prelude.{◌≡◌, ◌↔◌, Some, None, Err, IsSome, IsTrue, IfOk, IfErr, OnOk, OnErr, option_copied};
 ghost use Rattle.std.specs.Borrow.{sem};
 ghost use Rattle.std.specs.Option.{option_map};
 ghost use Rattle.std.specs.FinMap as map;
 ghost use Rattle.storages.specs.ReadView as reading;
 ghost use Rattle.storages.specs.Slot as masked;
 ghost use Rattle.specs.specs.Field.{FieldInserts, FieldGets, FieldRemoves, FieldClears, WriteIsRefused, Holds, field_column};
-ghost use Rattle.specs.specs.State.{OnTable};
+ghost use Rattle.specs.specs.State.{OnTable, InsertsAlone, RemovesAlone};
 ghost use Rattle.specs.specs.Table.{Inserts, Gets, Removes, RemovalWantsMemory, Clears, ClearingWantsMemory};
 ghost use Rattle.specs.specs.Writing.{lent, storages_of, shown, LendsMasked, LendsHere, LendsValue, LendsComponent};
 
@@ -43,8 +43,8 @@ impl<'a, S: Has<T, I>, T: Component, I> Writing<'a, S, T, I> {
     /// The component of an entity that is alive. Ports `Storage::get`.
     pub fn get(&self, e: Entity) -> Option<&T>
         requires { IsSome (S.part (storages_of self.now)) }
-        ensures ok { Gets (shown S.table self.now).people (shown S.table self.now).table S.the_slot e (option_map S.as_value (option_copied result)) }
-        ensures field { FieldGets (shown S.table self.now).people (field_column (S.part (storages_of self.now))) e (option_copied result) }
+        ensures ok { Gets (shown S.table S.ids self.now).people (shown S.table S.ids self.now).table S.the_slot e (option_map S.as_value (option_copied result)) }
+        ensures field { FieldGets (shown S.table S.ids self.now).people (field_column (S.part (storages_of self.now))) e (option_copied result) }
     {
         match self.core.parts.storages.field() {
             Some(storage) => field::find(storage, &self.core.parts.entities, e),
@@ -55,7 +55,7 @@ impl<'a, S: Has<T, I>, T: Component, I> Writing<'a, S, T, I> {
     /// Whether the entity is alive and has a component. Ports `Storage::contains`.
     pub fn contains(&self, e: Entity) -> bool
         requires { IsSome (S.part (storages_of self.now)) }
-        ensures { IsTrue result ↔ Holds (shown S.table self.now).people (field_column (S.part (storages_of self.now))) e }
+        ensures { IsTrue result ↔ Holds (shown S.table S.ids self.now).people (field_column (S.part (storages_of self.now))) e }
     {
         self.get(e).is_some()
     }
@@ -67,10 +67,10 @@ impl<'a, S: Has<T, I>, T: Component, I> Writing<'a, S, T, I> {
         ensures same_reference { (lent self.new).ghost_name ≡ (lent self.old).ghost_name }
         ensures there { IsSome (S.part (storages_of self.new)) }
         ensures entities { (lent self.new).now.parts.entities ≡ (lent self.old).now.parts.entities }
-        ensures ok { IfOk result (λ before. OnTable (λ t t'. Inserts S.place (shown S.table self.old).people t e (S.as_value component) (option_map S.as_value before) t') (shown S.table self.old) (shown S.table self.new)) }
-        ensures field { IfOk result (λ before. FieldInserts (shown S.table self.old).people (field_column (S.part (storages_of self.old))) e component before (field_column (S.part (storages_of self.new)))) }
-        ensures refused { IfErr result (WriteIsRefused (shown S.table self.old).people (field_column (S.part (storages_of self.old))) e component) }
-        ensures err { OnErr result (shown S.table self.new ≡ shown S.table self.old) }
+        ensures ok { IfOk result (λ before. InsertsAlone S.place e (S.as_value component) (option_map S.as_value before) (shown S.table S.ids self.old) (shown S.table S.ids self.new)) }
+        ensures field { IfOk result (λ before. FieldInserts (shown S.table S.ids self.old).people (field_column (S.part (storages_of self.old))) e component before (field_column (S.part (storages_of self.new)))) }
+        ensures refused { IfErr result (WriteIsRefused (shown S.table S.ids self.old).people (field_column (S.part (storages_of self.old))) e component) }
+        ensures err { OnErr result (shown S.table S.ids self.new ≡ shown S.table S.ids self.old) }
     {
         let Parts { entities, storages } = &mut self.core.parts;
         match by_type::insert(storages, entities, e, component) {
@@ -90,10 +90,10 @@ impl<'a, S: Has<T, I>, T: Component, I> Writing<'a, S, T, I> {
         ensures same_reference { (lent self.new).ghost_name ≡ (lent self.old).ghost_name }
         ensures there { IsSome (S.part (storages_of self.new)) }
         ensures entities { (lent self.new).now.parts.entities ≡ (lent self.old).now.parts.entities }
-        ensures ok { IfOk result (λ found. OnTable (λ t t'. Removes (shown S.table self.old).people t S.the_slot e (option_map S.as_value found) t') (shown S.table self.old) (shown S.table self.new)) }
-        ensures field { IfOk result (λ found. FieldRemoves (shown S.table self.old).people (field_column (S.part (storages_of self.old))) e found (field_column (S.part (storages_of self.new)))) }
-        ensures refused { OnErr result (RemovalWantsMemory (shown S.table self.old).people (field_column (S.part (storages_of self.old))) e) }
-        ensures err { OnErr result (shown S.table self.new ≡ shown S.table self.old) }
+        ensures ok { IfOk result (λ found. RemovesAlone S.the_slot e (option_map S.as_value found) (shown S.table S.ids self.old) (shown S.table S.ids self.new)) }
+        ensures field { IfOk result (λ found. FieldRemoves (shown S.table S.ids self.old).people (field_column (S.part (storages_of self.old))) e found (field_column (S.part (storages_of self.new)))) }
+        ensures refused { OnErr result (RemovalWantsMemory (shown S.table S.ids self.old).people (field_column (S.part (storages_of self.old))) e) }
+        ensures err { OnErr result (shown S.table S.ids self.new ≡ shown S.table S.ids self.old) }
     {
         let Parts { entities, storages } = &mut self.core.parts;
         match by_type::remove(storages, entities, e) {
@@ -109,10 +109,10 @@ impl<'a, S: Has<T, I>, T: Component, I> Writing<'a, S, T, I> {
         ensures same_reference { (lent self.new).ghost_name ≡ (lent self.old).ghost_name }
         ensures there { IsSome (S.part (storages_of self.new)) }
         ensures entities { (lent self.new).now.parts.entities ≡ (lent self.old).now.parts.entities }
-        ensures ok { OnOk result (OnTable (λ t t'. Clears t S.the_slot t') (shown S.table self.old) (shown S.table self.new)) }
+        ensures ok { OnOk result (OnTable (λ t t'. Clears t S.the_slot t') (shown S.table S.ids self.old) (shown S.table S.ids self.new)) }
         ensures field { OnOk result (FieldClears (field_column (S.part (storages_of self.old))) (field_column (S.part (storages_of self.new)))) }
         ensures refused { OnErr result (ClearingWantsMemory (field_column (S.part (storages_of self.old)))) }
-        ensures err { OnErr result (shown S.table self.new ≡ shown S.table self.old) }
+        ensures err { OnErr result (shown S.table S.ids self.new ≡ shown S.table S.ids self.old) }
     {
         match by_type::clear(&mut self.core.parts.storages) {
             Ok(()) => Ok(()),
@@ -125,7 +125,8 @@ impl<'a, S: Has<T, I>, T: Component, I> Writing<'a, S, T, I> {
     pub fn get_mut(&mut self, e: Entity) -> Result<&mut T, NotLent>
         requires { IsSome (S.part (storages_of self.old)) }
         ensures* writes_back { sem 𝓛 (LendsComponent S.row T.row I.row S.part S.with_part self.entry e result) }
-        ensures value { IfOk result (λ x. FieldGets (shown S.table self.old).people (field_column (S.part (storages_of self.old))) e (Some x.now)) }
+        ensures value { IfOk result (λ x. FieldGets (shown S.table S.ids self.old).people (field_column (S.part (storages_of self.old))) e (Some x.now)) }
+        ensures absent { (result ≡ Err NotLent.Absent) ↔ FieldGets (shown S.table S.ids self.old).people (field_column (S.part (storages_of self.old))) e None }
     {
         if !self.core.parts.entities.is_alive(e) {
             return Err(NotLent::Absent);
@@ -156,6 +157,7 @@ fn component_mut<T: Component, S: Has<T, I>, I>(
     requires { IsSome (S.part storages.old) }
     ensures* writes_back { sem 𝓛 (LendsValue S.row T.row S.part S.with_part storages.entry id result) }
     ensures value { IfOk result (λ x. option_map (λ (w : masked.Slot T). map.get w.map id) (S.part storages.old) ≡ Some (Some x.now)) }
+    ensures absent { (result ≡ Err NotLent.Absent) ↔ (option_map (λ (w : masked.Slot T). map.get w.map id) (S.part storages.old) ≡ Some None) }
 {
     here(storages).get_mut(id)
 }

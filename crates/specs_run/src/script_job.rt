@@ -45,8 +45,8 @@ impl<S: Storages> WorldJob<S> for ScriptJob {
 
 /// A pending birth, or nothing where no index is left.
 fn raise<S: Storages>(core: &mut Core<S>) -> Result<(), AllocError>
-    ensures ok { OnOk result (MayRaise (core_state S.table core.old) (core_state S.table core.new)) }
-    ensures err { OnErr result (core_state S.table core.new ≡ core_state S.table core.old) }
+    ensures ok { OnOk result (MayRaise (core_state S.table S.ids core.old) (core_state S.table S.ids core.new)) }
+    ensures err { OnErr result (core_state S.table S.ids core.new ≡ core_state S.table S.ids core.old) }
 {
     match core.parts().entities.create() {
         Ok(_e) => Ok(()),

@@ -26,4 +26,3 @@ pub mod WriteView
 pub mod Generic
 pub mod Replaced
 pub mod Entry
-pub mod Building

@@ -7,7 +7,7 @@ use Rattle.std.specs.Coded.{Coded, code_by, coded×, coded_ℕ, coded_bool, code
 use Rattle.hibits.specs.Left.{left}
 use Rattle.storages.specs.contracts.event.ComponentEvent as event
 use Rattle.storages.specs.declared.event.ComponentEvent.{ComponentEvent}
-use Rattle.storages.specs.declared.event.ComponentEvent.TheVariants.{Inserted, Modified}
+use Rattle.storages.specs.declared.event.ComponentEvent.TheVariants.{Inserted, Modified, Removed}
 use Rattle.storages.specs.Channel.{Channel, emitted, emitted_removals}
 use Rattle.storages.specs.Meaning.{Meaning, HasRoom, OrderAfter, extent_after, extent_cleared}
 
@@ -86,6 +86,14 @@ module _ {T : Type 0} where
     pub room : (n : ℕ) → HasRoom s.room (n + 1) → HasRoom s'.room n
     pub needs_inner : is_some s'.inner_room ≡ is_some s.inner_room
     pub inner_room : (n : ℕ) → HasRoom s.inner_room (n + 1) → HasRoom s'.inner_room n
+
+  -- x is put at the index, which is told as a change where a component was there, and else as an insertion
+  abbrev pub Puts : Slot T → Slot T → ℕ → T → Bool → Type 0
+  Puts s s' id x was_there = Becomes s s' (map.insert s.map id x) (cond was_there (Modified id) (Inserted id))
+
+  -- the component at the index is taken out, which is told
+  abbrev pub Takes : Slot T → Slot T → ℕ → Type 0
+  Takes s s' id = Becomes s s' (map.remove s.map id) (Removed id)
 
   -- the map has x at the index, after an insertion and a write: two events
   pub record Inserts (s s' : Slot T) (id : ℕ) (x : T) : Type 0 where

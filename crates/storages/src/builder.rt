@@ -1,13 +1,10 @@
 //! Components for an entity that is being built.
-ghost use Rattle.std.specs.Prelude.{◌≡◌, IfOk, IfErr, OnOk, OnErr, cond, is_some};
+ghost use Rattle.std.specs.Prelude.{◌≡◌, IfOk, IfErr, OnOk, OnErr};
 ghost use Rattle.std.specs.Borrow.{sem};
 ghost use Rattle.std.specs.FinMap as map;
 ghost use Rattle.entities.specs.Lending.{lent_to_builder, entity_built, KeptRests};
 ghost use Rattle.entities.specs.Population.{index_of};
-ghost use Rattle.storages.specs.declared.event.ComponentEvent.TheVariants.{Inserted, Modified};
-ghost use Rattle.storages.specs.declared.event.ComponentEvent.{ComponentEvent};
-ghost use Rattle.storages.specs.Building.{Completes};
-ghost use Rattle.storages.specs.Slot.{IsSame};
+ghost use Rattle.storages.specs.Slot.{IsSame, Puts};
 
 use crate::masked::MaskedStorage;
 use crate::unprotected::Component;
@@ -37,7 +34,7 @@ impl<'a> WithComponent for EntityResBuilder<'a> {
         ensures same_reference { IfOk result (λ b. (lent_to_builder b).ghost_name ≡ (lent_to_builder self.entry).ghost_name) }
         ensures entity { IfOk result (λ b. entity_built b ≡ entity_built self.entry) }
         ensures entities { IfOk result (λ b. (lent_to_builder b).now ≡ (lent_to_builder self.entry).now) }
-        ensures ok { OnOk result (Completes masked.old masked.new (index_of (entity_built self.entry)) component) }
+        ensures ok { OnOk result (Puts masked.old masked.new (index_of (entity_built self.entry)) component (map.contains_key masked.old.map (index_of (entity_built self.entry)))) }
         ensures err { OnErr result (IsSame masked.old masked.new) }
         ensures refused { IfErr result (λ e. e.1 ≡ component) }
     {
@@ -52,7 +49,7 @@ fn put_at<T: Component + Drop>(
     masked: &mut MaskedStorage<T>,
     component: T,
 ) -> Result<(), (AllocError, T)>
-    ensures ok { OnOk result (Completes masked.old masked.new (index_of (entity_built builder.now)) component) }
+    ensures ok { OnOk result (Puts masked.old masked.new (index_of (entity_built builder.now)) component (map.contains_key masked.old.map (index_of (entity_built builder.now)))) }
     ensures err { OnErr result (IsSame masked.old masked.new) }
     ensures refused { IfErr result (λ e. e.1 ≡ component) }
 {

@@ -1,11 +1,9 @@
 //! The place of an index in a storage, which has a component or has none.
-ghost use Rattle.std.specs.Prelude.{cond, ◌≡◌, ℕ, Some, None, true, false, IfOk, IfErr, IsOk, OnOk, OnErr, IsSome, is_some, unwrap_or, Ok};
+ghost use Rattle.std.specs.Prelude.{◌≡◌, Some, None, true, false, IfOk, IfErr, IsOk, OnOk, OnErr, IsSome, unwrap_or, Ok};
 ghost use Rattle.std.specs.Borrow.{sem};
 ghost use Rattle.std.specs.FinMap as map;
-ghost use Rattle.storages.specs.declared.event.ComponentEvent.TheVariants.{Inserted, Modified, Removed};
-ghost use Rattle.storages.specs.declared.event.ComponentEvent.{ComponentEvent};
 ghost use Rattle.storages.specs.Meaning.{HasRoom};
-ghost use Rattle.storages.specs.Slot.{IsSame, Becomes};
+ghost use Rattle.storages.specs.Slot.{IsSame, Puts, Takes};
 ghost use Rattle.storages.specs.Limit.{IsIndex};
 
 use crate::masked::{MaskedStorage, Replaced};
@@ -133,7 +131,7 @@ impl<'a, T: Component> OccupiedEntry<'a, T> {
         ensures same_reference { name_at self.new ≡ name_at self.old }
         ensures id { id_at self.new ≡ id_at self.old }
         ensures before { IfOk result (λ x. map.get (slot_at self.old).map (id_at self.old) ≡ Some x) }
-        ensures ok { OnOk result (Becomes (slot_at self.old) (slot_at self.new) (map.insert (slot_at self.old).map (id_at self.old) value) (ComponentEvent.Modified (id_at self.old))) }
+        ensures ok { OnOk result (Puts (slot_at self.old) (slot_at self.new) (id_at self.old) value true) }
         ensures err { OnErr result (IsSame (slot_at self.old) (slot_at self.new)) }
         ensures value_returned { IfErr result (λ e. e.1 ≡ value) }
         ensures succeeds { HasRoom (slot_at self.old).room 1 → IsOk result }
@@ -150,7 +148,7 @@ impl<'a, T: Component> OccupiedEntry<'a, T> {
         ensures* rests { sem 𝓛 (rests_occupied T.row T.Storage.row self.entry result) }
         ensures same_reference { IfOk result (λ r. (storage_of r).ghost_name ≡ name_at self.entry) }
         ensures before { IfOk result (λ r. before_of r ≡ map.get (slot_at self.entry).map (id_at self.entry)) }
-        ensures ok { IfOk result (λ r. Becomes (slot_at self.entry) (storage_of r).now (map.insert (slot_at self.entry).map (id_at self.entry) value) (ComponentEvent.Modified (id_at self.entry))) }
+        ensures ok { IfOk result (λ r. Puts (slot_at self.entry) (storage_of r).now (id_at self.entry) value true) }
         ensures value_returned { IfErr result (λ e. e.1 ≡ value) }
         ensures succeeds { HasRoom (slot_at self.entry).room 1 → IsOk result }
     {
@@ -162,7 +160,7 @@ impl<'a, T: Component> OccupiedEntry<'a, T> {
     #[inline]
     pub fn remove(self) -> Result<T, AllocError>
         ensures value { IfOk result (λ x. map.get (slot_at self.entry).map (id_at self.entry) ≡ Some x) }
-        ensures ok { OnOk result (Becomes (slot_at self.entry) self.exit.0.now (map.remove (slot_at self.entry).map (id_at self.entry)) (ComponentEvent.Removed (id_at self.entry))) }
+        ensures ok { OnOk result (Takes (slot_at self.entry) self.exit.0.now (id_at self.entry)) }
         ensures err { OnErr result (IsSame (slot_at self.entry) self.exit.0.now) }
         ensures succeeds { HasRoom (slot_at self.entry).room 1 → IsOk result }
     {
@@ -193,7 +191,7 @@ impl<'a, T: Component> VacantEntry<'a, T> {
         ensures* rests { sem 𝓛 (rests_vacant T.row T.Storage.row self.entry result) }
         ensures same_reference { IfOk result (λ r. (storage_of r).ghost_name ≡ vacant_name self.entry) }
         ensures before { IfOk result (λ r. before_of r ≡ None) }
-        ensures ok { IfOk result (λ r. Becomes (vacant_slot self.entry) (storage_of r).now (map.insert (vacant_slot self.entry).map (vacant_id self.entry) value) (ComponentEvent.Inserted (vacant_id self.entry))) }
+        ensures ok { IfOk result (λ r. Puts (vacant_slot self.entry) (storage_of r).now (vacant_id self.entry) value false) }
         ensures value_returned { IfErr result (λ e. e.1 ≡ value) }
     {
         let VacantEntry { masked, id } = self;
@@ -272,7 +270,7 @@ impl<'a, T: Component> StorageEntry<'a, T> {
         ensures* rests { sem 𝓛 (rests_entry T.row T.Storage.row self.entry result) }
         ensures same_reference { IfOk result (λ r. (storage_of r).ghost_name ≡ (entry_ref self.entry).ghost_name) }
         ensures before { IfOk result (λ r. before_of r ≡ map.get (entry_ref self.entry).now.map (entry_id self.entry)) }
-        ensures ok { IfOk result (λ r. Becomes (entry_ref self.entry).now (storage_of r).now (map.insert (entry_ref self.entry).now.map (entry_id self.entry) value) (cond (is_occupied self.entry) (ComponentEvent.Modified (entry_id self.entry)) (ComponentEvent.Inserted (entry_id self.entry)))) }
+        ensures ok { IfOk result (λ r. Puts (entry_ref self.entry).now (storage_of r).now (entry_id self.entry) value (is_occupied self.entry)) }
         ensures value_returned { IfErr result (λ e. e.1 ≡ value) }
         ensures succeeds { is_occupied self.entry ≡ true → HasRoom (entry_ref self.entry).now.room 1 → IsOk result }
     {

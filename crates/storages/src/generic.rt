@@ -1,20 +1,16 @@
 //! Reading and writing through whatever view.
-ghost use Rattle.std.specs.Prelude.{◌≡◌, ◌↔◌, Option, Some, None, Ok, Err, true, false, is_some, IfOk, IfErr, IsOk, OnOk, OnErr, IsSome, option_copied, cond};
+ghost use Rattle.std.specs.Prelude.{◌≡◌, ◌↔◌, Option, Some, None, Ok, Err, true, false, is_some, IfOk, IfErr, IsOk, OnOk, OnErr, IsSome, option_copied};
 ghost use Rattle.std.specs.Borrow.{sem};
-ghost use Rattle.std.specs.FinMap as map;
 ghost use Rattle.entities.specs.declared.entity.Entity.{Entity};
 ghost use Rattle.entities.specs.Census.{Census, population};
 ghost use Rattle.entities.specs.Population.{generation_now, index_of};
-ghost use Rattle.storages.specs.declared.event.ComponentEvent.TheVariants.{Inserted, Modified, Removed};
-ghost use Rattle.storages.specs.declared.event.ComponentEvent.{ComponentEvent};
 ghost use Rattle.storages.specs.Life.{is_alive};
 ghost use Rattle.storages.specs.Found.{found_in};
 ghost use Rattle.storages.specs.Meaning.{HasRoom};
-ghost use Rattle.storages.specs.Slot.{IsSame, Becomes};
+ghost use Rattle.storages.specs.Slot.{IsSame, Puts, Takes};
 ghost use Rattle.storages.specs.Generic.{Sight, lends_seen, lends_seen_or_default};
 ghost use Rattle.storages.specs.WriteView.{IsInsertError};
 
-use crate::event::ComponentEvent;
 use crate::masked::NotLent;
 use crate::read_storage::ReadStorage;
 use crate::unprotected::Component;
@@ -107,9 +103,7 @@ pub trait GenericWriteStorage {
         ensures entities { (sight self.new).entities ≡ (sight self.old).entities }
         ensures replaced { IfOk result (λ before. before ≡ found_in (sight self.old).entities (sight self.old).slot entity) }
         ensures alive { OnOk result (is_alive (population (sight self.old).entities) entity ≡ true) }
-        ensures ok { OnOk result (Becomes (sight self.old).slot (sight self.new).slot
-            (map.insert (sight self.old).slot.map (index_of entity) component)
-            (cond (is_some (found_in (sight self.old).entities (sight self.old).slot entity)) (ComponentEvent.Modified (index_of entity)) (ComponentEvent.Inserted (index_of entity)))) }
+        ensures ok { OnOk result (Puts (sight self.old).slot (sight self.new).slot (index_of entity) component (is_some (found_in (sight self.old).entities (sight self.old).slot entity))) }
         ensures err { OnErr result (IsSame (sight self.old).slot (sight self.new).slot) }
         ensures succeeds { IsSome (found_in (sight self.old).entities (sight self.old).slot entity) → HasRoom (sight self.old).slot.room 1 → IsOk result }
         ensures refused { IfErr result (λ e. IsInsertError e entity component INSERT.now (is_alive (population (sight self.old).entities) entity) (generation_now (population (sight self.old).entities) (index_of entity))) };
@@ -120,7 +114,7 @@ pub trait GenericWriteStorage {
     where
         Self::Component: Drop,
         ensures entities { (sight self.new).entities ≡ (sight self.old).entities }
-        ensures removed { OnOk result (IsSome (found_in (sight self.old).entities (sight self.old).slot entity) → Becomes (sight self.old).slot (sight self.new).slot (map.remove (sight self.old).slot.map (index_of entity)) (ComponentEvent.Removed (index_of entity))) }
+        ensures removed { OnOk result (IsSome (found_in (sight self.old).entities (sight self.old).slot entity) → Takes (sight self.old).slot (sight self.new).slot (index_of entity)) }
         ensures absent { found_in (sight self.old).entities (sight self.old).slot entity ≡ None → (sight self.new).slot ≡ (sight self.old).slot }
         ensures err { OnErr result (IsSame (sight self.old).slot (sight self.new).slot) }
         ensures succeeds { HasRoom (sight self.old).slot.room 1 → IsOk result };

@@ -5,6 +5,7 @@ mod default_vec_storage;
 mod dense_vec_storage;
 mod hash_map_storage;
 mod null_storage;
+mod room;
 mod vec_storage;
 
 pub use btree_storage::BTreeStorage;

@@ -1,15 +1,12 @@
 //! A storage with the set of the indices at which it has a component.
-ghost use Rattle.std.specs.Prelude.{◌≡◌, ◌↔◌, ◌<◌, ℕ, Some, None, true, IfOk, IfErr, IsOk, OnOk, OnErr, IsSome, is_some, length, option_copied, IsTrue, cond, ◌||◌};
+ghost use Rattle.std.specs.Prelude.{◌≡◌, ◌↔◌, ◌<◌, ℕ, Some, None, true, false, IfOk, IfErr, IsOk, OnOk, OnErr, IsSome, is_some, length, option_copied, IsTrue, ◌||◌};
 ghost use Rattle.std.specs.Borrow.{sem};
 ghost use Rattle.std.specs.FinMap as map;
 ghost use Rattle.std.specs.FinSet as set;
-ghost use Rattle.storages.specs.declared.event.ComponentEvent.TheVariants.{Inserted, Modified, Removed};
-ghost use Rattle.storages.specs.declared.event.ComponentEvent.{ComponentEvent};
 ghost use Rattle.storages.specs.Limit.{IsIndex};
 ghost use Rattle.storages.specs.Channel.{is_heard};
 ghost use Rattle.storages.specs.Meaning.{HasRoom};
 
-use crate::event::ComponentEvent;
 use crate::unprotected::{Component, UnprotectedStorage};
 use hibits::{BitSet, Index};
 use std::alloc::{AllocError, Global};
@@ -64,7 +61,7 @@ pub struct Replaced<'a, T: Component> {
 
 impl<T: Component> MaskedStorage<T> {
     ghost use Rattle.storages.specs.Replaced.{storage_of, before_of, rests_if_refused};
-    ghost use Rattle.storages.specs.Slot.{IsSame, Becomes, Clears, indices_of};
+    ghost use Rattle.storages.specs.Slot.{IsSame, Puts, Takes, Clears, indices_of};
     ghost use Rattle.storages.specs.Lending.{lends_present, lends_inserted, lends_filled};
 
     /// A storage without components, over one that is empty.
@@ -236,7 +233,7 @@ impl<T: Component> MaskedStorage<T> {
     pub fn insert(&mut self, id: Index, value: T) -> Result<(), (AllocError, T)>
         requires absent { map.get self.old.map id ≡ None }
         requires limit { IsIndex id }
-        ensures ok { OnOk result (Becomes self.old self.new (map.insert self.old.map id value) (ComponentEvent.Inserted id)) }
+        ensures ok { OnOk result (Puts self.old self.new id value false) }
         ensures err { OnErr result (IsSame self.old self.new) }
         ensures value_returned { IfErr result (λ e. e.1 ≡ value) }
     {
@@ -257,7 +254,7 @@ impl<T: Component> MaskedStorage<T> {
     pub fn put(&mut self, id: Index, value: T) -> Result<Option<T>, (AllocError, T)>
         requires { IsIndex id }
         ensures before { IfOk result (λ before. before ≡ map.get self.old.map id) }
-        ensures ok { OnOk result (Becomes self.old self.new (map.insert self.old.map id value) (cond (map.contains_key self.old.map id) (ComponentEvent.Modified id) (ComponentEvent.Inserted id))) }
+        ensures ok { OnOk result (Puts self.old self.new id value (map.contains_key self.old.map id)) }
         ensures err { OnErr result (IsSame self.old self.new) }
         ensures value_returned { IfErr result (λ e. e.1 ≡ value) }
         ensures succeeds { IsSome (map.get self.old.map id) → HasRoom self.old.room 1 → IsOk result }
@@ -286,7 +283,7 @@ impl<T: Component> MaskedStorage<T> {
         ensures* rests { sem 𝓛 (rests_if_refused T.row T.Storage.row T.Storage.meaning T.Storage.IsDefault self.entry result) }
         ensures same_reference { IfOk result (λ r. (storage_of r).ghost_name ≡ self.entry.ghost_name) }
         ensures before { IfOk result (λ r. before_of r ≡ map.get self.old.map id) }
-        ensures ok { IfOk result (λ r. Becomes self.old (storage_of r).now (map.insert self.old.map id value) (cond (map.contains_key self.old.map id) (ComponentEvent.Modified id) (ComponentEvent.Inserted id))) }
+        ensures ok { IfOk result (λ r. Puts self.old (storage_of r).now id value (map.contains_key self.old.map id)) }
         ensures value_returned { IfErr result (λ e. e.1 ≡ value) }
         ensures succeeds { IsSome (map.get self.old.map id) → HasRoom self.old.room 1 → IsOk result }
     {
@@ -390,7 +387,7 @@ impl<T: Component> MaskedStorage<T> {
     pub fn remove_present(&mut self, id: Index) -> Result<T, AllocError>
         requires { IsSome (map.get self.old.map id) }
         ensures value { IfOk result (λ x. map.get self.old.map id ≡ Some x) }
-        ensures ok { OnOk result (Becomes self.old self.new (map.remove self.old.map id) (ComponentEvent.Removed id)) }
+        ensures ok { OnOk result (Takes self.old self.new id) }
         ensures err { OnErr result (IsSame self.old self.new) }
         ensures succeeds { HasRoom self.old.room 1 → IsOk result }
     {
@@ -403,7 +400,7 @@ impl<T: Component> MaskedStorage<T> {
     #[inline(always)]
     pub fn remove(&mut self, id: Index) -> Result<Option<T>, AllocError>
         ensures value { IfOk result (λ x. x ≡ map.get self.old.map id) }
-        ensures removed { IfOk result (λ x. IsSome x → Becomes self.old self.new (map.remove self.old.map id) (ComponentEvent.Removed id)) }
+        ensures removed { IfOk result (λ x. IsSome x → Takes self.old self.new id) }
         ensures absent { map.get self.old.map id ≡ None → (result ≡ Ok None) × (self.new ≡ self.old) }
         ensures err { OnErr result (IsSame self.old self.new) }
         ensures succeeds { HasRoom self.old.room 1 → IsOk result }
@@ -419,7 +416,7 @@ impl<T: Component> MaskedStorage<T> {
 
     /// Takes the component of an index out, if there is one, and lets it go. After an error nothing has changed.
     pub fn drop(&mut self, id: Index) -> Result<(), AllocError>
-        ensures dropped { OnOk result (IsSome (map.get self.old.map id) → Becomes self.old self.new (map.remove self.old.map id) (ComponentEvent.Removed id)) }
+        ensures dropped { OnOk result (IsSome (map.get self.old.map id) → Takes self.old self.new id) }
         ensures absent { map.get self.old.map id ≡ None → IsOk result × (self.new ≡ self.old) }
         ensures err { OnErr result (IsSame self.old self.new) }
         ensures succeeds { HasRoom self.old.room 1 → IsOk result }
@@ -437,7 +434,7 @@ impl<T: Component> MaskedStorage<T> {
     pub fn drop_present(&mut self, id: Index)
         requires present { IsSome (map.get self.old.map id) }
         requires ready { HasRoom self.old.room 1 }
-        ensures { Becomes self.old self.new (map.remove self.old.map id) (ComponentEvent.Removed id) }
+        ensures { Takes self.old self.new id }
     {
         self.inner.drop(id);
         self.mask.remove(id);

@@ -1,18 +1,15 @@
 //! A storage to write to, beside the entities.
-ghost use Rattle.std.specs.Prelude.{◌≡◌, ◌↔◌, ◌<◌, ℕ, Some, None, Ok, Err, true, false, IfOk, IfErr, IsOk, OnOk, OnErr, IsSome, is_some, is_ok, option_copied, cond, length, IsTrue};
+ghost use Rattle.std.specs.Prelude.{◌≡◌, ◌↔◌, ◌<◌, ℕ, Some, None, Ok, Err, true, false, IfOk, IfErr, IsOk, OnOk, OnErr, IsSome, is_some, is_ok, option_copied, length, IsTrue};
 ghost use Rattle.std.specs.Borrow.{sem};
 ghost use Rattle.std.specs.FinMap as map;
 ghost use Rattle.std.specs.FinSet as set;
 ghost use Rattle.entities.specs.Census.{population};
 ghost use Rattle.entities.specs.Population.{generation_now, generation_reported, index_of, number_of};
-ghost use Rattle.storages.specs.declared.event.ComponentEvent.TheVariants.{Inserted, Modified, Removed};
-ghost use Rattle.storages.specs.declared.event.ComponentEvent.{ComponentEvent};
 ghost use Rattle.storages.specs.Limit.{IsIndex};
 ghost use Rattle.storages.specs.Meaning.{HasRoom};
-ghost use Rattle.storages.specs.Slot.{IsSame, Becomes, Clears, indices_of};
+ghost use Rattle.storages.specs.Slot.{IsSame, Puts, Takes, Clears, indices_of};
 ghost use Rattle.storages.specs.Life.{is_alive};
 
-use crate::event::ComponentEvent;
 use crate::life::is_living;
 use crate::masked::{MaskedStorage, NotLent};
 use crate::unprotected::{Component, UnprotectedStorage};
@@ -138,9 +135,7 @@ impl<'a, T: Component> WriteStorage<'a, T> {
         ensures entities { entities_of self.new ≡ entities_of self.old }
         ensures replaced { IfOk result (λ before. before ≡ found self.old entity) }
         ensures alive { OnOk result (is_alive (population (entities_of self.old)) entity ≡ true) }
-        ensures ok { OnOk result (Becomes (slot self.old) (slot self.new)
-            (map.insert (slot self.old).map (index_of entity) value)
-            (cond (is_some (found self.old entity)) (ComponentEvent.Modified (index_of entity)) (ComponentEvent.Inserted (index_of entity)))) }
+        ensures ok { OnOk result (Puts (slot self.old) (slot self.new) (index_of entity) value (is_some (found self.old entity))) }
         ensures err { OnErr result (IsSame (slot self.old) (slot self.new)) }
         ensures succeeds { IsSome (found self.old entity) → HasRoom (slot self.old).room 1 → IsOk result }
         ensures refused { IfErr result (λ e. IsInsertError e entity value INSERT.now (is_alive (population (entities_of self.old)) entity) (generation_now (population (entities_of self.old)) (index_of entity))) }
@@ -172,7 +167,7 @@ impl<'a, T: Component> WriteStorage<'a, T> {
         ensures same_reference { storage_name self.new ≡ storage_name self.old }
         ensures entities { entities_of self.new ≡ entities_of self.old }
         ensures value { IfOk result (λ x. x ≡ found self.old entity) }
-        ensures removed { OnOk result (IsSome (found self.old entity) → Becomes (slot self.old) (slot self.new) (map.remove (slot self.old).map (index_of entity)) (ComponentEvent.Removed (index_of entity))) }
+        ensures removed { OnOk result (IsSome (found self.old entity) → Takes (slot self.old) (slot self.new) (index_of entity)) }
         ensures absent { found self.old entity ≡ None → (result ≡ Ok None) × (slot self.new ≡ slot self.old) }
         ensures err { OnErr result (IsSame (slot self.old) (slot self.new)) }
         ensures succeeds { HasRoom (slot self.old).room 1 → IsOk result }

@@ -9,11 +9,12 @@ use storages::{MaskedStorage, SliceAccess, SliceAccessMut};
 
 // Whether each place has the number of its entity, its index and `more`.
 fn are_at_places<T: Number>(values: &[T], list: &[Entity], more: u32) -> bool {
+    for (value, e) in values.iter().zip(list) {
+        if value.number() != e.id().wrapping_add(more) {
+            return false;
+        }
+    }
     values.len() == list.len()
-        && values
-            .iter()
-            .zip(list)
-            .all(|(value, e)| value.number() == e.id().wrapping_add(more))
 }
 
 // A thousand lie at the places of their entities.

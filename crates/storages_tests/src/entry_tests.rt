@@ -1,9 +1,8 @@
 //! Entries of single indices.
 use crate::components::{InBTree, InVec, Number};
 use crate::kinds::{number_at, put};
-use crate::world::{World, empty};
+use crate::stories::{Story, comes_true};
 use entities::Entity;
-use std::alloc::Global;
 use std::cell::Cell;
 use std::test::Fail;
 use storages::{MaskedStorage, StorageEntry, WriteStorage};
@@ -124,21 +123,15 @@ fn put_tens<T: Number>(view: &mut WriteStorage<'_, T>, list: &[Entity]) -> bool 
     true
 }
 
-// Entries of entities with and without a number.
-fn entries<T: Number>(alloc: Global) -> Result<bool, Fail> {
-    let mut world = World::<T>::of(alloc, 8)?;
-    let (mut view, list) = world.parts();
+/// Entries of eight entities with and without a number.
+pub fn entries<T: Number>(view: &mut WriteStorage<'_, T>, list: &[Entity]) -> bool {
     let calls = Cell::new(0);
-    Ok(
-        put_tens(&mut view, list)
-            && basic_use(&mut view, list, &calls)
-            && swapped_and_replaced(&mut view, list),
-    )
+    put_tens(view, list) && basic_use(view, list, &calls) && swapped_and_replaced(view, list)
 }
 
 #[test]
 fn storage_entry(rt: HostRuntime) -> Result<(), Fail> {
-    assert!(rt; entries::<InVec>(rt.alloc())?);
+    assert!(rt; comes_true::<InVec>(rt.alloc(), 8, Story::Entries)?);
     Ok(())
 }
 
@@ -173,8 +166,8 @@ fn taken<T: Number>(masked: &mut MaskedStorage<T>) -> Result<Option<u32>, Fail> 
     }
 }
 
-// The entry of an index that has a component: read, replaced, lent, lent for good, and taken out.
-fn occupied_entry<T: Number>(masked: &mut MaskedStorage<T>) -> Result<bool, Fail> {
+/// The entry of an index that has a component: read, replaced, lent, lent for good, and taken out.
+pub fn occupied_entry<T: Number>(masked: &mut MaskedStorage<T>) -> Result<bool, Fail> {
     Ok(
         masked.put(3, T::of(10)).is_ok()
             && written(masked)?
@@ -184,14 +177,8 @@ fn occupied_entry<T: Number>(masked: &mut MaskedStorage<T>) -> Result<bool, Fail
     )
 }
 
-// The entry of an index of a new storage.
-fn occupied_of_new<T: Number>(alloc: Global) -> Result<bool, Fail> {
-    let mut masked = empty::<T>(alloc)?;
-    occupied_entry(&mut masked)
-}
-
 #[test]
 fn occupied_entries(rt: HostRuntime) -> Result<(), Fail> {
-    assert!(rt; occupied_of_new::<InBTree>(rt.alloc())?);
+    assert!(rt; comes_true::<InBTree>(rt.alloc(), 0, Story::OccupiedEntry)?);
     Ok(())
 }

@@ -2,6 +2,7 @@
 use crate::components::{Flag, InBTree, InDefaultVec, InDense, InHash, InVec, Number};
 use crate::kinds::{all_tests, are, number_at, number_in, put, put_all, take_out, test_clear};
 use crate::loans::double_all;
+use crate::stories::{Story, comes_true};
 use crate::world::{World, empty};
 use entities::Entity;
 use std::alloc::{AllocError, Global};
@@ -145,8 +146,8 @@ fn dense_slices(rt: HostRuntime) -> Result<(), Fail> {
     Ok(())
 }
 
-// Each gets 0 and then its index.
-fn are_inserted_twice<T: Number>(view: &mut WriteStorage<'_, T>, list: &[Entity]) -> bool {
+/// Each gets 0 and then its index.
+pub fn are_inserted_twice<T: Number>(view: &mut WriteStorage<'_, T>, list: &[Entity]) -> bool {
     for e in list {
         if put(view, *e, 0) != Some(None)
             || put(view, *e, e.id()) != Some(Some(0))
@@ -158,16 +159,9 @@ fn are_inserted_twice<T: Number>(view: &mut WriteStorage<'_, T>, list: &[Entity]
     true
 }
 
-// Ten thousand entities of a new storage.
-fn ten_thousand_twice<T: Number>(alloc: Global) -> Result<bool, Fail> {
-    let mut world = World::<T>::of(alloc, 10_000)?;
-    let (mut view, list) = world.parts();
-    Ok(are_inserted_twice(&mut view, list))
-}
-
 #[test]
 fn insert_same_key(rt: HostRuntime) -> Result<(), Fail> {
-    assert!(rt; ten_thousand_twice::<InVec>(rt.alloc())?);
+    assert!(rt; comes_true::<InVec>(rt.alloc(), 10_000, Story::SameKey)?);
     Ok(())
 }
 
@@ -182,8 +176,8 @@ fn are_dropped<T: Number>(
     Ok(filled && !masked.contains(0) && masked.contains(1) && !masked.contains(2))
 }
 
-// The list names an entity twice, and one that has no component.
-fn first_and_third_are_dropped<T: Number>(
+/// The list names an entity twice, and one that has no component.
+pub fn first_and_third_are_dropped<T: Number>(
     masked: &mut MaskedStorage<T>,
     list: &[Entity],
 ) -> Result<bool, AllocError> {
@@ -194,15 +188,8 @@ fn first_and_third_are_dropped<T: Number>(
     are_dropped(masked, gone.as_slice())
 }
 
-// Four entities of a new storage.
-fn listed<T: Number>(alloc: Global) -> Result<bool, Fail> {
-    let mut world = World::<T>::of(alloc, 4)?;
-    let (mut view, list) = world.parts();
-    Ok(first_and_third_are_dropped(view.masked_mut(), list)?)
-}
-
 #[test]
 fn drops_a_list(rt: HostRuntime) -> Result<(), Fail> {
-    assert!(rt; listed::<InHash>(rt.alloc())?);
+    assert!(rt; comes_true::<InHash>(rt.alloc(), 4, Story::DropsAList)?);
     Ok(())
 }

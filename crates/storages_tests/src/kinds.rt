@@ -88,11 +88,12 @@ pub fn number_in<T: Number>(masked: &MaskedStorage<T>, id: u32) -> Option<u32> {
 
 /// Whether these are the numbers.
 pub fn are<T: Number>(values: &[T], numbers: &[u32]) -> bool {
+    for (value, number) in values.iter().zip(numbers) {
+        if value.number() != *number {
+            return false;
+        }
+    }
     values.len() == numbers.len()
-        && values
-            .iter()
-            .zip(numbers)
-            .all(|(value, number)| value.number() == *number)
 }
 
 /// Inserts the number at each entity, its index and `more`, and answers whether none was refused.
@@ -307,12 +308,17 @@ const CASES: [Case; 9] = [
     Case::Clear,
 ];
 
-/// All of the above, each over a new storage and a thousand living entities.
+// Whether a new storage passes a test, with a thousand living entities.
+fn new_passes<T: Number>(alloc: Global, case: Case) -> Result<bool, Fail> {
+    let mut world = World::<T>::of(alloc, 1000)?;
+    let (mut view, list) = world.parts();
+    Ok(passes(case, &mut view, list))
+}
+
+/// All of the above, each over a new storage.
 pub fn all_tests<T: Number>(rt: &impl Abort, alloc: Global) -> Result<(), Fail> {
     for case in CASES {
-        let mut world = World::<T>::of(alloc, 1000)?;
-        let (mut view, list) = world.parts();
-        assert!(rt; passes(case, &mut view, list));
+        assert!(rt; new_passes::<T>(alloc, case)?);
     }
     Ok(())
 }

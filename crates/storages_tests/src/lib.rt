@@ -1,4 +1,4 @@
-//! Storages at concrete types: what callers learn of a loan, and tests over the kinds of storage.
+//! Storages at concrete types, as tests: what callers learn of a loan, and what every kind of storage does.
 #![tactic(auto)]
 
 mod components;
@@ -12,9 +12,12 @@ mod event_tests;
 mod kind_tests;
 #[cfg(test)]
 mod kinds;
+#[cfg(test)]
 mod loans;
 #[cfg(test)]
 mod memory_tests;
+#[cfg(test)]
+mod stories;
 #[cfg(test)]
 mod vec_tests;
 #[cfg(test)]
@@ -24,8 +27,4 @@ mod world;
 
 pub use components::{
     Flag, Flagged, InBTree, InDefaultVec, InDense, InFlagged, InHash, InVec, Number, Shared,
-};
-pub use loans::{
-    double_all, entry_or_seven, seven_at_place, seven_through_entry, seven_through_storage,
-    seven_through_view,
 };

@@ -1,9 +1,9 @@
 //! Calls that may want memory, each with ample memory.
 use crate::components::{InDense, Number};
 use crate::kinds::number_in;
-use crate::world::empty;
+use crate::stories::{Story, comes_true};
 use entities::{EntitiesRes, Entity};
-use std::alloc::{AllocError, Global};
+use std::alloc::AllocError;
 use std::test::Fail;
 use storages::{MaskedStorage, WithComponent};
 
@@ -21,17 +21,17 @@ fn built<T: Number>(entities: &mut EntitiesRes, masked: &mut MaskedStorage<T>) -
     }
 }
 
-// The entity lives, and has the other number.
-fn is_built<T: Number>(alloc: Global) -> Result<bool, Fail> {
-    let mut entities = EntitiesRes::new(alloc);
-    let mut masked = empty::<T>(alloc)?;
-    let e = built(&mut entities, &mut masked).ok_or("refused")?;
-    Ok(entities.is_alive(e) && number_in(&masked, e.id()) == Some(7))
+/// The entity lives, and has the other number.
+pub fn is_built<T: Number>(entities: &mut EntitiesRes, masked: &mut MaskedStorage<T>) -> bool {
+    match built(entities, masked) {
+        Some(e) => entities.is_alive(e) && number_in(masked, e.id()) == Some(7),
+        None => false,
+    }
 }
 
 #[test]
 fn a_builder_puts_its_component(rt: HostRuntime) -> Result<(), Fail> {
-    assert!(rt; is_built::<InDense>(rt.alloc())?);
+    assert!(rt; comes_true::<InDense>(rt.alloc(), 0, Story::Builds)?);
     Ok(())
 }
 
@@ -61,14 +61,13 @@ fn lent_and_taken<T: Number>(masked: &mut MaskedStorage<T>) -> Result<bool, Allo
     Ok(masked.remove_present(3)?.number() == 5 && masked.is_empty())
 }
 
-// A number that comes and goes.
-fn comes_and_goes<T: Number>(alloc: Global) -> Result<bool, Fail> {
-    let mut masked = empty::<T>(alloc)?;
-    Ok(inserted(&mut masked) && lent_and_taken(&mut masked)?)
+/// A number that comes and goes.
+pub fn comes_and_goes<T: Number>(masked: &mut MaskedStorage<T>) -> Result<bool, AllocError> {
+    Ok(inserted(masked) && lent_and_taken(masked)?)
 }
 
 #[test]
 fn a_component_is_inserted_lent_and_taken_out(rt: HostRuntime) -> Result<(), Fail> {
-    assert!(rt; comes_and_goes::<InDense>(rt.alloc())?);
+    assert!(rt; comes_true::<InDense>(rt.alloc(), 0, Story::ComesAndGoes)?);
     Ok(())
 }

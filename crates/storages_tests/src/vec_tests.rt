@@ -10,20 +10,23 @@ use storages::{MaskedStorage, SliceAccess};
 
 // Whether there is a component at each place.
 fn are_some<T: Number>(values: &[Option<T>], wanted: &[bool]) -> bool {
+    for (value, some) in values.iter().zip(wanted) {
+        if value.is_some() != *some {
+            return false;
+        }
+    }
     values.len() == wanted.len()
-        && values
-            .iter()
-            .zip(wanted)
-            .all(|(value, some)| value.is_some() == *some)
 }
 
 // Whether each place has the number of its entity, its index and `more`.
 fn are_at_places<T: Number>(values: &[Option<T>], list: &[Entity], more: u32) -> bool {
+    for (value, e) in values.iter().zip(list) {
+        match value {
+            Some(v) if v.number() == e.id().wrapping_add(more) => {}
+            _ => return false,
+        }
+    }
     values.len() == list.len()
-        && values.iter().zip(list).all(|(
-            value,
-            e,
-        )| matches!(value, Some(v) if v.number() == e.id().wrapping_add(more)))
 }
 
 // A thousand lie at the places of their entities.

@@ -1,11 +1,12 @@
 //! Views beside entities that die.
 use crate::components::{Flag, InHash, InVec, Number};
 use crate::kinds::{number_at, put, take};
+use crate::stories::{Story, comes_true};
 use crate::world::World;
 use entities::{EntitiesRes, Entity};
 use hibits::BitSet;
 use std::alloc::Global;
-use std::fmt::{Debug, Display};
+use std::fmt::Display;
 use std::test::Fail;
 use storages::{
     Component, GenericReadStorage, GenericWriteStorage, InsertError, NotLent, ReadStorage,
@@ -15,11 +16,6 @@ use storages::{
 // Whether a refusal has this text.
 fn says<E: Display>(alloc: Global, refused: &E, wanted: &str) -> Result<bool, Fail> {
     Ok(format!(in alloc; "{refused}")?.as_str() == wanted)
-}
-
-// Whether a refusal has this text for those who look for faults.
-fn shows<E: Debug>(alloc: Global, refused: &E, wanted: &str) -> Result<bool, Fail> {
-    Ok(format!(in alloc; "{refused:?}")?.as_str() == wanted)
 }
 
 // Whether an insertion is refused with this text.
@@ -93,31 +89,45 @@ fn reaches_nothing<T: Number>(
 }
 
 // A stale entity, and another of its index.
-fn stale<T: Number>(alloc: Global) -> Result<bool, Fail> {
-    let mut world = World::<T>::of(alloc, 0)?;
+fn stale_reaches_nothing<T: Number>(
+    alloc: Global,
+    view: &mut WriteStorage<'_, T>,
+    stale: Entity,
+    other: Entity,
+) -> Result<bool, Fail> {
+    Ok(
+        Entity::from_parts(0, 2) == Some(other)
+            && stale_is_told(alloc, view, stale)?
+            && reaches_nothing(view, stale, other),
+    )
+}
+
+/// A stale entity of a world in which nobody was born.
+pub fn stale<T: Number>(alloc: Global, world: &mut World<T>) -> Result<bool, Fail> {
     let (first, second) = two_of_an_index(&mut world.entities)?;
     let (mut view, _list) = world.parts();
-    Ok(
-        Entity::from_parts(0, 2) == Some(second)
-            && stale_is_told(alloc, &mut view, first)?
-            && reaches_nothing(&mut view, first, second),
-    )
+    stale_reaches_nothing(alloc, &mut view, first, second)
 }
 
 #[test]
 fn stale_entities_are_told(rt: HostRuntime) -> Result<(), Fail> {
-    assert!(rt; stale::<InVec>(rt.alloc())?);
+    assert!(rt; comes_true::<InVec>(rt.alloc(), 0, Story::Stale)?);
     Ok(())
 }
 
 #[test]
 fn refusals_have_texts(rt: HostRuntime) -> Result<(), Fail> {
     let alloc = rt.alloc();
-    assert!(rt; says(alloc, &NotLent::Absent, "there is no component")?);
-    assert!(rt; says(alloc, &NotLent::OutOfMemory, "out of memory")?);
     let refused = InsertError::OutOfMemory(3u32);
-    assert!(rt; says(alloc, &refused, "out of memory")?);
-    assert!(rt; shows(alloc, &refused, "OutOfMemory(3)")?);
+    let texts = format!(in alloc;
+        "{}; {}; {refused}; {refused:?}",
+        NotLent::Absent,
+        NotLent::OutOfMemory
+    )?;
+    assert_eq!(rt;
+        texts.as_str(),
+        "there is no component; out of memory; out of memory; OutOfMemory(3)"
+    );
     Ok(())
 }
 
@@ -197,17 +207,30 @@ fn second_is_put<T: Number>(view: &mut WriteStorage<'_, T>, list: &[Entity]) -> 
     list.len() == 3 && put(view, list[1], 1) == Some(None) && (!&*view).0.contains(1)
 }
 
+// A view to write.
+fn second_is_written<T: Number>(world: &mut World<T>) -> bool {
+    let (mut view, list) = world.parts();
+    second_is_put(&mut view, list)
+}
+
+// Two views to read.
+fn second_is_shown<T: Number>(world: &World<T>) -> Result<bool, Fail>
+where
+    T::Storage: SliceAccess<T>,
+{
+    let (view, list) = world.read();
+    let other = view.clone()?;
+    Ok(second_is_read(&view, list) && second_is_there(&other, list))
+}
+
 // A view to write, then two to read.
 fn second_is_seen<T: Number>(alloc: Global) -> Result<bool, Fail>
 where
     T::Storage: SliceAccess<T>,
 {
     let mut world = World::<T>::of(alloc, 3)?;
-    let (mut view, list) = world.parts();
-    let there = second_is_put(&mut view, list);
-    let (view, list) = world.read();
-    let other = view.clone()?;
-    Ok(there && second_is_read(&view, list) && second_is_there(&other, list))
+    let there = second_is_written(&mut world);
+    Ok(there && second_is_shown(&world)?)
 }
 
 #[test]
@@ -298,19 +321,30 @@ fn through_reference<T: Number, S: GenericWriteStorage<Component = T>>(
     through_any(&mut lent, e)
 }
 
-// Views, each by its trait, and a view to write by a reference too.
-fn by_trait<T: Number>(alloc: Global) -> Result<bool, Fail> {
-    let mut world = World::<T>::of(alloc, 1)?;
+// A view to write by its trait, by a reference too.
+fn written_by_trait<T: Number>(
+    view: &mut WriteStorage<'_, T>,
+    list: &[Entity],
+) -> Result<bool, Fail> {
+    match list.first() {
+        Some(e) => Ok(through_reference(view, *e)? && written_is_read(view, *e)),
+        None => Ok(false),
+    }
+}
+
+// The same of a world.
+fn written_in<T: Number>(world: &mut World<T>) -> Result<bool, Fail> {
     let (mut view, list) = world.parts();
-    let Some(e) = list.first() else {
-        return Ok(false);
-    };
-    let written = through_reference(&mut view, *e)? && written_is_read(&view, *e);
-    Ok(written && read_by_trait(&world))
+    written_by_trait(&mut view, list)
+}
+
+/// Views of a world of one entity, each by its trait, and a view to write by a reference too.
+pub fn by_trait<T: Number>(world: &mut World<T>) -> Result<bool, Fail> {
+    Ok(written_in(world)? && read_by_trait(world))
 }
 
 #[test]
 fn views_by_trait(rt: HostRuntime) -> Result<(), Fail> {
-    assert!(rt; by_trait::<InHash>(rt.alloc())?);
+    assert!(rt; comes_true::<InHash>(rt.alloc(), 1, Story::ByTrait)?);
     Ok(())
 }

@@ -13,19 +13,35 @@ pub struct World<T: Component> {
     /// The entities.
     pub entities: EntitiesRes,
     list: Vec<Entity>,
-    masked: MaskedStorage<T>,
+    /// The storage.
+    pub masked: MaskedStorage<T>,
 }
 
 impl<T: Component> World<T> {
     /// So many living entities, from index 0 on, and no component.
     pub fn of(alloc: Global, count: u32) -> Result<Self, Fail> {
+        let mut world = World::new(alloc)?;
+        world.populate(count)?;
+        Ok(world)
+    }
+
+    // Nobody lives, and there is no component.
+    fn new(alloc: Global) -> Result<Self, Fail> {
         let masked = empty(alloc)?;
-        let (entities, list) = population(alloc, count)?;
         Ok(World {
-            entities,
-            list,
+            entities: EntitiesRes::new(alloc),
+            list: Vec::new(alloc),
             masked,
         })
+    }
+
+    // So many are born, from index 0 on.
+    fn populate(&mut self, count: u32) -> Result<(), Fail> {
+        for _ in 0..count {
+            let e = self.entities.create().ok().ok_or("no entity")?;
+            self.list.push(e)?;
+        }
+        Ok(())
     }
 
     /// A view of the storage, and the entities.
@@ -39,22 +55,6 @@ impl<T: Component> World<T> {
         let list = self.list.as_slice();
         (ReadStorage::new(&self.entities, &self.masked), list)
     }
-}
-
-// Living entities, from index 0 on.
-fn living(alloc: Global, entities: &mut EntitiesRes, count: u32) -> Result<Vec<Entity>, Fail> {
-    let mut list = Vec::new(alloc);
-    for _ in 0..count {
-        list.push(entities.create().ok().ok_or("no entity")?)?;
-    }
-    Ok(list)
-}
-
-// Entities, so many of which live, from index 0 on.
-fn population(alloc: Global, count: u32) -> Result<(EntitiesRes, Vec<Entity>), Fail> {
-    let mut entities = EntitiesRes::new(alloc);
-    let list = living(alloc, &mut entities, count)?;
-    Ok((entities, list))
 }
 
 /// A storage without components.

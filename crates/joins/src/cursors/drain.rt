@@ -9,7 +9,7 @@ use crate::cursors::steps::Steps;
 use crate::join::Join;
 use hibits::{Index, Layers};
 use std::alloc::AllocError;
-use storages::{Component, ComponentEvent, MaskedStorage};
+use storages::{Component, MaskedStorage};
 
 /// Walks the indices that a storage and a join share, ascending, and takes the storage's component out where it is asked to. Ports
 /// `specs::storage::Drain`, which takes each out.
@@ -28,9 +28,7 @@ impl<'a, T: Component, J: Join> Drain<'a, T, J> {
     ghost use Rattle.hibits.specs.Left.{left};
     ghost use Rattle.joins.specs.Draining.{slot, storage_name, here, component, is_given, rest, gives};
     ghost use Rattle.storages.specs.Meaning.{HasRoom};
-    ghost use Rattle.storages.specs.Slot.{Becomes, IsSame};
-    ghost use Rattle.storages.specs.declared.event.ComponentEvent.TheVariants.{Removed};
-    ghost use Rattle.storages.specs.declared.event.ComponentEvent.{ComponentEvent};
+    ghost use Rattle.storages.specs.Slot.{IsSame, Takes};
 
     /// Before the first index.
     #[inline(always)]
@@ -81,7 +79,7 @@ impl<'a, T: Component, J: Join> Drain<'a, T, J> {
         ensures given { is_given self.new ≡ is_given self.old }
         ensures gives { (i : ℕ) (r : J.Type) → gives self.new i r → gives self.old i r }
         ensures value { IfOk result (λ x. x ≡ component self.old) }
-        ensures removed { OnOk result (IfSome (here self.old) (λ i. IsSome (component self.old) → Becomes (slot self.old) (slot self.new) (map.remove (slot self.old).map i) (ComponentEvent.Removed i))) }
+        ensures removed { OnOk result (IfSome (here self.old) (λ i. IsSome (component self.old) → Takes (slot self.old) (slot self.new) i)) }
         ensures absent { component self.old ≡ None → (result ≡ Ok None) × (slot self.new ≡ slot self.old) }
         ensures err { OnErr result (IsSame (slot self.old) (slot self.new)) }
         ensures succeeds { HasRoom (slot self.old).room 1 → IsOk result }

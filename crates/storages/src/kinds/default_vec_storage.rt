@@ -2,6 +2,7 @@
 ghost use Rattle.std.specs.Prelude.{refl, ◌≡◌, ◌<◌, ◌≤◌, ◌+◌, ℕ, Some, [], IsTrue, is_some, IfOk, IfSome, OnErr, OnOk, IsOk, vec_len, length, slice_get};
 ghost use Rattle.storages.specs.DefaultVec.{meaning_of};
 
+use crate::kinds::room::make_room;
 use crate::slices::{SliceAccess, SliceAccessMut};
 use crate::unprotected::{TryDefault, UnprotectedStorage};
 use hibits::{BitSet, Index};
@@ -132,7 +133,7 @@ fn extend_to<T: Default>(items: &mut Vec<T>, len: usize) -> Result<(), AllocErro
     ensures err { OnErr result (items.new.items ≡ items.old.items) }
 {
     let start = items.len();
-    items.reserve(len - start)?;
+    make_room(items, len)?;
     for _i in start..len {
         match items.push(T::default()) {
             Ok(()) => {}

@@ -2,6 +2,7 @@
 ghost use Rattle.std.specs.Prelude.{refl, ◌≡◌, ◌<◌, ◌^◌, ℕ, slice_get, [], Some, OnErr, OnOk, IfSome, vec_len};
 ghost use Rattle.storages.specs.Dense.{IsConsistent, value_of};
 
+use crate::kinds::room::make_room;
 use crate::slices::{SliceAccess, SliceAccessMut};
 use crate::unprotected::{TryDefault, UnprotectedStorage};
 use hibits::{BitSet, Index};
@@ -75,7 +76,8 @@ impl<T: Drop> UnprotectedStorage<T> for DenseVecStorage<T> {
         let Some(place) = next_place(&self.values) else {
             return Err((AllocError, value));
         };
-        if self.values.reserve(1).is_err() || self.ids.reserve(1).is_err() {
+        let len = self.values.len() + 1;
+        if make_room(&mut self.values, len).is_err() || make_room(&mut self.ids, len).is_err() {
             return Err((AllocError, value));
         }
         let index = id as usize;
@@ -168,6 +170,7 @@ fn reach(places: &mut Vec<u32>, index: usize) -> Result<(), AllocError>
     ensures err { OnErr result (places.new.items ≡ places.old.items) }
 {
     if places.len() <= index {
+        make_room(places, index + 1)?;
         places.resize(index + 1, 0)?;
     }
     Ok(())

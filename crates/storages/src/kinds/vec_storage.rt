@@ -2,6 +2,7 @@
 ghost use Rattle.std.specs.Prelude.{refl, ◌≡◌, ◌≤◌, ◌+◌, ℕ, [], OnErr, OnOk, vec_len, length};
 ghost use Rattle.storages.specs.Vec.{value_at, meaning_of};
 
+use crate::kinds::room::make_room;
 use crate::slices::SliceAccess;
 use crate::unprotected::{TryDefault, UnprotectedStorage};
 use hibits::{BitSet, Index};
@@ -112,7 +113,7 @@ fn extend_to<T>(items: &mut Vec<Option<T>>, len: usize) -> Result<(), AllocError
     ensures err { OnErr result (items.new.items ≡ items.old.items) }
 {
     let start = items.len();
-    items.reserve(len - start)?;
+    make_room(items, len)?;
     for _i in start..len {
         match items.push(None) {
             Ok(()) => {}

@@ -1,4 +1,4 @@
-use Rattle.std.proofs.Common.{◌≡◌, Some, get_or, rules, arith}
+use Rattle.std.proofs.Common.{◌≡◌, Some, get_or, rules}
 use Rattle.serde_json.specs.View.{view}
 use Rattle.saveload.specs.Json.{record_json, record_from}
 use Rattle.saveload.proofs.JsonLists.{view_step, back_step, view_whole, back_whole}

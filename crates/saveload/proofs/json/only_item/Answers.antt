@@ -1,4 +1,4 @@
-use Rattle.std.proofs.Common.{◌≡◌, Some, None, refl, rules, sym, arith, ap, ◌∙◌, length}
+use Rattle.std.proofs.Common.{◌≡◌, Some, None, refl, rules, sym, arith}
 use Rattle.serde_json.specs.Find.{as_array}
 use Rattle.serde_json.specs.View.{view, items_view}
 use Rattle.saveload.proofs.JsonLists.{not_one}

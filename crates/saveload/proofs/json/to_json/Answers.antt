@@ -1,11 +1,10 @@
-use Rattle.std.proofs.Common.{◌≡◌, ℕ, ◌≤◌, List, false, Option, Some, Result, Ok, Err, rules, arith, string_bytes, refl, ap, ◌∙◌, String, Global}
+use Rattle.std.proofs.Common.{◌≡◌, ◌≤◌, false, Result, Ok, Err, arith, ap, ◌∙◌}
 use Rattle.std.specs.Result.{IfOk}
 use Rattle.std.specs.Option.{option_and_then}
 use Rattle.serde_json.specs.Data.{depth}
 use Rattle.serde_json.specs.Written.{has_float, compact_text}
-use Rattle.serde_json.specs.Read.{read}
 use Rattle.serde_json.specs.View.{view}
-use Rattle.saveload.specs.Json.{list_json, list_from}
+use Rattle.saveload.specs.Json.{list_from}
 use Rattle.saveload.proofs.JsonLists.{list_whole, list_shallow, all_back}
 use Rattle.saveload.proofs.json.to_json.Goals as goal
 

@@ -1,5 +1,8 @@
-use Rattle.std.proofs.Common.{refl}
+use Rattle.std.proofs.Common.{rules, ◌≡◌, ◌∙◌, refl}
+use Rattle.std.specs.Prelude.{Err}
+use Rattle.std.proofs.lemmas.Iterator.Adapters.{YieldsList-from_vec}
 use Rattle.saveload.proofs.Named.{loads_more}
+use Rattle.saveload.proofs.Stopped.{split}
 use Rattle.saveload.proofs.load.deserialize.Goals as goal
 
 pub loop-saved-init : goal.loop-saved-init
@@ -13,3 +16,16 @@ loop-saved-preserved g c = (
 
 pub returns-in_err-load_record-clause-loans : goal.returns-in_err-load_record-clause-loans
 returns-in_err-load_record-clause-loans g c = g.met.P.DeserializeComponents.loans_both _ _ _ c.loop-saved.invariant.0 c.in_err-load_record.ensures.loans
+
+pub returns-in_err-load_record-clause-refused : goal.returns-in_err-load_record-clause-refused
+returns-in_err-load_record-clause-refused g c =
+    let same : c.from_residual.result ≡ Err c.in_err-load_record.field-0.0 = search rules in
+    rw same (record {
+      before = c.loop-saved.yielded;
+      refused = c.in-Some.saved;
+      rest = _;
+      list = split (YieldsList-from_vec {s = c.into_iter-saved-iterator.result} c.args.list.items c.into_iter-saved-iterator.ensures.into_iter_gives.0 (c.into_iter-saved-iterator.ensures.into_iter_gives.1 ∙ c.args.list.ok.0)) c.loop-saved.yielded c.loop-saved.saved-iterator c.loop-saved.yielded_by _ c.next.new.self c.in-Some.saved c.in-Some.is c.next.ensures.steps;
+      mid = _;
+      loaded = c.loop-saved.invariant.1;
+      stopped = c.in_err-load_record.ensures.refused;
+    })

@@ -1,7 +1,11 @@
-use Rattle.std.proofs.Common.{◌≡◌, sym, subst, map, ◌∷◌, [], ◌++◌, List}
+use Rattle.std.proofs.Common.{◌∙◌, sym, subst, map, ◌∷◌, []}
 use Rattle.std.proofs.lemmas.List.{map-append}
 use Rattle.saveload.specs.Naming.{naming, NamesAll}
+use Rattle.std.proofs.lemmas.Result.{err_from_is_err_and}
+use Rattle.std.proofs.lemmas.Iterator.Adapters.{YieldsList-from_vec}
+use Rattle.entities.specs.Census.{population}
 use Rattle.saveload.proofs.Named.{names_more}
+use Rattle.saveload.proofs.Stopped.{split, map_split, naming_refused}
 use Rattle.saveload.proofs.load.name_all.Goals as goal
 
 pub loop-m-preserved : goal.loop-m-preserved
@@ -11,3 +15,18 @@ loop-m-preserved g c =
     let there = naming g.M.Marker.id_of c.retrieve_entity.new.entities (g.M.Allocator.MarkerAllocator.mapping c.retrieve_entity.new.self) c.retrieve_entity.new.storage in
     subst (λ ids. NamesAll g.M.Identifier.PartialEq.eq start ids there) (sym (map-append g.M.Marker.id_of c.loop-m.yielded (c.in-Some.m ∷ [])))
     (names_more g.M.Identifier.PartialEq.eq start here there (map g.M.Marker.id_of c.loop-m.yielded) (g.M.Marker.id_of c.in-Some.m) c.in_ok-retrieve_entity.field-0 c.loop-m.invariant c.in_ok-retrieve_entity.ensures.named)
+
+pub returns-in_err-retrieve_entity-clause-refused : goal.returns-in_err-retrieve_entity-clause-refused
+returns-in_err-retrieve_entity-clause-refused g c =
+    let p = err_from_is_err_and c.from_residual.result c.from_residual.ensures.1 in
+    rw (p.1, p.2) (record {
+      before = map g.M.Marker.id_of c.loop-m.yielded;
+      id = g.M.Marker.id_of c.in-Some.m;
+      rest = _;
+      list = map_split g.M.Marker.id_of c.args.mentioned.items c.loop-m.yielded _ c.in-Some.m
+          (split (YieldsList-from_vec {s = c.into_iter-m-iterator.result} c.args.mentioned.items c.into_iter-m-iterator.ensures.into_iter_gives.0 (c.into_iter-m-iterator.ensures.into_iter_gives.1 ∙ c.args.mentioned.ok.0)) c.loop-m.yielded c.loop-m.m-iterator c.loop-m.yielded_by _ c.next.new.self c.in-Some.m c.in-Some.is c.next.ensures.steps);
+      mid = naming g.M.Marker.id_of c.loop-m.entities (g.M.Allocator.MarkerAllocator.mapping c.loop-m.allocator) c.loop-m.markers;
+      named = c.loop-m.invariant;
+      none = c.in_err-retrieve_entity.ensures.err;
+      why = naming_refused (population c.loop-m.entities) c.in_err-retrieve_entity.field-0.0 c.in_err-retrieve_entity.ensures.limit;
+    })

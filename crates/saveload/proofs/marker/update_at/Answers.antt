@@ -1,6 +1,5 @@
-use Rattle.std.proofs.Common.{rules, ◌≡◌, ap, sym, ◌∙◌, Some, ℕ}
+use Rattle.std.proofs.Common.{rules, ◌≡◌, ap, sym, ◌∙◌, Some}
 use Rattle.std.specs.Prelude.{IsOk}
-use Rattle.saveload.specs.Naming.{ids_in}
 use Rattle.saveload.proofs.Ids.{ids-updated}
 use Rattle.saveload.proofs.marker.update_at.Goals as goal
 

@@ -1,4 +1,4 @@
-use Rattle.std.proofs.Common.{rules, ◌≡◌, sym, ◌∙◌, subst, None, get_or}
+use Rattle.std.proofs.Common.{rules, ◌≡◌, sym, ◌∙◌, subst, None}
 use Rattle.std.specs.Prelude.{IsSome, pos}
 use Rattle.saveload.proofs.Lists.{has_at, first_unnamed, tested_more}
 use Rattle.saveload.proofs.places.all_named.Goals as goal

@@ -1,19 +1,20 @@
-use Rattle.std.proofs.Common.{rules, ◌≡◌, sym, ◌∙◌, subst, ap, None, Some}
-use Rattle.std.specs.Prelude.{IsSome, IfErr, Err}
-use Rattle.saveload.specs.Conversion.{Answers, AllNamed, Refuses, IsOwn, IsSavedBy}
+use Rattle.std.proofs.Common.{rules, ◌≡◌, ◌∙◌, subst, ap, Some}
+use Rattle.std.specs.Prelude.{Err}
+use Rattle.saveload.specs.Conversion.{AllNamed}
 use Rattle.saveload.proofs.Lists.{own_refuses}
 use Rattle.saveload.proofs.places.serialize_place.Goals as goal
 
 pub returns-in_err-convert_into-in-Some-clause-refused : goal.returns-in_err-convert_into-in-Some-clause-refused
-returns-in_err-convert_into-in-Some-clause-refused g c = rw (← c.in-Some.ensures) (λ n answers.
+returns-in_err-convert_into-in-Some-clause-refused g c =
+    let same : c.from_residual-in_err-convert_into-in-Some.result ≡ Err c.in_err-convert_into-in-Some.field-0.0 = search rules in
+    rw (← c.in-Some.ensures, same) (λ n answers.
     let list : c.deref.result.now ≡ g.S.Component.ConvertSaveload.conversion.references c.in-Some.value.now = search rules in
     let named : AllNamed n (g.S.Component.ConvertSaveload.conversion.references c.in-Some.value.now) = subst (AllNamed n) list (c.in_ok-all_named-in-Some.ensures.named n (rw list answers)) in
     let own = c.in_err-convert_into-in-Some.ensures.refused n (λ x r m p. answers x r m p.1) named in
-    let same : c.from_residual-in_err-convert_into-in-Some.result ≡ Err c.in_err-convert_into-in-Some.field-0.0 = search rules in
-    rw same (own_refuses n _ _ own))
+    own_refuses n _ _ own)
 
 pub returns-in_ok-convert_into-in-Some-clause-saved : goal.returns-in_ok-convert_into-in-Some-clause-saved
 returns-in_ok-convert_into-in-Some-clause-saved g c = rw (← c.in-Some.ensures) (λ n answers.
     let list : c.deref.result.now ≡ g.S.Component.ConvertSaveload.conversion.references c.in-Some.value.now = search rules in
     let named : AllNamed n (g.S.Component.ConvertSaveload.conversion.references c.in-Some.value.now) = subst (AllNamed n) list (c.in_ok-all_named-in-Some.ensures.named n (rw list answers)) in
-    record { named = named; exact = λ f by. ap Some (c.in_ok-convert_into-in-Some.ensures.exact n f (λ x r m p. answers x r m p.1) by) })
+    record { named = named; exact = λ f by. ap Some (c.in_ok-convert_into-in-Some.ensures.exact f (λ x r m p. answers x r m p.1 ∙ by x m)) })

@@ -1,4 +1,4 @@
-use Rattle.std.proofs.Common.{◌≡◌, ◌&&◌, ◌||◌, ℕ, Bool, map, rules, ap, sym, ◌∙◌, append-nil, refl}
+use Rattle.std.proofs.Common.{◌&&◌, ◌||◌, ℕ, Bool, map, ap, sym, ◌∙◌, append-nil, refl}
 use mathlib.Core.Path.{fun_ext}
 use Rattle.hibits.specs.Left.{left}
 use Rattle.hibits.specs.Sets.{has_part, has_part_zero}

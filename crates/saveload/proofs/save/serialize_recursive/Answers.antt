@@ -1,13 +1,19 @@
-use Rattle.std.proofs.Common.{rules, ◌≡◌, ◌∙◌, sym, ap, subst, ◌++◌, List}
+use Rattle.std.proofs.Common.{rules, inl, ◌≡◌, ◌∙◌, sym, ap, subst, ◌++◌, List}
 use mathlib.Core.Path.{fun_ext}
 use Rattle.entities.specs.declared.entity.Entity.{Entity}
 use Rattle.entities.specs.Census.{population}
 use Rattle.storages.specs.Found.{found_in}
-use Rattle.storages.specs.ReadView.{slot as slot_read, entities_of as entities_read}
-use Rattle.storages.specs.WriteView.{slot, entities_of}
+use Rattle.std.specs.Prelude.{IsSome, Err}
+use Rattle.storages.specs.ReadView.{found, slot as slot_read, entities_of as entities_read}
+use Rattle.storages.specs.WriteView.{slot, entities_of, found as found_by}
 use Rattle.saveload.specs.Saved.{all_marked, IsSavedList}
-use Rattle.saveload.specs.Closing.{marked_in, IsClosed}
+use Rattle.saveload.specs.Closing.{marked_in, IsClosed, IsMentioned, MarksSome, MarksAll, MarksUpTo, RefusesMarking}
+use Rattle.saveload.specs.Conversion.{Has}
+use Rattle.saveload.proofs.Rows.{err_weaker}
+use Rattle.saveload.proofs.Marked.{all_marked_named, closed_named, found_kept, save_refused, marking_refused}
 use Rattle.saveload.proofs.Saving.{if_ok}
+use Rattle.saveload.proofs.Closing.{marked_none}
+use Rattle.std.proofs.lemmas.Result.{err_from_is_err_and}
 use Rattle.saveload.proofs.save.serialize_recursive.Goals as goal
 
 pub returns-clause-ok : goal.returns-clause-ok
@@ -27,4 +33,58 @@ returns-clause-ok g c =
       closed = subst (λ (l : List Entity). IsClosed (marked_in (slot c.args.markers.now)) (λ e. convert.references (values e)) l c.deref.result.now) begun (rw listed c.in_ok-mark_all.ensures.closed);
       marked = more.2;
       saved = subst (λ f. IsSavedList convert f values c.deref.result.now rs.items) (fun_ext same) h;
-    }) c.save_list.ensures
+    }) c.save_list.ensures.saved
+
+pub returns-in_err-mark_all-clause-marks : goal.returns-in_err-mark_all-clause-marks
+returns-in_err-mark_all-clause-marks g c =
+    let begun : c.in_ok-list.list.items ≡ all_marked (population (entities_of c.args.markers.now)) (slot c.args.markers.now) = search rules in
+    let refs = λ (e : Entity). g.P.SerializeComponents.conversion.references (g.P.SerializeComponents.values c.args.places.now e) in
+    subst (λ (l : List Entity). MarksSome (population (entities_of c.args.markers.now)) (IsMentioned refs l) (slot c.args.markers.now) (slot c.mark_all.new.markers)) begun c.in_err-mark_all.ensures.marks
+
+pub returns-in_err-mark_all-clause-refused : goal.returns-in_err-mark_all-clause-refused
+returns-in_err-mark_all-clause-refused g c =
+    let begun : c.in_ok-list.list.items ≡ all_marked (population (entities_of c.args.markers.now)) (slot c.args.markers.now) = search rules in
+    let refs = λ (e : Entity). g.P.SerializeComponents.conversion.references (g.P.SerializeComponents.values c.args.places.now e) in
+    let same : c.from_residual-in_err-mark_all.result ≡ Err c.in_err-mark_all.field-0.0 = search rules in
+    rw same (marking_refused refs (all_marked (population (entities_of c.args.markers.now)) (slot c.args.markers.now)) (population (entities_of c.args.markers.now)) (slot c.args.markers.now) (slot c.mark_all.new.markers) c.in_err-mark_all.field-0.0
+    (subst (λ (l : List Entity). RefusesMarking (population (entities_of c.args.markers.now)) (MarksUpTo refs l (slot c.args.markers.now) (slot c.mark_all.new.markers)) c.in_err-mark_all.field-0.0) begun c.in_err-mark_all.ensures.refused))
+
+pub returns-in_err-list-clause-refused : goal.returns-in_err-list-clause-refused
+returns-in_err-list-clause-refused g c =
+    let p = err_from_is_err_and c.from_residual.result c.from_residual.ensures.1 in
+    rw (p.1, p.2) (inl (marked_none (slot c.args.markers.now)))
+
+pub save_list-requires : goal.save_list-requires
+save_list-requires g c =
+    let begun : c.in_ok-list.list.items ≡ all_marked (population (entities_of c.args.markers.now)) (slot c.args.markers.now) = search rules in
+    let refs = λ (e : Entity). g.P.SerializeComponents.conversion.references (g.P.SerializeComponents.values c.args.places.now e) in
+    let seen : slot_read c.new-marked.result ≡ slot c.mark_all.new.markers = search rules in
+    let beside : entities_read c.new-marked.result ≡ entities_of c.mark_all.new.markers = search rules in
+    let same = λ (e : Entity). ap (λ s. found_in (entities_read c.new-marked.result) s e) seen ∙ ap (λ people. found_in people (slot c.mark_all.new.markers) e) beside in
+    λ x h. subst IsSome (sym (same x)) (closed_named (λ y. IsSome (found_by c.mark_all.new.markers y)) refs (marked_in (slot c.args.markers.now)) c.in_ok-list.list.items c.mark_all.new.list.items c.in_ok-mark_all.ensures.closed.list
+    (λ y k. found_kept (entities_of c.args.markers.now) (entities_of c.mark_all.new.markers) (slot c.args.markers.now) (slot c.mark_all.new.markers) c.in_ok-mark_all.ensures.entities c.in_ok-mark_all.ensures.marks.marked.kept y (all_marked_named (entities_of c.args.markers.now) (slot c.args.markers.now) y (subst (λ (l : List Entity). Has l y) begun k)))
+    c.in_ok-mark_all.ensures.named x (subst (λ (l : List Entity). Has l x) c.deref.ensures.value h))
+
+pub returns-clause-marks : goal.returns-clause-marks
+returns-clause-marks g c =
+    let begun : c.in_ok-list.list.items ≡ all_marked (population (entities_of c.args.markers.now)) (slot c.args.markers.now) = search rules in
+    let refs = λ (e : Entity). g.P.SerializeComponents.conversion.references (g.P.SerializeComponents.values c.args.places.now e) in
+    subst (λ (l : List Entity). MarksSome (population (entities_of c.args.markers.now)) (IsMentioned refs l) (slot c.args.markers.now) (slot c.mark_all.new.markers)) begun c.in_ok-mark_all.ensures.marks
+
+pub returns-clause-refused : goal.returns-clause-refused
+returns-clause-refused g c =
+    let begun : c.in_ok-list.list.items ≡ all_marked (population (entities_of c.args.markers.now)) (slot c.args.markers.now) = search rules in
+    let refs = λ (e : Entity). g.P.SerializeComponents.conversion.references (g.P.SerializeComponents.values c.args.places.now e) in
+    let seen : slot_read c.new-marked.result ≡ slot c.mark_all.new.markers = search rules in
+    let beside : entities_read c.new-marked.result ≡ entities_of c.mark_all.new.markers = search rules in
+    let same = λ (e : Entity). ap (λ s. found_in (entities_read c.new-marked.result) s e) seen ∙ ap (λ people. found_in people (slot c.mark_all.new.markers) e) beside in
+    let more = c.in_ok-mark_all.ensures.marked in
+    let all : MarksAll refs (all_marked (population (entities_of c.args.markers.now)) (slot c.args.markers.now)) (slot c.args.markers.now) (slot c.mark_all.new.markers) = record {
+      all = c.mark_all.new.list.items;
+      added = more.0;
+      parts = more.1 ∙ ap (λ (l : List Entity). l ++ more.0) begun;
+      closed = subst (λ (l : List Entity). IsClosed (marked_in (slot c.args.markers.now)) refs l c.mark_all.new.list.items) begun c.in_ok-mark_all.ensures.closed;
+      marked = more.2;
+    } in
+    err_weaker c.save_list.result (save_refused (λ e. found c.new-marked.result e) refs c.deref.result.now _ (population (entities_of c.args.markers.now)) (slot c.args.markers.now) (slot c.mark_all.new.markers)
+    (λ e h x k. subst IsSome (sym (same x)) (c.in_ok-mark_all.ensures.named e (subst (λ (l : List Entity). Has l e) c.deref.ensures.value h) x k)) all) c.save_list.ensures.refused

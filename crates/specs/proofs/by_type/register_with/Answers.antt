@@ -6,8 +6,8 @@ use Rattle.specs.proofs.Values.{column_is}
 use Rattle.specs.proofs.Shown.{registers_as, no_values_as, others_stay}
 use Rattle.specs.proofs.by_type.register_with.Goals as goal
 
-pub returns-then-is_none : goal.returns-then-is_none
-returns-then-is_none g c =
+pub returns-then-is_none-clause-registers : goal.returns-then-is_none-clause-registers
+returns-then-is_none-clause-registers g c =
     let value = g.S.Has.as_value in
     let laws = g.met.S.Has in
     let old = c.args.storages.now in

@@ -7,7 +7,7 @@ use Rattle.specs.proofs.running.run_jobs.Given as goal
 
 abbrev pub invariant-loop-ran : goal.invariant-loop-ran
 invariant-loop-ran g l =
-    let state = core_state g.S.Storages.table in
+    let state = core_state g.S.Storages.table g.S.Storages.ids in
     record {
       within : l.ran ≤ l.limit;
       few : l.refused ≤ l.ran * 18446744073709551615;

@@ -1,4 +1,5 @@
-use Rattle.std.proofs.Common.{rules, refl}
+use Rattle.std.proofs.Common.{rules, refl, ap, Some}
+use Rattle.std.proofs.lemmas.Option.{same_Some}
 use Rattle.specs.proofs.writing.component_mut.Goals as goal
 
 pub returns : goal.returns
@@ -10,5 +11,9 @@ returns g c =
         (λ w. record { slot = slot; left = after.lender w; there = c.here.ensures.slot; writes = after.holds w; now = refl }),
         record { slot = slot; left = after.lender-at-none; there = c.here.ensures.slot; refuses = after.holds-at-none; now = refl },
       ),
-      record { writes_back = tt; value = search rules },
+      record {
+        writes_back = tt;
+        value = search rules;
+        absent = rw c.here.ensures.slot (λ h. ap Some (c.get_mut.ensures.absent.0 h), λ h. c.get_mut.ensures.absent.1 (same_Some _ _ h));
+      },
     )

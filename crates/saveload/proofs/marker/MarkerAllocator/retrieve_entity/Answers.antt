@@ -1,13 +1,11 @@
-use Rattle.std.proofs.Common.{rules, ◌≡◌, ap, sym, ◌∙◌, Some, None, true, false, ℕ, inl, inr, refl, subst}
-use Rattle.std.specs.Prelude.{IsOk, pos, ◌+◌}
-use Rattle.std.proofs.lemmas.Option.{same_Some, none-some}
+use Rattle.std.proofs.Common.{rules, ◌≡◌, ap, sym, ◌∙◌, Some, inl, inr, refl}
 use Rattle.std.proofs.lemmas.Bool.{false≢true}
 use Rattle.entities.specs.declared.entity.Entity.{Entity}
 use Rattle.entities.specs.Census.{population}
-use Rattle.entities.specs.Population.{Population, mark, index_of, generation_of}
+use Rattle.entities.specs.Population.{Population, mark, index_of}
 use Rattle.entities.proofs.Population.Newborn.{newborn_alive}
 use Rattle.saveload.specs.Naming.{ids_in, naming, Knows, put_id}
-use Rattle.saveload.proofs.Ids.{mapped_given}
+use Rattle.saveload.proofs.Ids.{mapped_given, when_ok}
 use Rattle.saveload.proofs.marker.MarkerAllocator.retrieve_entity.Goals as goal
 use Rattle.saveload.proofs.marker.MarkerAllocator.retrieve_entity.Goals.{in-Some+else-is_alive, else-is_alive-via-then-is_alive+else-is_marked_with, else-is_alive-via-else-is_alive, in_default}
 
@@ -59,3 +57,13 @@ returns-then-is_err-2-clause-err g c =
       mapping = inr mapped;
       markers = search rules;
     })
+
+pub returns-then-is_err-2-clause-ids : goal.returns-then-is_err-2-clause-ids
+returns-then-is_err-2-clause-ids g c =
+    let given : c.id-id.result ≡ g.M.Marker.id_of c.args.marker = search rules in
+    inr (when_ok c.allocate.result _ (search rules) (c.allocate.ensures.passes (g.M.Marker.id_of c.args.marker) (ap Some given)))
+
+pub returns-clause-ids : goal.returns-clause-ids
+returns-clause-ids g c =
+    let given : c.id-id.result ≡ g.M.Marker.id_of c.args.marker = search rules in
+    inr (when_ok c.allocate.result _ (search rules) (c.allocate.ensures.passes (g.M.Marker.id_of c.args.marker) (ap Some given)))

@@ -1,21 +1,19 @@
-use Rattle.std.proofs.Common.{rules, ◌≡◌, sym, ◌∙◌, subst, ap, None, Some}
-use Rattle.std.specs.Prelude.{IsSome, IfErr, Err}
+use Rattle.std.proofs.Common.{rules, ◌≡◌}
+use Rattle.std.specs.Prelude.{Err}
 use Rattle.saveload.specs.Places.{place}
 use Rattle.saveload.proofs.Lists.{answers_left, answers_right, saved_both, refuses_left, refuses_right}
 use Rattle.saveload.proofs.serialize_tuples.Tuple2SerializeComponents.serialize_entity.Goals as goal
 
 pub returns-in_err-first-clause-refused : goal.returns-in_err-first-clause-refused
-returns-in_err-first-clause-refused g c n answers =
-    let refused = c.in_err-first.ensures.refused n (answers_left _ _ _ n answers) in
+returns-in_err-first-clause-refused g c =
     let same : c.from_residual.result ≡ Err c.in_err-first.field-0.0 = search rules in
-    rw same (refuses_left n _ _ _ refused)
+    rw same (λ n answers. refuses_left n _ _ _ (c.in_err-first.ensures.refused n (answers_left _ _ _ n answers)))
 
 pub returns-in_err-second-clause-refused : goal.returns-in_err-second-clause-refused
-returns-in_err-second-clause-refused g c n answers =
-    let refused = c.in_err-second.ensures.refused n (answers_right _ _ _ n answers) in
-    let named = (c.in_ok-first.ensures.saved n (answers_left _ _ _ n answers)).named in
+returns-in_err-second-clause-refused g c =
     let same : c.from_residual-in_err-second.result ≡ Err c.in_err-second.field-0.0 = search rules in
-    rw same (refuses_right n _ _ _ named refused)
+    rw same (λ n answers. refuses_right n _ _ _ (c.in_ok-first.ensures.saved n (answers_left _ _ _ n answers)).named
+    (c.in_err-second.ensures.refused n (answers_right _ _ _ n answers)))
 
 pub returns-clause-saved : goal.returns-clause-saved
 returns-clause-saved g c n answers =

@@ -6,9 +6,9 @@ use Rattle.saveload.proofs.Lists.{saved_along}
 use Rattle.saveload.proofs.serialize_tuples.Tuple4SerializeComponents.serialize_entity.Goals as goal
 
 pub returns-in_err-first-clause-refused : goal.returns-in_err-first-clause-refused
-returns-in_err-first-clause-refused g c n answers =
+returns-in_err-first-clause-refused g c =
     let same : c.from_residual.result ≡ Err c.in_err-first.field-0.0 = search rules in
-    rw same (c.in_err-first.ensures.refused n answers)
+    rw same c.in_err-first.ensures.refused
 
 pub returns-clause-saved : goal.returns-clause-saved
 returns-clause-saved g c n answers =

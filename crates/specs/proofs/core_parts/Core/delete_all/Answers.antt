@@ -29,7 +29,8 @@ returns-clause-ok g c =
     let again : c.as_slice-in-Ok.result.now ≡ the_living p = c.as_slice-in-Ok.ensures.value ∙ c.in_ok-list.ensures.all in
     record {
       people = record { may = all_may_die p; dead = rw (es, c.alloc_mut.ensures.value) at c.in-Ok.ensures.dead };
-      table = λ s. (rw again at (c.drop_all.ensures s)) ∙ ap (λ t. option_map (without_values (the_living p)) (t s)) c.in_ok-reserve_drop.ensures.same;
+      table = λ s. (rw again at (c.drop_all.ensures.values s)) ∙ ap (λ t. option_map (without_values (the_living p)) (t s)) c.in_ok-reserve_drop.ensures.same;
+      ids = c.drop_all.ensures.ids ∙ c.in_ok-reserve_drop.ensures.ids;
     }
 
 pub returns-clause-nobody : goal.returns-clause-nobody

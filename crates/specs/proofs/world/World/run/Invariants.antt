@@ -5,7 +5,7 @@ use Rattle.specs.proofs.world.World.run.Given as goal
 
 abbrev pub invariant-loop-command : goal.invariant-loop-command
 invariant-loop-command g l =
-    let state = world_state g.S.Storages.table in
+    let state = world_state g.S.Storages.table g.S.Storages.ids in
     record {
       done : Run g.S.Storages.place g.S.Storages.allocates g.S.Storages.marks g.J.WorldJob.does (state l.fn.self) l.yielded l.replies.items (state l.self);
       count : length l.replies.items ≡ length l.yielded;

@@ -1,0 +1,176 @@
+//! Components that are saved: a place, and a link to another entity.
+ghost use Rattle.saveload.specs.Plain.{plain_conversion, plain_faithful};
+ghost use Rattle.saveload.specs.Wrapped.{link_conversion, link_faithful};
+
+use entities::Entity;
+use saveload::{ConvertSaveload, JsonData, LoadError, Marker, SaveError};
+use serde_json::Value;
+use std::alloc::{AllocError, Global};
+use storages::{Component, VecStorage};
+
+/// The first number of a place.
+#[derive(Clone, Copy)]
+pub struct X(pub i64);
+
+/// The second.
+#[derive(Clone, Copy)]
+pub struct Y(pub i64);
+
+/// The entity that another is linked to.
+#[derive(Clone, Copy)]
+pub struct Link(pub Entity);
+
+impl Component for X {
+    type Storage = VecStorage<Self>;
+}
+
+impl Component for Y {
+    type Storage = VecStorage<Self>;
+}
+
+impl Component for Link {
+    type Storage = VecStorage<Self>;
+}
+
+impl<M: Marker> ConvertSaveload<M> for X {
+    type Data = X;
+
+    ghost conversion = { plain_conversion };
+
+    fn references(&self, alloc: Global) -> Result<Vec<Entity>, AllocError> {
+        Ok(Vec::new(alloc))
+    }
+
+    fn mentions(alloc: Global, _saved: &X) -> Result<Vec<M>, AllocError> {
+        Ok(Vec::new(alloc))
+    }
+
+    fn convert_into<F: Fn(Entity) -> Option<M>>(
+        &self,
+        _alloc: Global,
+        _ids: F,
+    ) -> Result<X, SaveError> {
+        Ok(*self)
+    }
+
+    fn convert_from<F: Fn(M) -> Option<Entity>>(
+        saved: X,
+        _alloc: Global,
+        _ids: F,
+    ) -> Result<Self, LoadError> {
+        Ok(saved)
+    }
+
+    ghost faithful = { plain_faithful };
+}
+
+impl JsonData for X {
+    ghost use Rattle.saveload.specs.Wrapped.{position_json, position_from, position_whole, position_shallow};
+
+    ghost json = { position_json (λ p. p.0) };
+
+    ghost from = { position_from (λ z. record { 0 = z }) };
+
+    fn to_value(&self, alloc: Global) -> Result<Value, AllocError> {
+        self.0.to_value(alloc)
+    }
+
+    fn from_value(alloc: Global, value: &Value) -> Result<Option<Self>, AllocError> {
+        Ok(i64::from_value(alloc, value)?.map(|number| X(number)))
+    }
+
+    ghost whole = { position_whole (λ p. p.0) };
+
+    ghost shallow = { position_shallow (λ p. p.0) };
+}
+
+impl<M: Marker> ConvertSaveload<M> for Y {
+    type Data = Y;
+
+    ghost conversion = { plain_conversion };
+
+    fn references(&self, alloc: Global) -> Result<Vec<Entity>, AllocError> {
+        Ok(Vec::new(alloc))
+    }
+
+    fn mentions(alloc: Global, _saved: &Y) -> Result<Vec<M>, AllocError> {
+        Ok(Vec::new(alloc))
+    }
+
+    fn convert_into<F: Fn(Entity) -> Option<M>>(
+        &self,
+        _alloc: Global,
+        _ids: F,
+    ) -> Result<Y, SaveError> {
+        Ok(*self)
+    }
+
+    fn convert_from<F: Fn(M) -> Option<Entity>>(
+        saved: Y,
+        _alloc: Global,
+        _ids: F,
+    ) -> Result<Self, LoadError> {
+        Ok(saved)
+    }
+
+    ghost faithful = { plain_faithful };
+}
+
+impl JsonData for Y {
+    ghost use Rattle.saveload.specs.Wrapped.{position_json, position_from, position_whole, position_shallow};
+
+    ghost json = { position_json (λ p. p.0) };
+
+    ghost from = { position_from (λ z. record { 0 = z }) };
+
+    fn to_value(&self, alloc: Global) -> Result<Value, AllocError> {
+        self.0.to_value(alloc)
+    }
+
+    fn from_value(alloc: Global, value: &Value) -> Result<Option<Self>, AllocError> {
+        Ok(i64::from_value(alloc, value)?.map(|number| Y(number)))
+    }
+
+    ghost whole = { position_whole (λ p. p.0) };
+
+    ghost shallow = { position_shallow (λ p. p.0) };
+}
+
+impl<M: Marker> ConvertSaveload<M> for Link {
+    type Data = M;
+
+    ghost conversion = { link_conversion (λ v. v.0) (λ e. record { 0 = e }) };
+
+    fn references(&self, alloc: Global) -> Result<Vec<Entity>, AllocError> {
+        let mut list = Vec::with_capacity(alloc, 1)?;
+        list.push(self.0)?;
+        Ok(list)
+    }
+
+    fn mentions(alloc: Global, saved: &M) -> Result<Vec<M>, AllocError> {
+        let mut list = Vec::with_capacity(alloc, 1)?;
+        list.push(saved.clone()?)?;
+        Ok(list)
+    }
+
+    fn convert_into<F: Fn(Entity) -> Option<M>>(
+        &self,
+        _alloc: Global,
+        ids: F,
+    ) -> Result<M, SaveError> {
+        ids(self.0).ok_or(SaveError::Unmarked(self.0))
+    }
+
+    fn convert_from<F: Fn(M) -> Option<Entity>>(
+        saved: M,
+        _alloc: Global,
+        ids: F,
+    ) -> Result<Self, LoadError> {
+        match ids(saved) {
+            Some(e) => Ok(Link(e)),
+            None => Err(LoadError::NotTheForm),
+        }
+    }
+
+    ghost faithful = { link_faithful (λ v. v.0) (λ e. record { 0 = e }) };
+}

@@ -1,0 +1,251 @@
+//! Entities with a place, a link and a marker each, saved as a text and loaded from it.
+
+use crate::fresh::Fresh;
+use crate::links::{Link, X, Y};
+use crate::random::mix;
+use crate::workload::{Plan, Workload, report};
+use anyhow::{Result, bail};
+use entities::{EntitiesRes, Entity};
+use saveload::{
+    EntityData, Marker, MarkerAllocator, SimpleMarker, SimpleMarkerAllocator, deserialize,
+    from_json, serialize, to_json,
+};
+use std::alloc::Global;
+use std::io::Print;
+use std::time::Clock;
+use storages::{Component, MaskedStorage, ReadStorage, WriteStorage};
+
+/// A kind of markers.
+#[derive(Clone, Copy)]
+struct Net;
+
+type Mark = SimpleMarker<Net>;
+
+/// What is saved of an entity.
+type Record = EntityData<Mark, (Option<X>, Option<Y>, Option<Mark>)>;
+
+/// Entities, with what is stored for them.
+#[derive(Drop)]
+struct Level {
+    entities: EntitiesRes,
+    xs: MaskedStorage<X>,
+    ys: MaskedStorage<Y>,
+    links: MaskedStorage<Link>,
+    marks: MaskedStorage<Mark>,
+    marker: SimpleMarkerAllocator<Net>,
+}
+
+impl Fresh for Level {
+    fn fresh(alloc: Global) -> Result<Self> {
+        let (xs, ys) = Fresh::fresh(alloc)?;
+        let (links, marks) = Fresh::fresh(alloc)?;
+        Ok(Level {
+            entities: EntitiesRes::new(alloc),
+            xs,
+            ys,
+            links,
+            marks,
+            marker: SimpleMarkerAllocator::new(alloc),
+        })
+    }
+}
+
+/// One level that is saved and one that is loaded, with the text.
+#[derive(Drop)]
+struct Levels {
+    old: Level,
+    new: Level,
+    text: Option<String>,
+}
+
+impl Fresh for Levels {
+    fn fresh(alloc: Global) -> Result<Self> {
+        Ok(Levels {
+            old: Level::fresh(alloc)?,
+            new: Level::fresh(alloc)?,
+            text: None,
+        })
+    }
+}
+
+/// Gives a component to an entity.
+fn give<T: Component + Drop>(
+    entities: &EntitiesRes,
+    storage: &mut MaskedStorage<T>,
+    entity: Entity,
+    component: T,
+) -> Result<()> {
+    if WriteStorage::new(entities, storage)
+        .insert(entity, component)
+        .is_err()
+    {
+        bail!("no component was inserted");
+    }
+    Ok(())
+}
+
+/// An entity with a place and a marker.
+fn bear(level: &mut Level, number: u32) -> Result<()> {
+    let entity = level.entities.create()?;
+    let low = i64::from(number % 100);
+    give(&level.entities, &mut level.xs, entity, X(i64::from(number)))?;
+    give(&level.entities, &mut level.ys, entity, Y(0 - low))?;
+    let mut marks = WriteStorage::new(&level.entities, &mut level.marks);
+    if level.marker.mark(entity, &mut marks).is_err() {
+        bail!("no marker was given");
+    }
+    Ok(())
+}
+
+/// Links an entity of so many to another.
+fn link(level: &mut Level, number: u32, count: u32) -> Result<()> {
+    let to = (7 * u64::from(number) + 1) % u64::from(count.max(1));
+    let from = level.entities.entity(number);
+    let target = level.entities.entity(u32::try_from(to)?);
+    give(&level.entities, &mut level.links, from, Link(target))
+}
+
+/// So many entities.
+fn fill(level: &mut Level, count: u32) -> Result<()> {
+    for number in 0..count {
+        bear(level, number)?;
+    }
+    for number in 0..count {
+        link(level, number, count)?;
+    }
+    Ok(())
+}
+
+/// The text of a level.
+fn save(level: &Level, alloc: Global) -> Result<String> {
+    let places = (
+        ReadStorage::new(&level.entities, &level.xs),
+        ReadStorage::new(&level.entities, &level.ys),
+        ReadStorage::new(&level.entities, &level.links),
+    );
+    let marks = ReadStorage::new(&level.entities, &level.marks);
+    let list = serialize(alloc, &places, &marks)?;
+    Ok(to_json(alloc, list.as_slice())?)
+}
+
+/// Takes a text's entities up in a level, with the merge of their births.
+fn load(level: &mut Level, alloc: Global, text: &str) -> Result<()> {
+    let list: Vec<Record> = from_json(alloc, text)?;
+    deserialize(
+        alloc,
+        &mut (&mut level.xs, &mut level.ys, &mut level.links),
+        &mut level.entities,
+        &mut level.marks,
+        &mut level.marker,
+        list,
+    )?;
+    let _ = level.entities.alloc_mut().merge(alloc)?;
+    Ok(())
+}
+
+/// A checksum's step for an entity, with where its link goes.
+fn mixed(level: &Level, sum: u64, entity: Entity) -> u64 {
+    let id = entity.id();
+    let (Some(x), Some(y), Some(link), Some(mark)) = (
+        level.xs.get(id),
+        level.ys.get(id),
+        level.links.get(id),
+        level.marks.get(id),
+    ) else {
+        return sum;
+    };
+    let born = mix(sum, u64::from(id));
+    let lived = mix(born, u64::from(entity.generation().id().unsigned_abs()));
+    let placed = mix(mix(lived, x.0.cast_unsigned()), y.0.cast_unsigned());
+    let target = link.0.id();
+    let linked = mix(placed, u64::from(target));
+    let there = match level.xs.get(target) {
+        Some(x) => x.0.cast_unsigned(),
+        None => 0,
+    };
+    mix(mix(linked, there), mark.id())
+}
+
+/// A checksum of the entities below `count`, ascending.
+fn sum_of(level: &Level, count: u32) -> u64 {
+    let mut sum = 0;
+    for id in 0..count {
+        sum = mixed(level, sum, level.entities.entity(id));
+    }
+    sum
+}
+
+/// So many entities are saved.
+#[derive(Drop)]
+struct Saving {
+    count: u32,
+    alloc: Global,
+}
+
+impl Workload for Saving {
+    type State = Levels;
+
+    fn operations(&self) -> u64 {
+        u64::from(self.count)
+    }
+
+    fn prepare(&self, _alloc: Global, state: &mut Levels) -> Result<()> {
+        fill(&mut state.old, self.count)
+    }
+
+    fn work(&self, state: &mut Levels) -> Result<u64> {
+        state.text = Some(save(&state.old, self.alloc)?);
+        Ok(0)
+    }
+
+    fn checksum(&self, state: &Levels, _answer: u64) -> u64 {
+        match &state.text {
+            Some(text) => text
+                .bytes()
+                .fold(text.len() as u64, |sum, byte| mix(sum, u64::from(byte))),
+            None => 0,
+        }
+    }
+}
+
+/// So many are loaded.
+#[derive(Drop)]
+struct Loading {
+    count: u32,
+    alloc: Global,
+}
+
+impl Workload for Loading {
+    type State = Levels;
+
+    fn operations(&self) -> u64 {
+        u64::from(self.count)
+    }
+
+    fn prepare(&self, alloc: Global, state: &mut Levels) -> Result<()> {
+        fill(&mut state.old, self.count)?;
+        state.text = Some(save(&state.old, alloc)?);
+        Ok(())
+    }
+
+    fn work(&self, state: &mut Levels) -> Result<u64> {
+        let Some(text) = &state.text else {
+            bail!("there is no text");
+        };
+        load(&mut state.new, self.alloc, text.as_str())?;
+        Ok(0)
+    }
+
+    fn checksum(&self, state: &Levels, _answer: u64) -> u64 {
+        sum_of(&state.new, self.count)
+    }
+}
+
+/// Reports on both.
+pub fn run(rt: &(impl Clock + Print), alloc: Global, plan: &Plan, prefix: &str) -> Result<()> {
+    let count = plan.count;
+    let saving = Saving { count, alloc };
+    report(rt, alloc, plan, prefix, "k_serialize_json", &saving)?;
+    let loading = Loading { count, alloc };
+    report(rt, alloc, plan, prefix, "k_deserialize_json", &loading)
+}

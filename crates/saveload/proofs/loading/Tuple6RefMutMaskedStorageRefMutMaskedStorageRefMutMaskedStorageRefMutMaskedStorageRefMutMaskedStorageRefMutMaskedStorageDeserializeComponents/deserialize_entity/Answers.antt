@@ -1,0 +1,25 @@
+use Rattle.std.proofs.Common.{refl}
+use Rattle.saveload.specs.Places.{place, both}
+use Rattle.saveload.specs.Stops.{PartlyPair, PartlyFive}
+use Rattle.saveload.specs.Tuples.{six, five_places}
+use Rattle.saveload.proofs.Resting.{put_along, some_along, same_along}
+use Rattle.saveload.proofs.loading.Tuple6RefMutMaskedStorageRefMutMaskedStorageRefMutMaskedStorageRefMutMaskedStorageRefMutMaskedStorageRefMutMaskedStorageDeserializeComponents.deserialize_entity.Goals as goal
+
+pub returns-clause-loans : goal.returns-clause-loans
+returns-clause-loans g c = (refl, refl, refl, refl, refl, refl)
+
+pub returns-clause-rows : goal.returns-clause-rows
+returns-clause-rows g c alive =
+    put_along six six (both (place g.A.ConvertSaveload.conversion) (five_places g.B.ConvertSaveload.conversion g.C.ConvertSaveload.conversion g.D.ConvertSaveload.conversion g.E.ConvertSaveload.conversion g.G.ConvertSaveload.conversion))
+    _ c.args.saved c.args.entity _ _ c.store_with_rest.result (c.store_with_rest.ensures.rows alive)
+
+pub returns-clause-stopped : goal.returns-clause-stopped
+returns-clause-stopped g c alive =
+    some_along six six (both (place g.A.ConvertSaveload.conversion) (five_places g.B.ConvertSaveload.conversion g.C.ConvertSaveload.conversion g.D.ConvertSaveload.conversion g.E.ConvertSaveload.conversion g.G.ConvertSaveload.conversion))
+    _ c.args.saved c.args.entity _ _ (PartlyPair PartlyFive) c.store_with_rest.result (c.store_with_rest.ensures.stopped alive)
+
+pub returns-clause-refused : goal.returns-clause-refused
+returns-clause-refused g c = c.store_with_rest.ensures.refused
+
+pub returns-clause-dead : goal.returns-clause-dead
+returns-clause-dead g c dead = same_along six _ _ (c.store_with_rest.ensures.dead dead)

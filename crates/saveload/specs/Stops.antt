@@ -1,0 +1,113 @@
+-- Why a load stopped, and what it keeps.
+use Rattle.std.specs.Prelude.{◌≡◌, ℕ, List, ◌∷◌, ◌++◌, map, Bool, ◌⊎◌, Option}
+use Rattle.entities.specs.declared.allocator.births.CreateError.{CreateError}
+use Rattle.entities.specs.declared.allocator.births.CreateError.TheVariants as creating
+use Rattle.entities.specs.declared.entity.Entity.{Entity}
+use Rattle.entities.specs.Population.{Population, NoneFree, NoneUnused, index_of}
+use Rattle.saveload.specs.declared.entity_data.EntityData.{EntityData}
+use Rattle.saveload.specs.declared.error.LoadError.{LoadError}
+use Rattle.saveload.specs.declared.error.LoadError.TheVariants.{NotTheForm, IndexLimit, Custom, OutOfMemory}
+use Rattle.saveload.specs.Conversion.{Conversion, GivesEach}
+use Rattle.saveload.specs.Naming.{Naming, Names, NamesNone, NamesAll}
+use Rattle.saveload.specs.Loads.{Loading, Loads, named, row_put}
+use Rattle.saveload.specs.Tuples.{three, four, five, six}
+
+-- what a load says where no entity could be made
+abbrev pub of_creating : CreateError → LoadError
+of_creating creating.IndexLimit = IndexLimit
+of_creating creating.OutOfMemory = OutOfMemory
+
+-- a conversion's own cause, or want of memory
+abbrev pub IsOfStoring : LoadError → Type 0
+IsOfStoring NotTheForm = ⊥
+IsOfStoring IndexLimit = ⊥
+IsOfStoring (Custom t) = Unit {0}
+IsOfStoring OutOfMemory = Unit {0}
+
+-- want of memory, or of indices: none is free, and none is unused
+abbrev pub IsOfNaming : Population → LoadError → Type 0
+IsOfNaming people NotTheForm = ⊥
+IsOfNaming people IndexLimit = NoneFree people × NoneUnused people
+IsOfNaming people (Custom t) = ⊥
+IsOfNaming people OutOfMemory = Unit {0}
+
+-- of one place none is stored
+abbrev pub PartlyOne : {X : Type 0} → X → X → X → Type 0
+PartlyOne old new mid = mid ≡ old
+
+-- of a first place and the rest: none, or the first place and some of the rest
+abbrev pub PartlyPair : {X Y : Type 0} → (Y → Y → Y → Type 0) → X × Y → X × Y → X × Y → Type 0
+PartlyPair PartlyRest old new mid = (mid ≡ old) ⊎ ((mid.0 ≡ new.0) × PartlyRest old.1 new.1 mid.1)
+
+-- some first places of a row are the new row's and the others the old one's, but not all are the new row's
+abbrev pub PartlyTwo : {X Y : Type 0} → X × Y → X × Y → X × Y → Type 0
+PartlyTwo old new mid = PartlyPair PartlyOne old new mid
+
+abbrev pub PartlyThree : {X Y Z : Type 0} → X × Y × Z → X × Y × Z → X × Y × Z → Type 0
+PartlyThree old new mid = PartlyPair PartlyTwo (three.nest old) (three.nest new) (three.nest mid)
+
+abbrev pub PartlyFour : {W X Y Z : Type 0} → W × X × Y × Z → W × X × Y × Z → W × X × Y × Z → Type 0
+PartlyFour old new mid = PartlyPair PartlyThree (four.nest old) (four.nest new) (four.nest mid)
+
+abbrev pub PartlyFive : {V W X Y Z : Type 0} → V × W × X × Y × Z → V × W × X × Y × Z → V × W × X × Y × Z → Type 0
+PartlyFive old new mid = PartlyPair PartlyFour (five.nest old) (five.nest new) (five.nest mid)
+
+abbrev pub PartlySix : {U V W X Y Z : Type 0} → U × V × W × X × Y × Z → U × V × W × X × Y × Z → U × V × W × X × Y × Z → Type 0
+PartlySix old new mid = PartlyPair PartlyFive (six.nest old) (six.nest new) (six.nest mid)
+
+-- at an index some first places of a row are stored, and not all
+pub record PutsPartly {V : Type 0} (Partly : V → V → V → Type 0) (old : ℕ → V) (i : ℕ) (row : V) (new : ℕ → V) : Type 0 where
+  pub mid : V
+  pub part : Partly (old i) row mid
+  pub rows : new ≡ row_put old i mid
+
+-- some first places of what was saved are put at an entity's index, and not all, by what a closure answers
+abbrev pub PutsSome : {M V D : Type 0} → (V → V → V → Type 0) → Conversion M V D → (M → Option Entity → Type 0) → D → Entity
+    → (ℕ → V) → (ℕ → V) → Type 0
+PutsSome {M} Partly c post d e old new = (f : M → Entity) → GivesEach post (c.mentions d) f → PutsPartly Partly old (index_of e) (c.loaded f d) new
+
+-- the ids before one are named, that one isn't, and why
+pub record StopsNaming {I : Type 0} (eq : I → I → Bool) (old : Naming I) (ids : List I) (e : LoadError) (new : Naming I) : Type 0 where
+  pub before : List I
+  pub id : I
+  pub rest : List I
+  pub list : ids ≡ before ++ id ∷ rest
+  pub mid : Naming I
+  pub named : NamesAll eq old before mid
+  pub none : NamesNone eq mid id new
+  pub why : IsOfNaming mid.people e
+
+module _ {M I V D : Type 0} (id_of : M → I) (eq : I → I → Bool) (c : Conversion M V D) (Partly : V → V → V → Type 0) where
+  -- its own id, or one that its components mention, is not named; no place is stored
+  pub record NotNamed (old : Loading I V) (r : EntityData M D) (e : LoadError) (new : Loading I V) : Type 0 where
+    pub stops : StopsNaming eq old.naming (id_of r.marker ∷ map id_of (c.mentions r.components)) e new.naming
+    pub rows : new.rows ≡ old.rows
+
+  -- its own id is named, and there is no memory for a list of those that its components mention
+  pub record NotListed (old : Loading I V) (r : EntityData M D) (e : LoadError) (new : Loading I V) : Type 0 where
+    pub entity : Entity
+    pub own : Names eq old.naming (id_of r.marker) entity new.naming
+    pub rows : new.rows ≡ old.rows
+    pub why : e ≡ OutOfMemory
+
+  -- all are named; some first places are stored, and the next is refused
+  pub record NotStored (old : Loading I V) (r : EntityData M D) (e : LoadError) (new : Loading I V) : Type 0 where
+    pub entity : Entity
+    pub mid : Naming I
+    pub own : Names eq old.naming (id_of r.marker) entity mid
+    pub mentioned : NamesAll eq mid (map id_of (c.mentions r.components)) new.naming
+    pub row : PutsPartly Partly old.rows (index_of entity) (c.loaded (named id_of new.naming.mapping) r.components) new.rows
+    pub why : IsOfStoring e
+
+  abbrev pub RefusesRecord : Loading I V → EntityData M D → LoadError → Loading I V → Type 0
+  RefusesRecord old r e new = NotNamed old r e new ⊎ (NotListed old r e new ⊎ NotStored old r e new)
+
+  -- the records before the refused one are loaded, and none after it
+  pub record Stops (old : Loading I V) (rs : List (EntityData M D)) (e : LoadError) (new : Loading I V) : Type 0 where
+    pub before : List (EntityData M D)
+    pub refused : EntityData M D
+    pub rest : List (EntityData M D)
+    pub list : rs ≡ before ++ refused ∷ rest
+    pub mid : Loading I V
+    pub loaded : Loads id_of eq c old before mid
+    pub stopped : RefusesRecord mid refused e new

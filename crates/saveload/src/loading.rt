@@ -1,0 +1,400 @@
+//! Tuples of one to six storages that are lent for a load.
+ghost use Rattle.std.specs.Prelude.{◌≡◌, refl};
+ghost use Rattle.std.proofs.Common.{◌∙◌};
+ghost use Rattle.saveload.specs.Loads.{column};
+ghost use Rattle.saveload.specs.Stops.{PartlyOne, PartlyTwo, PartlyThree, PartlyFour, PartlyFive, PartlySix};
+ghost use Rattle.saveload.specs.Tuples.{one_place, two_places, three_places, four_places, five_places, six_places};
+ghost use Rattle.saveload.specs.Tuples.{one_place_faithful, two_places_faithful, three_places_faithful, four_places_faithful, five_places_faithful, six_places_faithful};
+
+use crate::convert::ConvertSaveload;
+use crate::error::LoadError;
+use crate::load::{DeserializeComponents, add_mentions, store_place, store_with_rest};
+use crate::marker::Marker;
+use entities::{EntitiesRes, Entity};
+use std::alloc::{AllocError, Global};
+use storages::{Component, MaskedStorage};
+
+impl<M: Marker, A> DeserializeComponents<M> for (&mut MaskedStorage<A>,)
+where
+    A: Component + Drop + ConvertSaveload<M>,
+{
+    type Row = (Option<A>,);
+
+    type Data = (Option<<A as ConvertSaveload<M>>::Data>,);
+
+    ghost conversion = { one_place A.conversion };
+
+    ghost rows = { λ s i. record { 0 = column s.0.now i } };
+
+    ghost Partly = { PartlyOne };
+
+    ghost SameLoans = { λ s t. s.0.ghost_name ≡ t.0.ghost_name };
+
+    fn mentions(alloc: Global, saved: &Self::Data) -> Result<Vec<M>, AllocError> {
+        let mut list = Vec::new(alloc);
+        add_mentions::<M, A>(alloc, &mut list, &saved.0)?;
+        Ok(list)
+    }
+
+    fn deserialize_entity<F: Fn(M) -> Option<Entity>>(
+        &mut self,
+        alloc: Global,
+        entities: &EntitiesRes,
+        entity: Entity,
+        saved: Self::Data,
+        ids: F,
+    ) -> Result<(), LoadError> {
+        let (first,) = saved;
+        store_place(alloc, entities, self.0, entity, first, &ids)?;
+        Ok(())
+    }
+
+    ghost faithful = { one_place_faithful _ A.faithful };
+
+    ghost loans_self = { λ s. refl };
+
+    ghost loans_both = { λ s t u a b. a ∙ b };
+}
+
+impl<M: Marker, A, B> DeserializeComponents<M> for (&mut MaskedStorage<A>, &mut MaskedStorage<B>)
+where
+    A: Component + Drop + ConvertSaveload<M>,
+    B: Component + Drop + ConvertSaveload<M>,
+{
+    type Row = (Option<A>, Option<B>);
+
+    type Data = (
+        Option<<A as ConvertSaveload<M>>::Data>,
+        Option<<B as ConvertSaveload<M>>::Data>,
+    );
+
+    ghost conversion = { two_places A.conversion B.conversion };
+
+    ghost rows = { λ s i. (column s.0.now i, column s.1.now i) };
+
+    ghost Partly = { PartlyTwo };
+
+    ghost SameLoans = { λ s t. (s.0.ghost_name ≡ t.0.ghost_name) × (s.1.ghost_name ≡ t.1.ghost_name) };
+
+    fn mentions(alloc: Global, saved: &Self::Data) -> Result<Vec<M>, AllocError> {
+        let mut list = Vec::new(alloc);
+        add_mentions::<M, A>(alloc, &mut list, &saved.0)?;
+        add_mentions::<M, B>(alloc, &mut list, &saved.1)?;
+        Ok(list)
+    }
+
+    fn deserialize_entity<F: Fn(M) -> Option<Entity>>(
+        &mut self,
+        alloc: Global,
+        entities: &EntitiesRes,
+        entity: Entity,
+        saved: Self::Data,
+        ids: F,
+    ) -> Result<(), LoadError> {
+        let (first, second) = saved;
+        store_place(alloc, entities, self.0, entity, first, &ids)?;
+        store_place(alloc, entities, self.1, entity, second, &ids)?;
+        Ok(())
+    }
+
+    ghost faithful = { two_places_faithful _ _ A.faithful B.faithful };
+
+    ghost loans_self = { λ s. (refl, refl) };
+
+    ghost loans_both = { λ s t u a b. (a.0 ∙ b.0, a.1 ∙ b.1) };
+}
+
+impl<M: Marker, A, B, C> DeserializeComponents<M>
+    for (
+        &mut MaskedStorage<A>,
+        &mut MaskedStorage<B>,
+        &mut MaskedStorage<C>,
+    )
+where
+    A: Component + Drop + ConvertSaveload<M>,
+    B: Component + Drop + ConvertSaveload<M>,
+    C: Component + Drop + ConvertSaveload<M>,
+{
+    type Row = (Option<A>, Option<B>, Option<C>);
+
+    type Data = (
+        Option<<A as ConvertSaveload<M>>::Data>,
+        Option<<B as ConvertSaveload<M>>::Data>,
+        Option<<C as ConvertSaveload<M>>::Data>,
+    );
+
+    ghost conversion = { three_places A.conversion B.conversion C.conversion };
+
+    ghost rows = { λ s i. (column s.0.now i, column s.1.now i, column s.2.now i) };
+
+    ghost Partly = { PartlyThree };
+
+    ghost SameLoans = { λ s t. (s.0.ghost_name ≡ t.0.ghost_name) × (s.1.ghost_name ≡ t.1.ghost_name) × (s.2.ghost_name ≡ t.2.ghost_name) };
+
+    fn mentions(alloc: Global, saved: &Self::Data) -> Result<Vec<M>, AllocError> {
+        let mut list = Vec::new(alloc);
+        add_mentions::<M, A>(alloc, &mut list, &saved.0)?;
+        add_mentions::<M, B>(alloc, &mut list, &saved.1)?;
+        add_mentions::<M, C>(alloc, &mut list, &saved.2)?;
+        Ok(list)
+    }
+
+    fn deserialize_entity<F: Fn(M) -> Option<Entity>>(
+        &mut self,
+        alloc: Global,
+        entities: &EntitiesRes,
+        entity: Entity,
+        saved: Self::Data,
+        ids: F,
+    ) -> Result<(), LoadError> {
+        let (first, second, third) = saved;
+        let mut others = (&mut *self.1, &mut *self.2);
+        let rest = (second, third);
+        store_with_rest(
+            alloc,
+            entities,
+            entity,
+            self.0,
+            &mut others,
+            (first, rest),
+            ids,
+        )
+    }
+
+    ghost faithful = { three_places_faithful _ _ _ A.faithful B.faithful C.faithful };
+
+    ghost loans_self = { λ s. (refl, refl, refl) };
+
+    ghost loans_both = { λ s t u a b. (a.0 ∙ b.0, a.1 ∙ b.1, a.2 ∙ b.2) };
+}
+
+impl<M: Marker, A, B, C, D> DeserializeComponents<M>
+    for (
+        &mut MaskedStorage<A>,
+        &mut MaskedStorage<B>,
+        &mut MaskedStorage<C>,
+        &mut MaskedStorage<D>,
+    )
+where
+    A: Component + Drop + ConvertSaveload<M>,
+    B: Component + Drop + ConvertSaveload<M>,
+    C: Component + Drop + ConvertSaveload<M>,
+    D: Component + Drop + ConvertSaveload<M>,
+{
+    type Row = (Option<A>, Option<B>, Option<C>, Option<D>);
+
+    type Data = (
+        Option<<A as ConvertSaveload<M>>::Data>,
+        Option<<B as ConvertSaveload<M>>::Data>,
+        Option<<C as ConvertSaveload<M>>::Data>,
+        Option<<D as ConvertSaveload<M>>::Data>,
+    );
+
+    ghost conversion = { four_places A.conversion B.conversion C.conversion D.conversion };
+
+    ghost rows = { λ s i. (column s.0.now i, column s.1.now i, column s.2.now i, column s.3.now i) };
+
+    ghost Partly = { PartlyFour };
+
+    ghost SameLoans = { λ s t. (s.0.ghost_name ≡ t.0.ghost_name) × (s.1.ghost_name ≡ t.1.ghost_name) × (s.2.ghost_name ≡ t.2.ghost_name) × (s.3.ghost_name ≡ t.3.ghost_name) };
+
+    fn mentions(alloc: Global, saved: &Self::Data) -> Result<Vec<M>, AllocError> {
+        let mut list = Vec::new(alloc);
+        add_mentions::<M, A>(alloc, &mut list, &saved.0)?;
+        add_mentions::<M, B>(alloc, &mut list, &saved.1)?;
+        add_mentions::<M, C>(alloc, &mut list, &saved.2)?;
+        add_mentions::<M, D>(alloc, &mut list, &saved.3)?;
+        Ok(list)
+    }
+
+    fn deserialize_entity<F: Fn(M) -> Option<Entity>>(
+        &mut self,
+        alloc: Global,
+        entities: &EntitiesRes,
+        entity: Entity,
+        saved: Self::Data,
+        ids: F,
+    ) -> Result<(), LoadError> {
+        let (first, second, third, fourth) = saved;
+        let mut others = (&mut *self.1, &mut *self.2, &mut *self.3);
+        let rest = (second, third, fourth);
+        store_with_rest(
+            alloc,
+            entities,
+            entity,
+            self.0,
+            &mut others,
+            (first, rest),
+            ids,
+        )
+    }
+
+    ghost faithful = { four_places_faithful _ _ _ _ A.faithful B.faithful C.faithful D.faithful };
+
+    ghost loans_self = { λ s. (refl, refl, refl, refl) };
+
+    ghost loans_both = { λ s t u a b. (a.0 ∙ b.0, a.1 ∙ b.1, a.2 ∙ b.2, a.3 ∙ b.3) };
+}
+
+impl<M: Marker, A, B, C, D, E> DeserializeComponents<M>
+    for (
+        &mut MaskedStorage<A>,
+        &mut MaskedStorage<B>,
+        &mut MaskedStorage<C>,
+        &mut MaskedStorage<D>,
+        &mut MaskedStorage<E>,
+    )
+where
+    A: Component + Drop + ConvertSaveload<M>,
+    B: Component + Drop + ConvertSaveload<M>,
+    C: Component + Drop + ConvertSaveload<M>,
+    D: Component + Drop + ConvertSaveload<M>,
+    E: Component + Drop + ConvertSaveload<M>,
+{
+    type Row = (Option<A>, Option<B>, Option<C>, Option<D>, Option<E>);
+
+    type Data = (
+        Option<<A as ConvertSaveload<M>>::Data>,
+        Option<<B as ConvertSaveload<M>>::Data>,
+        Option<<C as ConvertSaveload<M>>::Data>,
+        Option<<D as ConvertSaveload<M>>::Data>,
+        Option<<E as ConvertSaveload<M>>::Data>,
+    );
+
+    ghost conversion = { five_places A.conversion B.conversion C.conversion D.conversion E.conversion };
+
+    ghost rows = { λ s i. (column s.0.now i, column s.1.now i, column s.2.now i, column s.3.now i, column s.4.now i) };
+
+    ghost Partly = { PartlyFive };
+
+    ghost SameLoans = { λ s t. (s.0.ghost_name ≡ t.0.ghost_name) × (s.1.ghost_name ≡ t.1.ghost_name) × (s.2.ghost_name ≡ t.2.ghost_name)
+        × (s.3.ghost_name ≡ t.3.ghost_name) × (s.4.ghost_name ≡ t.4.ghost_name) };
+
+    fn mentions(alloc: Global, saved: &Self::Data) -> Result<Vec<M>, AllocError> {
+        let mut list = Vec::new(alloc);
+        add_mentions::<M, A>(alloc, &mut list, &saved.0)?;
+        add_mentions::<M, B>(alloc, &mut list, &saved.1)?;
+        add_mentions::<M, C>(alloc, &mut list, &saved.2)?;
+        add_mentions::<M, D>(alloc, &mut list, &saved.3)?;
+        add_mentions::<M, E>(alloc, &mut list, &saved.4)?;
+        Ok(list)
+    }
+
+    fn deserialize_entity<F: Fn(M) -> Option<Entity>>(
+        &mut self,
+        alloc: Global,
+        entities: &EntitiesRes,
+        entity: Entity,
+        saved: Self::Data,
+        ids: F,
+    ) -> Result<(), LoadError> {
+        let (first, second, third, fourth, fifth) = saved;
+        let mut others = (&mut *self.1, &mut *self.2, &mut *self.3, &mut *self.4);
+        let rest = (second, third, fourth, fifth);
+        store_with_rest(
+            alloc,
+            entities,
+            entity,
+            self.0,
+            &mut others,
+            (first, rest),
+            ids,
+        )
+    }
+
+    ghost faithful = { five_places_faithful _ _ _ _ _ A.faithful B.faithful C.faithful D.faithful E.faithful };
+
+    ghost loans_self = { λ s. (refl, refl, refl, refl, refl) };
+
+    ghost loans_both = { λ s t u a b. (a.0 ∙ b.0, a.1 ∙ b.1, a.2 ∙ b.2, a.3 ∙ b.3, a.4 ∙ b.4) };
+}
+
+impl<M: Marker, A, B, C, D, E, G> DeserializeComponents<M>
+    for (
+        &mut MaskedStorage<A>,
+        &mut MaskedStorage<B>,
+        &mut MaskedStorage<C>,
+        &mut MaskedStorage<D>,
+        &mut MaskedStorage<E>,
+        &mut MaskedStorage<G>,
+    )
+where
+    A: Component + Drop + ConvertSaveload<M>,
+    B: Component + Drop + ConvertSaveload<M>,
+    C: Component + Drop + ConvertSaveload<M>,
+    D: Component + Drop + ConvertSaveload<M>,
+    E: Component + Drop + ConvertSaveload<M>,
+    G: Component + Drop + ConvertSaveload<M>,
+{
+    type Row = (
+        Option<A>,
+        Option<B>,
+        Option<C>,
+        Option<D>,
+        Option<E>,
+        Option<G>,
+    );
+
+    type Data = (
+        Option<<A as ConvertSaveload<M>>::Data>,
+        Option<<B as ConvertSaveload<M>>::Data>,
+        Option<<C as ConvertSaveload<M>>::Data>,
+        Option<<D as ConvertSaveload<M>>::Data>,
+        Option<<E as ConvertSaveload<M>>::Data>,
+        Option<<G as ConvertSaveload<M>>::Data>,
+    );
+
+    ghost conversion = { six_places A.conversion B.conversion C.conversion D.conversion E.conversion G.conversion };
+
+    ghost rows = { λ s i. (column s.0.now i, column s.1.now i, column s.2.now i, column s.3.now i, column s.4.now i, column s.5.now i) };
+
+    ghost Partly = { PartlySix };
+
+    ghost SameLoans = { λ s t. (s.0.ghost_name ≡ t.0.ghost_name) × (s.1.ghost_name ≡ t.1.ghost_name) × (s.2.ghost_name ≡ t.2.ghost_name)
+        × (s.3.ghost_name ≡ t.3.ghost_name) × (s.4.ghost_name ≡ t.4.ghost_name) × (s.5.ghost_name ≡ t.5.ghost_name) };
+
+    fn mentions(alloc: Global, saved: &Self::Data) -> Result<Vec<M>, AllocError> {
+        let mut list = Vec::new(alloc);
+        add_mentions::<M, A>(alloc, &mut list, &saved.0)?;
+        add_mentions::<M, B>(alloc, &mut list, &saved.1)?;
+        add_mentions::<M, C>(alloc, &mut list, &saved.2)?;
+        add_mentions::<M, D>(alloc, &mut list, &saved.3)?;
+        add_mentions::<M, E>(alloc, &mut list, &saved.4)?;
+        add_mentions::<M, G>(alloc, &mut list, &saved.5)?;
+        Ok(list)
+    }
+
+    fn deserialize_entity<F: Fn(M) -> Option<Entity>>(
+        &mut self,
+        alloc: Global,
+        entities: &EntitiesRes,
+        entity: Entity,
+        saved: Self::Data,
+        ids: F,
+    ) -> Result<(), LoadError> {
+        let (first, second, third, fourth, fifth, sixth) = saved;
+        let mut others = (
+            &mut *self.1,
+            &mut *self.2,
+            &mut *self.3,
+            &mut *self.4,
+            &mut *self.5,
+        );
+        let rest = (second, third, fourth, fifth, sixth);
+        store_with_rest(
+            alloc,
+            entities,
+            entity,
+            self.0,
+            &mut others,
+            (first, rest),
+            ids,
+        )
+    }
+
+    ghost faithful = { six_places_faithful _ _ _ _ _ _ A.faithful B.faithful C.faithful D.faithful E.faithful G.faithful };
+
+    ghost loans_self = { λ s. (refl, refl, refl, refl, refl, refl) };
+
+    ghost loans_both = { λ s t u a b. (a.0 ∙ b.0, a.1 ∙ b.1, a.2 ∙ b.2, a.3 ∙ b.3, a.4 ∙ b.4, a.5 ∙ b.5) };
+}
