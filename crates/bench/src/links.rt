@@ -79,6 +79,17 @@ impl JsonData for X {
         Ok(i64::from_value(alloc, value)?.map(|number| X(number)))
     }
 
+    fn write(&self, alloc: Global, text: &mut String) -> Result<(), AllocError> {
+        self.0.write(alloc, text)
+    }
+
+    fn take<'t>(alloc: Global, text: &'t [u8]) -> Result<Option<(Self, &'t [u8])>, AllocError> {
+        match i64::take(alloc, text)? {
+            Some((number, rest)) => Ok(Some((X(number), rest))),
+            None => Ok(None),
+        }
+    }
+
     ghost whole = { position_whole (λ p. p.0) };
 
     ghost shallow = { position_shallow (λ p. p.0) };
@@ -129,6 +140,17 @@ impl JsonData for Y {
 
     fn from_value(alloc: Global, value: &Value) -> Result<Option<Self>, AllocError> {
         Ok(i64::from_value(alloc, value)?.map(|number| Y(number)))
+    }
+
+    fn write(&self, alloc: Global, text: &mut String) -> Result<(), AllocError> {
+        self.0.write(alloc, text)
+    }
+
+    fn take<'t>(alloc: Global, text: &'t [u8]) -> Result<Option<(Self, &'t [u8])>, AllocError> {
+        match i64::take(alloc, text)? {
+            Some((number, rest)) => Ok(Some((Y(number), rest))),
+            None => Ok(None),
+        }
     }
 
     ghost whole = { position_whole (λ p. p.0) };

@@ -10,6 +10,8 @@ pub mod Loaded
 pub mod Renaming
 pub mod JsonLists
 pub mod JsonTexts
+pub mod Kept
+pub mod KeptTuples
 pub mod Remapped
 pub mod Stopped
 pub mod Marked

@@ -1,10 +1,13 @@
 -- The JSON form of a saved list: an array of records. A record is an object of exactly the keys `components` and `marker`. `components` is an
 -- array with one place for each storage: null for an absent component, an array of exactly one value for a present one.
-use Rattle.std.specs.Prelude.{◌≡◌, ℕ, ◌==◌, List, [], ◌∷◌, map, Bool, false, codes, Option, Some, None, option_map, option_and_then, if◌then◌else◌, is_some, ⊤}
+use Rattle.std.specs.Prelude.{◌≡◌, ℕ, ◌==◌, List, [], ◌∷◌, ◌++◌, map, Bool, false, codes, Option, Some, None, option_map, option_and_then, if◌then◌else◌, is_some, ⊤}
+use Rattle.json.specs.Tree.{HasNumbers}
 use Rattle.serde_json.specs.Data.{Data, null, array, object, Items, no_items, item, Members, member, no_members}
 use Rattle.serde_json.specs.Find.{get, at, as_null, as_array, as_object}
 use Rattle.serde_json.specs.Events.{items_len, members_len}
+use Rattle.serde_json.specs.Read.{of_json}
 use Rattle.serde_json.specs.View.{items_of}
+use Rattle.serde_json.specs.Written.{outline, compact_text}
 use Rattle.saveload.specs.declared.entity_data.EntityData.{EntityData}
 
 -- a place
@@ -12,9 +15,13 @@ abbrev pub place_json : {D : Type 0} → (D → Data) → Option D → Data
 place_json json None = null
 place_json json (Some d) = array (item (json d) no_items)
 
+-- places, as one array
+abbrev pub array_json : {D : Type 0} → (D → List Data) → D → Data
+array_json places x = array (items_of (places x))
+
 -- a record, by the value of its marker and its places
 abbrev pub record_json : {M D : Type 0} → (M → Data) → (D → List Data) → EntityData M D → Data
-record_json marker places r = object (member (codes "components") (array (items_of (places r.components))) (member (codes "marker") (marker r.marker) no_members))
+record_json marker places r = object (member (codes "components") (array_json places r.components) (member (codes "marker") (marker r.marker) no_members))
 
 -- a saved list
 abbrev pub list_json : {M D : Type 0} → (M → Data) → (D → List Data) → List (EntityData M D) → Data
@@ -69,8 +76,22 @@ records_from marker places (item d ds) = option_and_then (λ r. option_map (λ r
 abbrev pub list_from : {M D : Type 0} → (Data → Option M) → (Data → Option D) → Data → Option (List (EntityData M D))
 list_from marker places d = option_and_then (records_from marker places) (as_array d)
 
--- the values of all records are these records again
-abbrev pub AllBack : {M D : Type 0} → (M → Data) → (Data → Option M) → (D → List Data) → (Data → Option D) → List (EntityData M D) → Type 0
-AllBack marker_json marker_from places_json places_from [] = ⊤
-AllBack marker_json marker_from places_json places_from (r ∷ rs) =
-    (record_from marker_from places_from (record_json marker_json places_json r) ≡ Some r) × AllBack marker_json marker_from places_json places_from rs
+-- the tokens of a value are read as it: its numbers are in the ranges of those that are read
+abbrev pub IsKept : Data → Type 0
+IsKept d = HasNumbers (outline d) × (of_json (outline d) ≡ Some d)
+
+-- what is written of x is read as x, wherever it stands in a text
+abbrev pub IsRead : {D : Type 0} → (D → Data) → (Data → Option D) → D → Type 0
+IsRead json from x = IsKept (json x) × (from (json x) ≡ Some x)
+
+abbrev pub AllRead : {D : Type 0} → (D → Data) → (Data → Option D) → List D → Type 0
+AllRead json from [] = ⊤
+AllRead json from (x ∷ xs) = IsRead json from x × AllRead json from xs
+
+-- the compact text of x is written behind a text
+abbrev pub Writes : {D : Type 0} → (D → Data) → (Data → Option D) → D → List ℕ → List ℕ → Type 0
+Writes json from x old new = (new ≡ old ++ compact_text (json x)) × IsRead json from x
+
+-- the compact text of x stands at the front of a text, and a rest behind it
+abbrev pub Takes : {D : Type 0} → (D → Data) → (Data → Option D) → List ℕ → D → List ℕ → Type 0
+Takes json from text x rest = (text ≡ compact_text (json x) ++ rest) × IsRead json from x

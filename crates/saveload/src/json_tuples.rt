@@ -1,7 +1,8 @@
 //! Tuples of one to six places as JSON values.
 ghost use Rattle.std.specs.Prelude.{◌≡◌};
 
-use crate::json::{JsonData, JsonPlaces, is_array_of, place_value, read_place};
+use crate::json_data::{JsonData, JsonPlaces, is_array_of, read_place};
+use crate::json_text::{after, take_next, take_place, write_next, write_place};
 use serde_json::Value;
 use std::alloc::{AllocError, Global};
 
@@ -12,9 +13,24 @@ impl<A: JsonData + Drop> JsonPlaces for (Option<A>,) {
 
     ghost from = { one_from A.from };
 
-    fn to_values(&self, alloc: Global) -> Result<Vec<Value>, AllocError> {
-        let first = place_value(alloc, &self.0)?;
-        Ok(vec![in alloc; first]?)
+    fn write(&self, alloc: Global, text: &mut String) -> Result<(), AllocError> {
+        text.push_str("[")?;
+        write_place(alloc, &self.0, text)?;
+        text.push_str("]")?;
+        Ok(())
+    }
+
+    fn take<'t>(alloc: Global, text: &'t [u8]) -> Result<Option<(Self, &'t [u8])>, AllocError> {
+        let Some(inner) = after(text, "[") else {
+            return Ok(None);
+        };
+        let Some((first, rest)) = take_place(alloc, inner)? else {
+            return Ok(None);
+        };
+        match after(rest, "]") {
+            Some(rest) => Ok(Some(((first,), rest))),
+            None => Ok(None),
+        }
     }
 
     fn from_value(alloc: Global, value: &Value) -> Result<Option<Self>, AllocError> {
@@ -39,10 +55,28 @@ impl<A: JsonData + Drop, B: JsonData + Drop> JsonPlaces for (Option<A>, Option<B
 
     ghost from = { two_from A.from B.from };
 
-    fn to_values(&self, alloc: Global) -> Result<Vec<Value>, AllocError> {
-        let first = place_value(alloc, &self.0)?;
-        let second = place_value(alloc, &self.1)?;
-        Ok(vec![in alloc; first, second]?)
+    fn write(&self, alloc: Global, text: &mut String) -> Result<(), AllocError> {
+        text.push_str("[")?;
+        write_place(alloc, &self.0, text)?;
+        write_next(alloc, &self.1, text)?;
+        text.push_str("]")?;
+        Ok(())
+    }
+
+    fn take<'t>(alloc: Global, text: &'t [u8]) -> Result<Option<(Self, &'t [u8])>, AllocError> {
+        let Some(inner) = after(text, "[") else {
+            return Ok(None);
+        };
+        let Some((first, rest)) = take_place(alloc, inner)? else {
+            return Ok(None);
+        };
+        let Some((second, rest)) = take_next(alloc, rest)? else {
+            return Ok(None);
+        };
+        match after(rest, "]") {
+            Some(rest) => Ok(Some(((first, second), rest))),
+            None => Ok(None),
+        }
     }
 
     fn from_value(alloc: Global, value: &Value) -> Result<Option<Self>, AllocError> {
@@ -71,11 +105,32 @@ impl<A: JsonData + Drop, B: JsonData + Drop, C: JsonData + Drop> JsonPlaces
 
     ghost from = { three_from A.from B.from C.from };
 
-    fn to_values(&self, alloc: Global) -> Result<Vec<Value>, AllocError> {
-        let first = place_value(alloc, &self.0)?;
-        let second = place_value(alloc, &self.1)?;
-        let third = place_value(alloc, &self.2)?;
-        Ok(vec![in alloc; first, second, third]?)
+    fn write(&self, alloc: Global, text: &mut String) -> Result<(), AllocError> {
+        text.push_str("[")?;
+        write_place(alloc, &self.0, text)?;
+        write_next(alloc, &self.1, text)?;
+        write_next(alloc, &self.2, text)?;
+        text.push_str("]")?;
+        Ok(())
+    }
+
+    fn take<'t>(alloc: Global, text: &'t [u8]) -> Result<Option<(Self, &'t [u8])>, AllocError> {
+        let Some(inner) = after(text, "[") else {
+            return Ok(None);
+        };
+        let Some((first, rest)) = take_place(alloc, inner)? else {
+            return Ok(None);
+        };
+        let Some((second, rest)) = take_next(alloc, rest)? else {
+            return Ok(None);
+        };
+        let Some((third, rest)) = take_next(alloc, rest)? else {
+            return Ok(None);
+        };
+        match after(rest, "]") {
+            Some(rest) => Ok(Some(((first, second, third), rest))),
+            None => Ok(None),
+        }
     }
 
     fn from_value(alloc: Global, value: &Value) -> Result<Option<Self>, AllocError> {
@@ -107,12 +162,36 @@ impl<A: JsonData + Drop, B: JsonData + Drop, C: JsonData + Drop, D: JsonData + D
 
     ghost from = { four_from A.from B.from C.from D.from };
 
-    fn to_values(&self, alloc: Global) -> Result<Vec<Value>, AllocError> {
-        let first = place_value(alloc, &self.0)?;
-        let second = place_value(alloc, &self.1)?;
-        let third = place_value(alloc, &self.2)?;
-        let fourth = place_value(alloc, &self.3)?;
-        Ok(vec![in alloc; first, second, third, fourth]?)
+    fn write(&self, alloc: Global, text: &mut String) -> Result<(), AllocError> {
+        text.push_str("[")?;
+        write_place(alloc, &self.0, text)?;
+        write_next(alloc, &self.1, text)?;
+        write_next(alloc, &self.2, text)?;
+        write_next(alloc, &self.3, text)?;
+        text.push_str("]")?;
+        Ok(())
+    }
+
+    fn take<'t>(alloc: Global, text: &'t [u8]) -> Result<Option<(Self, &'t [u8])>, AllocError> {
+        let Some(inner) = after(text, "[") else {
+            return Ok(None);
+        };
+        let Some((first, rest)) = take_place(alloc, inner)? else {
+            return Ok(None);
+        };
+        let Some((second, rest)) = take_next(alloc, rest)? else {
+            return Ok(None);
+        };
+        let Some((third, rest)) = take_next(alloc, rest)? else {
+            return Ok(None);
+        };
+        let Some((fourth, rest)) = take_next(alloc, rest)? else {
+            return Ok(None);
+        };
+        match after(rest, "]") {
+            Some(rest) => Ok(Some(((first, second, third, fourth), rest))),
+            None => Ok(None),
+        }
     }
 
     fn from_value(alloc: Global, value: &Value) -> Result<Option<Self>, AllocError> {
@@ -152,13 +231,40 @@ impl<
 
     ghost from = { five_from A.from B.from C.from D.from E.from };
 
-    fn to_values(&self, alloc: Global) -> Result<Vec<Value>, AllocError> {
-        let first = place_value(alloc, &self.0)?;
-        let second = place_value(alloc, &self.1)?;
-        let third = place_value(alloc, &self.2)?;
-        let fourth = place_value(alloc, &self.3)?;
-        let fifth = place_value(alloc, &self.4)?;
-        Ok(vec![in alloc; first, second, third, fourth, fifth]?)
+    fn write(&self, alloc: Global, text: &mut String) -> Result<(), AllocError> {
+        text.push_str("[")?;
+        write_place(alloc, &self.0, text)?;
+        write_next(alloc, &self.1, text)?;
+        write_next(alloc, &self.2, text)?;
+        write_next(alloc, &self.3, text)?;
+        write_next(alloc, &self.4, text)?;
+        text.push_str("]")?;
+        Ok(())
+    }
+
+    fn take<'t>(alloc: Global, text: &'t [u8]) -> Result<Option<(Self, &'t [u8])>, AllocError> {
+        let Some(inner) = after(text, "[") else {
+            return Ok(None);
+        };
+        let Some((first, rest)) = take_place(alloc, inner)? else {
+            return Ok(None);
+        };
+        let Some((second, rest)) = take_next(alloc, rest)? else {
+            return Ok(None);
+        };
+        let Some((third, rest)) = take_next(alloc, rest)? else {
+            return Ok(None);
+        };
+        let Some((fourth, rest)) = take_next(alloc, rest)? else {
+            return Ok(None);
+        };
+        let Some((fifth, rest)) = take_next(alloc, rest)? else {
+            return Ok(None);
+        };
+        match after(rest, "]") {
+            Some(rest) => Ok(Some(((first, second, third, fourth, fifth), rest))),
+            None => Ok(None),
+        }
     }
 
     fn from_value(alloc: Global, value: &Value) -> Result<Option<Self>, AllocError> {
@@ -210,14 +316,44 @@ impl<
 
     ghost from = { six_from A.from B.from C.from D.from E.from F.from };
 
-    fn to_values(&self, alloc: Global) -> Result<Vec<Value>, AllocError> {
-        let first = place_value(alloc, &self.0)?;
-        let second = place_value(alloc, &self.1)?;
-        let third = place_value(alloc, &self.2)?;
-        let fourth = place_value(alloc, &self.3)?;
-        let fifth = place_value(alloc, &self.4)?;
-        let sixth = place_value(alloc, &self.5)?;
-        Ok(vec![in alloc; first, second, third, fourth, fifth, sixth]?)
+    fn write(&self, alloc: Global, text: &mut String) -> Result<(), AllocError> {
+        text.push_str("[")?;
+        write_place(alloc, &self.0, text)?;
+        write_next(alloc, &self.1, text)?;
+        write_next(alloc, &self.2, text)?;
+        write_next(alloc, &self.3, text)?;
+        write_next(alloc, &self.4, text)?;
+        write_next(alloc, &self.5, text)?;
+        text.push_str("]")?;
+        Ok(())
+    }
+
+    fn take<'t>(alloc: Global, text: &'t [u8]) -> Result<Option<(Self, &'t [u8])>, AllocError> {
+        let Some(inner) = after(text, "[") else {
+            return Ok(None);
+        };
+        let Some((first, rest)) = take_place(alloc, inner)? else {
+            return Ok(None);
+        };
+        let Some((second, rest)) = take_next(alloc, rest)? else {
+            return Ok(None);
+        };
+        let Some((third, rest)) = take_next(alloc, rest)? else {
+            return Ok(None);
+        };
+        let Some((fourth, rest)) = take_next(alloc, rest)? else {
+            return Ok(None);
+        };
+        let Some((fifth, rest)) = take_next(alloc, rest)? else {
+            return Ok(None);
+        };
+        let Some((sixth, rest)) = take_next(alloc, rest)? else {
+            return Ok(None);
+        };
+        match after(rest, "]") {
+            Some(rest) => Ok(Some(((first, second, third, fourth, fifth, sixth), rest))),
+            None => Ok(None),
+        }
     }
 
     fn from_value(alloc: Global, value: &Value) -> Result<Option<Self>, AllocError> {

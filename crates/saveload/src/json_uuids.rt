@@ -2,7 +2,7 @@
 ghost use Rattle.std.specs.Prelude.{◌≡◌};
 ghost use Rattle.saveload.specs.JsonUuids.{uuid_of_text};
 
-use crate::json::JsonData;
+use crate::json_data::JsonData;
 use crate::uuids::UuidMarker;
 use serde_json::Value;
 use std::alloc::{AllocError, Global};

@@ -1,0 +1,9 @@
+use Rattle.std.proofs.Common.{string_bytes}
+use Rattle.saveload.proofs.KeptTuples.{three_writes}
+use Rattle.saveload.proofs.json_tuples.Tuple3OptionOptionOptionJsonPlaces.write.Goals as goal
+
+pub returns : goal.returns
+returns g c =
+    three_writes g.A.JsonData.json g.A.JsonData.from g.B.JsonData.json g.B.JsonData.from g.C.JsonData.json g.C.JsonData.from c.args.self.now
+    (string_bytes c.args.text.now) (string_bytes c.push_str.new.self) (string_bytes c.write_place.new.text) (string_bytes c.write_next.new.text) (string_bytes c.write_next-2.new.text) (string_bytes c.push_str-2.new.self)
+    c.in_ok-push_str.ensures.bytes c.in_ok-write_place.ensures c.in_ok-write_next.ensures.text c.in_ok-write_next.ensures.read c.in_ok-write_next-2.ensures.text c.in_ok-write_next-2.ensures.read c.in_ok-push_str-2.ensures.bytes
