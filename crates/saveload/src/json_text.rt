@@ -34,8 +34,14 @@ pub(crate) fn write_next<D: JsonData>(
     ensures text { OnOk result (string_bytes text.new ≡ string_bytes text.old ++ (44 ∷ compact_text (place_json D.json place.now))) }
     ensures read { OnOk result (IsRead (place_json D.json) (place_from D.from) place.now) }
 {
-    text.push_str(",")?;
-    write_place(alloc, place, text)
+    match place {
+        Some(data) => {
+            text.push_str(",[")?;
+            data.write(alloc, text)?;
+            text.push_str("]")
+        }
+        None => text.push_str(",null"),
+    }
 }
 
 // Writes a record behind a text.

@@ -82,7 +82,11 @@ pub(crate) fn add_mentions<M: Marker, T: ConvertSaveload<M>>(
 {
     if let Some(saved) = saved {
         let mut mentioned = T::mentions(alloc, saved)?;
-        list.append(&mut mentioned)?;
+        if list.is_empty() {
+            *list = mentioned;
+        } else {
+            list.append(&mut mentioned)?;
+        }
     }
     Ok(())
 }

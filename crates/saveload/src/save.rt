@@ -91,7 +91,7 @@ fn save_list<M: Marker + Copy, P: SerializeComponents<M>>(
     ensures saved { IfOk result (λ rs. IsSavedList P.conversion (λ e. found markers.now e) (λ e. P.values places.now e) list.now rs.items) }
     ensures refused { IfErr result (RefusesSave (λ e. found markers.now e) (λ e. P.conversion.references (P.values places.now e)) list.now) }
 {
-    let mut records = Vec::new(alloc);
+    let mut records = Vec::with_capacity(alloc, list.len())?;
     for e in list {
         let saved = save_one(alloc, places, markers, *e)?;
         if records.push(saved).is_err() {
