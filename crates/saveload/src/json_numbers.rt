@@ -107,6 +107,7 @@ impl<T> JsonData for SimpleMarker<T> {
 }
 
 // Writes a number that is not negative behind a text.
+#[inline(always)]
 fn write_id(number: u64, text: &mut String) -> Result<(), AllocError>
     ensures { OnOk result (Writes id_json id_from number (string_bytes text.old) (string_bytes text.new)) }
 {
@@ -116,6 +117,7 @@ fn write_id(number: u64, text: &mut String) -> Result<(), AllocError>
 }
 
 // What stands behind the digits of a number, where these are at the front of a text.
+#[inline(always)]
 fn after_id(number: u64, text: &[u8]) -> Option<&[u8]>
     ensures { IfSome result (λ rest. Takes id_json id_from text.now number rest.now) }
 {
@@ -124,6 +126,7 @@ fn after_id(number: u64, text: &[u8]) -> Option<&[u8]>
 }
 
 // Writes a number behind a text.
+#[inline(always)]
 fn write_whole(number: i64, text: &mut String) -> Result<(), AllocError>
     ensures { OnOk result (Writes whole_json whole_from number (string_bytes text.old) (string_bytes text.new)) }
 {
@@ -133,6 +136,7 @@ fn write_whole(number: i64, text: &mut String) -> Result<(), AllocError>
 }
 
 // What stands behind a number, where it is at the front of a text.
+#[inline(always)]
 fn after_whole(number: i64, text: &[u8]) -> Option<&[u8]>
     ensures { IfSome result (λ rest. Takes whole_json whole_from text.now number rest.now) }
 {
@@ -141,6 +145,7 @@ fn after_whole(number: i64, text: &[u8]) -> Option<&[u8]>
 }
 
 // The number that the digits at the front of a text are.
+#[inline(always)]
 fn leading(text: &[u8]) -> u64 {
     let mut number: u64 = 0;
     for &byte in text {
@@ -153,6 +158,7 @@ fn leading(text: &[u8]) -> u64 {
 }
 
 // The same with a minus before it, where there is one.
+#[inline(always)]
 fn leading_signed(text: &[u8]) -> i64 {
     match text.strip_prefix("-".as_bytes()) {
         Some(rest) => 0i64.wrapping_sub(leading(rest).cast_signed()),

@@ -8,6 +8,7 @@ use crate::json_data::{JsonData, JsonPlaces};
 use std::alloc::{AllocError, Global};
 
 // Writes a place behind a text.
+#[inline(always)]
 pub(crate) fn write_place<D: JsonData>(
     alloc: Global,
     place: &Option<D>,
@@ -26,6 +27,7 @@ pub(crate) fn write_place<D: JsonData>(
 }
 
 // Writes a place that follows another behind a text.
+#[inline(always)]
 pub(crate) fn write_next<D: JsonData>(
     alloc: Global,
     place: &Option<D>,
@@ -80,6 +82,7 @@ pub(crate) fn write_list<M: JsonData, D: JsonPlaces>(
 }
 
 // What stands behind a front.
+#[inline(always)]
 pub(crate) fn after<'t>(text: &'t [u8], front: &str) -> Option<&'t [u8]>
     ensures { IfSome result (λ rest. text.now ≡ front.now ++ rest.now) }
 {
@@ -87,6 +90,7 @@ pub(crate) fn after<'t>(text: &'t [u8], front: &str) -> Option<&'t [u8]>
 }
 
 // Takes a place off the front of a text.
+#[inline(always)]
 pub(crate) fn take_place<'t, D: JsonData + Drop>(
     alloc: Global,
     text: &'t [u8],
@@ -109,6 +113,7 @@ pub(crate) fn take_place<'t, D: JsonData + Drop>(
 }
 
 // Takes a place that follows another off the front of a text.
+#[inline(always)]
 pub(crate) fn take_next<'t, D: JsonData + Drop>(
     alloc: Global,
     text: &'t [u8],
