@@ -89,6 +89,17 @@ pub(crate) fn after<'t>(text: &'t [u8], front: &str) -> Option<&'t [u8]>
     text.strip_prefix(front.as_bytes())
 }
 
+// What stands behind a first byte.
+#[inline(always)]
+pub(crate) fn after_byte(text: &[u8], byte: u8) -> Option<&[u8]>
+    ensures { IfSome result (λ rest. text.now ≡ byte ∷ rest.now) }
+{
+    match text.split_first() {
+        Some((first, rest)) if *first == byte => Some(rest),
+        _ => None,
+    }
+}
+
 // Takes a place off the front of a text.
 #[inline(always)]
 pub(crate) fn take_place<'t, D: JsonData + Drop>(
@@ -97,16 +108,16 @@ pub(crate) fn take_place<'t, D: JsonData + Drop>(
 ) -> Result<Option<(Option<D>, &'t [u8])>, AllocError>
     ensures { IfOk result (λ o. IfSome o (λ p. Takes (place_json D.json) (place_from D.from) text.now p.0 p.1.now)) }
 {
-    if let Some(rest) = after(text, "null") {
-        return Ok(Some((None, rest)));
-    }
-    let Some(inner) = after(text, "[") else {
-        return Ok(None);
+    let Some(inner) = after_byte(text, b'[') else {
+        return match after(text, "null") {
+            Some(rest) => Ok(Some((None, rest))),
+            None => Ok(None),
+        };
     };
     let Some((data, behind)) = D::take(alloc, inner)? else {
         return Ok(None);
     };
-    match after(behind, "]") {
+    match after_byte(behind, b']') {
         Some(rest) => Ok(Some((Some(data), rest))),
         None => Ok(None),
     }
@@ -121,7 +132,7 @@ pub(crate) fn take_next<'t, D: JsonData + Drop>(
     ensures text { IfOk result (λ o. IfSome o (λ p. text.now ≡ 44 ∷ (compact_text (place_json D.json p.0) ++ p.1.now))) }
     ensures read { IfOk result (λ o. IfSome o (λ p. IsRead (place_json D.json) (place_from D.from) p.0)) }
 {
-    match after(text, ",") {
+    match after_byte(text, b',') {
         Some(rest) => take_place(alloc, rest),
         None => Ok(None),
     }
@@ -146,7 +157,7 @@ fn take_record<'t, M: JsonData + Drop, D: JsonPlaces + Drop>(
     let Some((marker, end)) = M::take(alloc, second)? else {
         return Ok(None);
     };
-    match after(end, "}") {
+    match after_byte(end, b'}') {
         Some(rest) => Ok(Some((EntityData { marker, components }, rest))),
         None => Ok(None),
     }
@@ -159,7 +170,7 @@ pub(crate) fn take_list<M: JsonData + Drop, D: JsonPlaces + Drop>(
 ) -> Result<Option<Vec<EntityData<M, D>>>, AllocError>
     ensures { IfOk result (λ o. IfSome o (λ l. Takes (list_json M.json D.places) (list_from M.from D.from) text.now l.items [])) }
 {
-    let Some(mut rest) = after(text, "[") else {
+    let Some(mut rest) = after_byte(text, b'[') else {
         return Ok(None);
     };
     let mut list = Vec::new(alloc);

@@ -2,7 +2,7 @@
 ghost use Rattle.std.specs.Prelude.{◌≡◌};
 
 use crate::json_data::{JsonData, JsonPlaces, is_array_of, read_place};
-use crate::json_text::{after, take_next, take_place, write_next, write_place};
+use crate::json_text::{after_byte, take_next, take_place, write_next, write_place};
 use serde_json::Value;
 use std::alloc::{AllocError, Global};
 
@@ -21,13 +21,13 @@ impl<A: JsonData + Drop> JsonPlaces for (Option<A>,) {
     }
 
     fn take<'t>(alloc: Global, text: &'t [u8]) -> Result<Option<(Self, &'t [u8])>, AllocError> {
-        let Some(inner) = after(text, "[") else {
+        let Some(inner) = after_byte(text, b'[') else {
             return Ok(None);
         };
         let Some((first, rest)) = take_place(alloc, inner)? else {
             return Ok(None);
         };
-        match after(rest, "]") {
+        match after_byte(rest, b']') {
             Some(rest) => Ok(Some(((first,), rest))),
             None => Ok(None),
         }
@@ -64,7 +64,7 @@ impl<A: JsonData + Drop, B: JsonData + Drop> JsonPlaces for (Option<A>, Option<B
     }
 
     fn take<'t>(alloc: Global, text: &'t [u8]) -> Result<Option<(Self, &'t [u8])>, AllocError> {
-        let Some(inner) = after(text, "[") else {
+        let Some(inner) = after_byte(text, b'[') else {
             return Ok(None);
         };
         let Some((first, rest)) = take_place(alloc, inner)? else {
@@ -73,7 +73,7 @@ impl<A: JsonData + Drop, B: JsonData + Drop> JsonPlaces for (Option<A>, Option<B
         let Some((second, rest)) = take_next(alloc, rest)? else {
             return Ok(None);
         };
-        match after(rest, "]") {
+        match after_byte(rest, b']') {
             Some(rest) => Ok(Some(((first, second), rest))),
             None => Ok(None),
         }
@@ -115,7 +115,7 @@ impl<A: JsonData + Drop, B: JsonData + Drop, C: JsonData + Drop> JsonPlaces
     }
 
     fn take<'t>(alloc: Global, text: &'t [u8]) -> Result<Option<(Self, &'t [u8])>, AllocError> {
-        let Some(inner) = after(text, "[") else {
+        let Some(inner) = after_byte(text, b'[') else {
             return Ok(None);
         };
         let Some((first, rest)) = take_place(alloc, inner)? else {
@@ -127,7 +127,7 @@ impl<A: JsonData + Drop, B: JsonData + Drop, C: JsonData + Drop> JsonPlaces
         let Some((third, rest)) = take_next(alloc, rest)? else {
             return Ok(None);
         };
-        match after(rest, "]") {
+        match after_byte(rest, b']') {
             Some(rest) => Ok(Some(((first, second, third), rest))),
             None => Ok(None),
         }
@@ -173,7 +173,7 @@ impl<A: JsonData + Drop, B: JsonData + Drop, C: JsonData + Drop, D: JsonData + D
     }
 
     fn take<'t>(alloc: Global, text: &'t [u8]) -> Result<Option<(Self, &'t [u8])>, AllocError> {
-        let Some(inner) = after(text, "[") else {
+        let Some(inner) = after_byte(text, b'[') else {
             return Ok(None);
         };
         let Some((first, rest)) = take_place(alloc, inner)? else {
@@ -188,7 +188,7 @@ impl<A: JsonData + Drop, B: JsonData + Drop, C: JsonData + Drop, D: JsonData + D
         let Some((fourth, rest)) = take_next(alloc, rest)? else {
             return Ok(None);
         };
-        match after(rest, "]") {
+        match after_byte(rest, b']') {
             Some(rest) => Ok(Some(((first, second, third, fourth), rest))),
             None => Ok(None),
         }
@@ -243,7 +243,7 @@ impl<
     }
 
     fn take<'t>(alloc: Global, text: &'t [u8]) -> Result<Option<(Self, &'t [u8])>, AllocError> {
-        let Some(inner) = after(text, "[") else {
+        let Some(inner) = after_byte(text, b'[') else {
             return Ok(None);
         };
         let Some((first, rest)) = take_place(alloc, inner)? else {
@@ -261,7 +261,7 @@ impl<
         let Some((fifth, rest)) = take_next(alloc, rest)? else {
             return Ok(None);
         };
-        match after(rest, "]") {
+        match after_byte(rest, b']') {
             Some(rest) => Ok(Some(((first, second, third, fourth, fifth), rest))),
             None => Ok(None),
         }
@@ -329,7 +329,7 @@ impl<
     }
 
     fn take<'t>(alloc: Global, text: &'t [u8]) -> Result<Option<(Self, &'t [u8])>, AllocError> {
-        let Some(inner) = after(text, "[") else {
+        let Some(inner) = after_byte(text, b'[') else {
             return Ok(None);
         };
         let Some((first, rest)) = take_place(alloc, inner)? else {
@@ -350,7 +350,7 @@ impl<
         let Some((sixth, rest)) = take_next(alloc, rest)? else {
             return Ok(None);
         };
-        match after(rest, "]") {
+        match after_byte(rest, b']') {
             Some(rest) => Ok(Some(((first, second, third, fourth, fifth, sixth), rest))),
             None => Ok(None),
         }
