@@ -12,7 +12,10 @@ use std::test::Fail;
 type Busy<S> = World<S, ScriptJob>;
 
 /// How many jobs ran, how many refusals they counted, and how many wait, where none found no memory.
-fn done<S: Storages>(world: &mut Busy<S>, limit: u64) -> Option<(u64, u128, usize)> {
+pub fn done<S: Storages, J: WorldJob<S>>(
+    world: &mut World<S, J>,
+    limit: u64,
+) -> Option<(u64, u128, usize)> {
     match world.maintain(limit) {
         Ok(m) if !m.stopped => Some((m.ran, m.refused, m.left)),
         _ => None,

@@ -11,6 +11,10 @@ mod job_scripts;
 #[cfg(test)]
 mod jobs;
 #[cfg(test)]
+mod listed;
+#[cfg(test)]
+mod own_jobs;
+#[cfg(test)]
 mod runs;
 #[cfg(test)]
 mod saving_scripts;

@@ -1,7 +1,7 @@
 //! What a story is told of, and the stories that are told of it.
 use crate::callers::is_gone;
 use crate::small::{POS, Slot, Small, TAG};
-use crate::{jobs, upstream_births, upstream_lazy, worlds};
+use crate::{jobs, own_jobs, upstream_births, upstream_lazy, worlds};
 use composed::{Empty, Here, InFirst, InRest};
 use slots::{Position, Tag};
 use specs::{Entity, Has, World};
@@ -45,6 +45,8 @@ pub enum Story {
     Stillborn,
     /// Of jobs.
     Jobs(jobs::Story),
+    /// Of a user's own jobs.
+    Own(own_jobs::Story),
     /// Of lazy updates.
     Lazy(upstream_lazy::Story),
     /// Of calls of a world.
@@ -65,6 +67,10 @@ fn tell_of_new<R: Abort, P, T, S: Sample<P, T> + Drop>(
         Story::Stillborn => upstream_births::are_stillborn::<R, P, T, S>(rt, alloc),
         Story::Jobs(story) => {
             jobs::tell_of_new::<R, P, T, S>(rt, alloc, story);
+            Ok(())
+        }
+        Story::Own(story) => {
+            own_jobs::tell_of_new::<R, S>(rt, alloc, story);
             Ok(())
         }
         Story::Lazy(story) => {

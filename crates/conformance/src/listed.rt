@@ -1,0 +1,119 @@
+//! A struct of storages with a further field, of which its slots know nothing.
+use hibits::BitSet;
+use specs::{ComponentEvent, EntitiesRes, Entity, MarkError, ReaderId, Refusal, Storages};
+use std::alloc::{AllocError, Global};
+
+/// Storages, and beside them a list of numbers. Each call goes to the storages.
+#[derive(Drop)]
+pub struct Listed<S> {
+    /// The storages.
+    pub storages: S,
+    /// The list.
+    pub numbers: Vec<u32>,
+}
+
+impl<S: Storages> Storages for Listed<S> {
+    type Slot = S::Slot;
+
+    type Value = S::Value;
+
+    ghost table = { λ s. S.table s.storages };
+
+    ghost room = { λ s. S.room s.storages };
+
+    ghost exact = { S.exact };
+
+    ghost marks = { S.marks };
+
+    ghost ids = { λ s. S.ids s.storages };
+
+    ghost idless = { λ s. S.idless s.storages };
+
+    ghost place = { S.place };
+
+    ghost allocates = { S.allocates };
+
+    fn slot_of(value: &Self::Value) -> Self::Slot {
+        S::slot_of(value)
+    }
+
+    fn register(&mut self, alloc: Global, slot: Self::Slot) -> Result<(), AllocError> {
+        self.storages.register(alloc, slot)
+    }
+
+    fn is_registered(&self, slot: Self::Slot) -> bool {
+        self.storages.is_registered(slot)
+    }
+
+    fn mask(&self, slot: Self::Slot) -> Option<&BitSet> {
+        self.storages.mask(slot)
+    }
+
+    fn insert(
+        &mut self,
+        entities: &EntitiesRes,
+        e: Entity,
+        value: Self::Value,
+    ) -> Result<Option<Self::Value>, (Refusal, Self::Value)> {
+        self.storages.insert(entities, e, value)
+    }
+
+    fn get(
+        &self,
+        entities: &EntitiesRes,
+        slot: Self::Slot,
+        e: Entity,
+    ) -> Result<Option<Self::Value>, Refusal> {
+        self.storages.get(entities, slot, e)
+    }
+
+    fn remove(
+        &mut self,
+        entities: &EntitiesRes,
+        slot: Self::Slot,
+        e: Entity,
+    ) -> Result<Option<Self::Value>, Refusal> {
+        self.storages.remove(entities, slot, e)
+    }
+
+    fn clear(&mut self, slot: Self::Slot) -> Result<(), Refusal> {
+        self.storages.clear(slot)
+    }
+
+    fn mark(
+        &mut self,
+        entities: &EntitiesRes,
+        slot: Self::Slot,
+        e: Entity,
+    ) -> Result<Option<bool>, MarkError> {
+        self.storages.mark(entities, slot, e)
+    }
+
+    fn register_reader(&mut self, slot: Self::Slot) -> Result<ReaderId, Refusal> {
+        self.storages.register_reader(slot)
+    }
+
+    fn read(
+        &mut self,
+        slot: Self::Slot,
+        reader: &ReaderId,
+    ) -> Result<Vec<ComponentEvent>, Refusal> {
+        self.storages.read(slot, reader)
+    }
+
+    fn drop_reader(&mut self, slot: Self::Slot, reader: ReaderId) -> Result<(), Refusal> {
+        self.storages.drop_reader(slot, reader)
+    }
+
+    fn set_event_emission(&mut self, slot: Self::Slot, on: bool) -> Result<(), Refusal> {
+        self.storages.set_event_emission(slot, on)
+    }
+
+    fn reserve_drop(&mut self, count: usize) -> Result<(), AllocError> {
+        self.storages.reserve_drop(count)
+    }
+
+    fn drop_all(&mut self, es: &[Entity]) {
+        self.storages.drop_all(es);
+    }
+}
