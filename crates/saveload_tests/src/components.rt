@@ -162,6 +162,17 @@ impl JsonData for Position {
         Ok(i64::from_value(alloc, value)?.map(|number| Position(number)))
     }
 
+    fn write(&self, alloc: Global, text: &mut String) -> Result<(), AllocError> {
+        self.0.write(alloc, text)
+    }
+
+    fn take<'t>(alloc: Global, text: &'t [u8]) -> Result<Option<(Self, &'t [u8])>, AllocError> {
+        match i64::take(alloc, text)? {
+            Some((number, rest)) => Ok(Some((Position(number), rest))),
+            None => Ok(None),
+        }
+    }
+
     ghost whole = { position_whole (λ p. p.0) };
 
     ghost shallow = { position_shallow (λ p. p.0) };
