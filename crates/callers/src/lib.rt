@@ -15,6 +15,7 @@ mod phases;
 mod placed;
 mod saving;
 mod sets;
+mod spots;
 mod typed;
 mod worlds;
 
@@ -42,6 +43,7 @@ pub use saving::taken_up;
 pub use sets::{
     added_and_found, first_is_member, none_to_walk, one, others_stay, removed_and_gone,
 };
+pub use spots::{Spot, written_and_read};
 pub use typed::{
     built_with, overwritten, stripped, two_written, written_and_found, written_in_world,
 };
