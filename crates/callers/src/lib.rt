@@ -1,5 +1,5 @@
-//! Callers of the libraries, as a user would write them: each is proved from the public contracts alone, and but for two passes of a phase
-//! and a list from threads with no proof file. What one of them could not prove would be a hole in a contract.
+//! Callers of the libraries, as a user would write them: each is proved from the public contracts alone, and all but eight functions with
+//! no proof file. What one of them could not prove would be a hole in a contract.
 #![tactic(auto)]
 
 mod changes;
