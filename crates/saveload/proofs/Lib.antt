@@ -16,3 +16,4 @@ pub mod Remapped
 pub mod Stopped
 pub mod Marked
 pub mod Resting
+pub mod Turns

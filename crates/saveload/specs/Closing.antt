@@ -97,12 +97,13 @@ RefusesAll people refs start s s' OutOfMemory = MarksFirst refs start s s'
 RefusesAll people refs start s s' IdsExhausted = RefusesMarking people (MarksUpTo refs start s s') IdsExhausted
 RefusesAll people refs start s s' IdTaken = RefusesMarking people (MarksUpTo refs start s s') IdTaken
 
--- those of a list and what they lead to are saved, and just these last got markers
-pub record SavesAll {M V D : Type 0} (c : Conversion M V D) (marker_of : Entity → Option M) (values : Entity → V) (s s' : Slot M)
+-- those of a list and what they lead to are saved, and just these last got markers, as `Gives` says
+pub record SavesAll {M V D : Type 0} (c : Conversion M V D) (marker_of : Entity → Option M) (values : Entity → V) (s s' : Slot M) (Gives : List Entity → Type 0)
     (start : List Entity) (rs : List (EntityData M D)) : Type 0 where
   pub all : List Entity
   pub added : List Entity
   pub parts : all ≡ start ++ added
   pub closed : IsClosed (marked_in s) (λ e. c.references (values e)) start all
   pub marked : HasMarked s s' added
+  pub given : Gives added
   pub saved : IsSavedList c marker_of values all rs

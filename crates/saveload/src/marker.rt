@@ -96,6 +96,7 @@ pub trait MarkerAllocator<M: Marker> {
         ensures limit { result ≡ Err CreateError.IndexLimit → NoneFree (population entities.old) × NoneUnused (population entities.old) }
         ensures known { IfOk result (λ e. Knows (naming M.id_of entities.old (mapping self.old) storage.old) (M.id_of marker) e → ids self.new ≡ ids self.old) }
         ensures ids { (ids self.new ≡ ids self.old) ⊎ (ids self.new ≡ ids_past self.old (M.id_of marker)) }
+        ensures made { IfOk result (λ e. (Knows (naming M.id_of entities.old (mapping self.old) storage.old) (M.id_of marker) e → ⊥) → ids self.new ≡ ids_past self.old (M.id_of marker)) }
     {
         let id = marker.id();
         if let Some(known) = self.retrieve_entity_internal(id) {
@@ -129,7 +130,8 @@ pub trait MarkerAllocator<M: Marker> {
     /// Gives an entity that is alive a marker of a new id, if it has none. The answer is whether it is new, and none for an
     /// entity that isn't alive; the marker is then found in the storage.
     ///
-    /// A refused call takes no id, and leaves the storage as before; where memory for the marker was refused, an id may stay mapped.
+    /// The entity and its marker are looked for first: a refused entity is alive and has none. A refused call takes no id, and leaves the storage as before; where
+    /// memory for the marker was refused, an id may stay mapped.
     fn mark(
         &mut self,
         entity: Entity,
@@ -140,10 +142,12 @@ pub trait MarkerAllocator<M: Marker> {
         ensures dead { IfOk result (λ o. is_some o ≡ is_alive (population (entities_of storage.old)) entity) }
         ensures is_new { IfOk result (λ o. o ≡ Some true → found storage.old entity ≡ None) }
         ensures old { IfOk result (λ o. (o ≡ Some true → ⊥) → (slot storage.new ≡ slot storage.old) × (mapping self.new ≡ mapping self.old)) }
+        ensures old_self { IfOk result (λ o. (o ≡ Some true → ⊥) → self.new ≡ self.old) }
         ensures was { IfOk result (λ o. o ≡ Some false → is_some (found storage.old entity) ≡ true) }
         ensures new { IfOk result (λ o. o ≡ Some true → MarksNew M.id_of M.Identifier.eq (MayBeNew self.old) entity (mapping self.old) (mapping self.new) (slot storage.old) (slot storage.new)) }
         ensures takes { IfOk result (λ o. o ≡ Some true → TakesOne (ids self.old) (ids self.new)) }
-        ensures old_ids { IfOk result (λ o. (o ≡ Some true → ⊥) → ids self.new ≡ ids self.old) }
+        ensures alive { OnErr result (is_alive (population (entities_of storage.old)) entity ≡ true) }
+        ensures unmarked { OnErr result (found storage.old entity ≡ None) }
         ensures err { OnErr result (IsSame (slot storage.old) (slot storage.new)) }
         ensures err_mapped { OnErr result (MayHaveGiven M.Identifier.eq (MayBeNew self.old) entity (mapping self.old) (mapping self.new)) }
         ensures err_ids { OnErr result (ids self.new ≡ ids self.old) }

@@ -7,6 +7,7 @@ ghost use Rattle.entities.specs.Population.{index_of, IsAlive};
 ghost use Rattle.storages.specs.WriteView.{slot, entities_of, storage_name, found};
 ghost use Rattle.saveload.specs.Conversion.{Has, AllNamed};
 ghost use Rattle.saveload.specs.Saved.{IsRecord, IsSavedList};
+ghost use Rattle.saveload.specs.Marking.{MarksInTurn, MarksUntil};
 ghost use Rattle.saveload.specs.Closing.{new_in, marked_in, IsClosed, HasMarked, IsMentioned, MarksSome, MarksBefore, MarksUpTo, RefusesMarking};
 
 use crate::error::SaveError;
@@ -33,6 +34,11 @@ pub(crate) fn mark_all<M: Marker, A: MarkerAllocator<M>, P: SerializeComponents<
     ensures marks { MarksSome (population (entities_of markers.old)) (IsMentioned (λ e. P.conversion.references (P.values places.now e)) list.old.items) (slot markers.old) (slot markers.new) }
     ensures refused { IfErr result (RefusesMarking (population (entities_of markers.old))
         (MarksUpTo (λ e. P.conversion.references (P.values places.now e)) list.old.items (slot markers.old) (slot markers.new))) }
+    ensures gives { OnOk result ((added : List Being) × (list.new.items ≡ list.old.items ++ added)
+        × MarksInTurn M.id_of M.Identifier.eq A.MayBeNew A.mapping A.ids allocator.old (slot markers.old) added allocator.new (slot markers.new)) }
+    ensures stops { OnErr result (MarksUntil M.id_of M.Identifier.eq A.MayBeNew A.mapping A.ids allocator.old (slot markers.old) allocator.new (slot markers.new)) }
+    ensures used_up { result ≡ Err SaveError.IdsExhausted → A.ids allocator.new ≡ Some 0 }
+    ensures drawn { result ≡ Err SaveError.IdTaken → A.ids allocator.new ≡ None }
 {
     let mut i = 0;
     while i < list.len() {
@@ -57,6 +63,11 @@ fn mark_references<M: Marker, A: MarkerAllocator<M>>(
     ensures named { OnOk result (AllNamed (λ e. found markers.new e) references.now) }
     ensures marks { MarksSome (population (entities_of markers.old)) (Has references.now) (slot markers.old) (slot markers.new) }
     ensures refused { IfErr result (RefusesMarking (population (entities_of markers.old)) (MarksBefore references.now (slot markers.old) (slot markers.new))) }
+    ensures gives { OnOk result ((added : List Being) × (list.new.items ≡ list.old.items ++ added)
+        × MarksInTurn M.id_of M.Identifier.eq A.MayBeNew A.mapping A.ids allocator.old (slot markers.old) added allocator.new (slot markers.new)) }
+    ensures stops { OnErr result (MarksUntil M.id_of M.Identifier.eq A.MayBeNew A.mapping A.ids allocator.old (slot markers.old) allocator.new (slot markers.new)) }
+    ensures used_up { result ≡ Err SaveError.IdsExhausted → A.ids allocator.new ≡ Some 0 }
+    ensures drawn { result ≡ Err SaveError.IdTaken → A.ids allocator.new ≡ None }
 {
     for x in references {
         mark_one(*x, allocator, markers, list)?;
@@ -78,6 +89,11 @@ fn mark_one<M: Marker, A: MarkerAllocator<M>>(
     ensures named { OnOk result (IsSome (found markers.new entity)) }
     ensures marks { MarksSome (population (entities_of markers.old)) (Has (entity ∷ [])) (slot markers.old) (slot markers.new) }
     ensures refused { IfErr result (RefusesMarking (population (entities_of markers.old)) (MarksBefore (entity ∷ []) (slot markers.old) (slot markers.new))) }
+    ensures gives { OnOk result ((added : List Being) × (list.new.items ≡ list.old.items ++ added)
+        × MarksInTurn M.id_of M.Identifier.eq A.MayBeNew A.mapping A.ids allocator.old (slot markers.old) added allocator.new (slot markers.new)) }
+    ensures stops { OnErr result (MarksUntil M.id_of M.Identifier.eq A.MayBeNew A.mapping A.ids allocator.old (slot markers.old) allocator.new (slot markers.new)) }
+    ensures used_up { result ≡ Err SaveError.IdsExhausted → A.ids allocator.new ≡ Some 0 }
+    ensures drawn { result ≡ Err SaveError.IdTaken → A.ids allocator.new ≡ None }
 {
     match allocator.mark(entity, markers) {
         Ok(Some(true)) => {

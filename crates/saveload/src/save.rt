@@ -1,5 +1,5 @@
 //! Saving the entities that have markers, and those that they refer to.
-ghost use Rattle.std.specs.Prelude.{◌≡◌, ◌++◌, Some, None, IfOk, IfErr, OnErr, IsSome, List, [], ◌∷◌};
+ghost use Rattle.std.specs.Prelude.{◌≡◌, ◌++◌, Some, None, Err, IfOk, IfErr, OnErr, IsSome, List, [], ◌∷◌};
 ghost use Rattle.std.specs.FinMap as map;
 ghost use Rattle.entities.specs.declared.entity.Entity.{Entity};
 ghost use Rattle.entities.specs.Census.{population};
@@ -9,6 +9,7 @@ ghost use Rattle.storages.specs.WriteView.{slot, entities_of, storage_name, foun
 ghost use Rattle.saveload.specs.Conversion.{AllNamed, Refuses};
 ghost use Rattle.saveload.specs.Saved.{IsRecord, IsSavedList, RefusesSave, all_marked};
 ghost use Rattle.saveload.specs.Closing.{marked_in, IsMentioned, MarksSome, RefusesAll, SavesAll};
+ghost use Rattle.saveload.specs.Marking.{MarksInTurn, MarksUntil};
 
 use crate::entity_data::EntityData;
 use crate::error::SaveError;
@@ -39,7 +40,7 @@ pub fn serialize<M: Marker + Copy, P: SerializeComponents<M>>(
 
 /// Saves every entity that is alive and has a marker, ascending, and then those that they lead to, which get markers, in the order in
 /// which they are first mentioned. After a refusal the markers that were given stay: of those that are mentioned the first ones have one, in
-/// that order.
+/// that order. Each was given a new id, which names it, in that order; one that was refused may have left its id with the allocator.
 ///
 /// Ports `SerializeComponents::serialize_recursive`.
 pub fn serialize_recursive<M: Marker + Copy, A: MarkerAllocator<M>, P: SerializeComponents<M>>(
@@ -51,11 +52,15 @@ pub fn serialize_recursive<M: Marker + Copy, A: MarkerAllocator<M>, P: Serialize
     ensures same_reference { storage_name markers.new ≡ storage_name markers.old }
     ensures entities { entities_of markers.new ≡ entities_of markers.old }
     ensures ok { IfOk result (λ rs. SavesAll P.conversion (λ e. found_by markers.new e) (λ e. P.values places.now e) (slot markers.old) (slot markers.new)
+        (λ added. MarksInTurn M.id_of M.Identifier.eq A.MayBeNew A.mapping A.ids allocator.old (slot markers.old) added allocator.new (slot markers.new))
         (all_marked (population (entities_of markers.old)) (slot markers.old)) rs.items) }
     ensures marks { MarksSome (population (entities_of markers.old)) (IsMentioned (λ e. P.conversion.references (P.values places.now e))
         (all_marked (population (entities_of markers.old)) (slot markers.old))) (slot markers.old) (slot markers.new) }
     ensures refused { IfErr result (RefusesAll (population (entities_of markers.old)) (λ e. P.conversion.references (P.values places.now e))
         (all_marked (population (entities_of markers.old)) (slot markers.old)) (slot markers.old) (slot markers.new)) }
+    ensures stops { OnErr result (MarksUntil M.id_of M.Identifier.eq A.MayBeNew A.mapping A.ids allocator.old (slot markers.old) allocator.new (slot markers.new)) }
+    ensures used_up { result ≡ Err SaveError.IdsExhausted → A.ids allocator.new ≡ Some 0 }
+    ensures drawn { result ≡ Err SaveError.IdTaken → A.ids allocator.new ≡ None }
 {
     let mut list = marked(alloc, markers.fetched_entities(), markers.storage())?;
     mark_all(alloc, places, allocator, markers, &mut list)?;

@@ -176,10 +176,13 @@ impl<T> MarkerAllocator<SimpleMarker<T>> for SimpleMarkerAllocator<T> {
         ensures dead { IfOk result (λ o. is_some o ≡ is_alive (population (entities_of storage.old)) entity) }
         ensures is_new { IfOk result (λ o. o ≡ Some true → found storage.old entity ≡ None) }
         ensures old { IfOk result (λ o. (o ≡ Some true → ⊥) → (slot storage.new ≡ slot storage.old) × (given self.new ≡ given self.old)) }
+        ensures old_self { IfOk result (λ o. (o ≡ Some true → ⊥) → self.new ≡ self.old) }
         ensures was { IfOk result (λ o. o ≡ Some false → is_some (found storage.old entity) ≡ true) }
         ensures new { IfOk result (λ o. o ≡ Some true → MarksNew number_of_marker (⟦<u64 as PartialEq>⟧.eq) (λ id. id ≡ self.old.next) entity (given self.old) (given self.new) (slot storage.old) (slot storage.new)) }
         ensures next { IfOk result (λ o. o ≡ Some true → self.new.next ≡ self.old.next + 1) }
         ensures old_next { IfOk result (λ o. (o ≡ Some true → ⊥) → self.new.next ≡ self.old.next) }
+        ensures alive { OnErr result (is_alive (population (entities_of storage.old)) entity ≡ true) }
+        ensures unmarked { OnErr result (found storage.old entity ≡ None) }
         ensures err { OnErr result (IsSame (slot storage.old) (slot storage.new)) }
         ensures err_given { OnErr result (given self.new ≡ given self.old) }
         ensures err_next { OnErr result (self.new.next ≡ self.old.next) }

@@ -190,8 +190,11 @@ impl<R: Rng> MarkerAllocator<UuidMarker<R>> for UuidMarkerAllocator<R> {
         ensures dead { IfOk result (λ o. is_some o ≡ is_alive (population (entities_of storage.old)) entity) }
         ensures is_new { IfOk result (λ o. o ≡ Some true → found storage.old entity ≡ None) }
         ensures old { IfOk result (λ o. (o ≡ Some true → ⊥) → (slot storage.new ≡ slot storage.old) × (given_uuids self.new ≡ given_uuids self.old)) }
+        ensures old_self { IfOk result (λ o. (o ≡ Some true → ⊥) → self.new ≡ self.old) }
         ensures was { IfOk result (λ o. o ≡ Some false → is_some (found storage.old entity) ≡ true) }
         ensures new { IfOk result (λ o. o ≡ Some true → MarksNew uuid_of_marker (⟦<Uuid as PartialEq>⟧.eq) (IsDrawn (given_uuids self.old) (R.stream self.old.generator)) entity (given_uuids self.old) (given_uuids self.new) (slot storage.old) (slot storage.new)) }
+        ensures alive { OnErr result (is_alive (population (entities_of storage.old)) entity ≡ true) }
+        ensures unmarked { OnErr result (found storage.old entity ≡ None) }
         ensures err { OnErr result (IsSame (slot storage.old) (slot storage.new)) }
         ensures err_given { OnErr result (given_uuids self.new ≡ given_uuids self.old) }
         ensures err_mapped { OnErr result (MayHaveGiven (⟦<Uuid as PartialEq>⟧.eq) (IsDrawn (given_uuids self.old) (R.stream self.old.generator)) entity (given_uuids self.old) (given_uuids self.new)) }

@@ -28,9 +28,10 @@ use storages::{
 
 pub type Field<T> = Option<MaskedStorage<T>>;
 
-/// An empty storage.
+/// An empty storage. Where the first value of its kind takes no memory, as of each kind of `storages`, it takes none.
 pub fn empty<T: Component>(alloc: Global) -> Result<MaskedStorage<T>, AllocError>
-    ensures { IfOk result (λ s. IsFresh (column_of s)) }
+    ensures fresh { IfOk result (λ s. IsFresh (column_of s)) }
+    ensures succeeds { T.Storage.TakesNone → IsOk result }
 {
     match T::Storage::try_default(alloc) {
         Ok(storage) => Ok(MaskedStorage::new(alloc, storage)),

@@ -66,15 +66,15 @@ pub record EntryRefuses {T S B E : Type 0} {u : unprotected.Ghosts S T} {d : def
   pub id : id_at o' ≡ id_at o
   pub refuses : SlotRefuses r (slot_at o) (slot_at o')
 
-module _ (T S : RattleType) (meaning : S.Denot → Meaning T.Denot) (IsDefault : S.Denot → Type 0) where
+module _ (T S : RattleType) (meaning : S.Denot → Meaning T.Denot) (IsDefault : S.Denot → Type 0) (TakesNone : Type 0) where
   abbrev pub masked_row : RattleType
-  masked_row = the_row T S (record { meaning = meaning }) (record { IsDefault = IsDefault })
+  masked_row = the_row T S (record { meaning = meaning }) (record { IsDefault = IsDefault; TakesNone = TakesNone })
 
   abbrev pub members : unprotected.Ghosts S.Denot T.Denot
   members = record { meaning = meaning }
 
   abbrev pub first_values : default.Ghosts S.Denot
-  first_values = record { IsDefault = IsDefault }
+  first_values = record { IsDefault = IsDefault; TakesNone = TakesNone }
 
   -- once the borrow r ends, the index has the last value written through it, and after an error the slot is the same
   abbrev pub lends_occupied : {E : Type 0} → OccupiedEntry T.Denot S.Denot members first_values → Result (MutBor T.Denot) E → Fml

@@ -90,7 +90,7 @@ impl<'a, T: Component> OccupiedEntry<'a, T> {
     /// event; then nothing has changed.
     #[inline]
     pub fn into_mut(self) -> Result<&'a mut T, AllocError>
-        ensures* writes_back { sem 𝓛 (lends_occupied T.row T.Storage.row T.Storage.meaning T.Storage.IsDefault self.entry result) }
+        ensures* writes_back { sem 𝓛 (lends_occupied T.row T.Storage.row T.Storage.meaning T.Storage.IsDefault T.Storage.TakesNone self.entry result) }
         ensures value { IfOk result (λ x. map.get (slot_at self.entry).map (id_at self.entry) ≡ Some x.now) }
         ensures succeeds { HasRoom (slot_at self.entry).room 1 → IsOk result }
     {
@@ -103,7 +103,7 @@ impl<'a, T: Component> OccupiedEntry<'a, T> {
     fn into_mut_or(self, value: T) -> Result<&'a mut T, (AllocError, T)>
     where
         T: Drop,
-        ensures* writes_back { sem 𝓛 (lends_occupied T.row T.Storage.row T.Storage.meaning T.Storage.IsDefault self.entry result) }
+        ensures* writes_back { sem 𝓛 (lends_occupied T.row T.Storage.row T.Storage.meaning T.Storage.IsDefault T.Storage.TakesNone self.entry result) }
         ensures value { IfOk result (λ x. map.get (slot_at self.entry).map (id_at self.entry) ≡ Some x.now) }
         ensures value_returned { IfErr result (λ e. e.1 ≡ value) }
         ensures succeeds { HasRoom (slot_at self.entry).room 1 → IsOk result }
@@ -115,7 +115,7 @@ impl<'a, T: Component> OccupiedEntry<'a, T> {
     // `into_mut`, with an error that can hand a component back.
     #[inline]
     fn into_mut_or_none(self) -> Result<&'a mut T, (AllocError, Option<T>)>
-        ensures* writes_back { sem 𝓛 (lends_occupied T.row T.Storage.row T.Storage.meaning T.Storage.IsDefault self.entry result) }
+        ensures* writes_back { sem 𝓛 (lends_occupied T.row T.Storage.row T.Storage.meaning T.Storage.IsDefault T.Storage.TakesNone self.entry result) }
         ensures value { IfOk result (λ x. map.get (slot_at self.entry).map (id_at self.entry) ≡ Some x.now) }
         ensures nothing { IfErr result (λ e. e.1 ≡ None) }
         ensures succeeds { HasRoom (slot_at self.entry).room 1 → IsOk result }
@@ -177,7 +177,7 @@ impl<'a, T: Component> VacantEntry<'a, T> {
     /// Where memory is refused nothing has changed, and the component is handed back.
     #[inline]
     pub fn insert(self, value: T) -> Result<&'a mut T, (AllocError, T)>
-        ensures* writes_back { sem 𝓛 (lends_vacant T.row T.Storage.row T.Storage.meaning T.Storage.IsDefault self.entry result) }
+        ensures* writes_back { sem 𝓛 (lends_vacant T.row T.Storage.row T.Storage.meaning T.Storage.IsDefault T.Storage.TakesNone self.entry result) }
         ensures value { IfOk result (λ x. x.now ≡ value) }
         ensures value_returned { IfErr result (λ e. e.1 ≡ value) }
     {
@@ -201,7 +201,7 @@ impl<'a, T: Component> VacantEntry<'a, T> {
     // `insert`, with an error that hands the component back as an option.
     #[inline]
     fn insert_or_some(self, value: T) -> Result<&'a mut T, (AllocError, Option<T>)>
-        ensures* writes_back { sem 𝓛 (lends_vacant T.row T.Storage.row T.Storage.meaning T.Storage.IsDefault self.entry result) }
+        ensures* writes_back { sem 𝓛 (lends_vacant T.row T.Storage.row T.Storage.meaning T.Storage.IsDefault T.Storage.TakesNone self.entry result) }
         ensures value { IfOk result (λ x. x.now ≡ value) }
         ensures value_returned { IfErr result (λ e. e.1 ≡ Some value) }
     {
@@ -213,7 +213,7 @@ impl<'a, T: Component> VacantEntry<'a, T> {
     #[inline]
     fn insert_made<F: FnOnce() -> T>(self, make: F) -> Result<&'a mut T, (AllocError, Option<T>)>
         requires { F.pre make }
-        ensures* writes_back { sem 𝓛 (lends_vacant T.row T.Storage.row T.Storage.meaning T.Storage.IsDefault self.entry result) }
+        ensures* writes_back { sem 𝓛 (lends_vacant T.row T.Storage.row T.Storage.meaning T.Storage.IsDefault T.Storage.TakesNone self.entry result) }
         ensures value { IfOk result (λ x. F.post make x.now) }
         ensures value_returned { IfErr result (λ e. (x : T) × (e.1 ≡ Some x) × F.post make x) }
     {

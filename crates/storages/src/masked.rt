@@ -153,7 +153,7 @@ impl<T: Component> MaskedStorage<T> {
     #[inline(always)]
     pub fn present_mut(&mut self, id: Index) -> Result<&mut T, AllocError>
         requires { IsSome (map.get self.old.map id) }
-        ensures* writes_back { sem 𝓛 (lends_present T.row T.Storage.row T.Storage.meaning T.Storage.IsDefault self.entry id result) }
+        ensures* writes_back { sem 𝓛 (lends_present T.row T.Storage.row T.Storage.meaning T.Storage.IsDefault T.Storage.TakesNone self.entry id result) }
         ensures value { IfOk result (λ x. map.get self.old.map id ≡ Some x.now) }
         ensures succeeds { HasRoom self.old.room 1 → IsOk result }
     {
@@ -164,7 +164,7 @@ impl<T: Component> MaskedStorage<T> {
     #[inline(always)]
     pub fn lend_present(&mut self, id: Index) -> Result<&mut T, NotLent>
         requires { IsSome (map.get self.old.map id) }
-        ensures* writes_back { sem 𝓛 (lends_present T.row T.Storage.row T.Storage.meaning T.Storage.IsDefault self.entry id result) }
+        ensures* writes_back { sem 𝓛 (lends_present T.row T.Storage.row T.Storage.meaning T.Storage.IsDefault T.Storage.TakesNone self.entry id result) }
         ensures value { IfOk result (λ x. map.get self.old.map id ≡ Some x.now) }
         ensures refused { IfErr result (λ e. e ≡ NotLent.OutOfMemory) }
         ensures succeeds { HasRoom self.old.room 1 → IsOk result }
@@ -181,7 +181,7 @@ impl<T: Component> MaskedStorage<T> {
     where
         T: Drop,
         requires { IsSome (map.get self.old.map id) }
-        ensures* writes_back { sem 𝓛 (lends_present T.row T.Storage.row T.Storage.meaning T.Storage.IsDefault self.entry id result) }
+        ensures* writes_back { sem 𝓛 (lends_present T.row T.Storage.row T.Storage.meaning T.Storage.IsDefault T.Storage.TakesNone self.entry id result) }
         ensures value { IfOk result (λ x. map.get self.old.map id ≡ Some x.now) }
         ensures value_returned { IfErr result (λ e. e.1 ≡ value) }
         ensures succeeds { HasRoom self.old.room 1 → IsOk result }
@@ -199,7 +199,7 @@ impl<T: Component> MaskedStorage<T> {
         id: Index,
     ) -> Result<&mut T, (AllocError, Option<T>)>
         requires { IsSome (map.get self.old.map id) }
-        ensures* writes_back { sem 𝓛 (lends_present T.row T.Storage.row T.Storage.meaning T.Storage.IsDefault self.entry id result) }
+        ensures* writes_back { sem 𝓛 (lends_present T.row T.Storage.row T.Storage.meaning T.Storage.IsDefault T.Storage.TakesNone self.entry id result) }
         ensures value { IfOk result (λ x. map.get self.old.map id ≡ Some x.now) }
         ensures nothing { IfErr result (λ e. e.1 ≡ None) }
         ensures succeeds { HasRoom self.old.room 1 → IsOk result }
@@ -213,7 +213,7 @@ impl<T: Component> MaskedStorage<T> {
     /// The component of an index, to write to.
     #[inline(always)]
     pub fn get_mut(&mut self, id: Index) -> Result<&mut T, NotLent>
-        ensures* writes_back { sem 𝓛 (lends_present T.row T.Storage.row T.Storage.meaning T.Storage.IsDefault self.entry id result) }
+        ensures* writes_back { sem 𝓛 (lends_present T.row T.Storage.row T.Storage.meaning T.Storage.IsDefault T.Storage.TakesNone self.entry id result) }
         ensures value { IfOk result (λ x. map.get self.old.map id ≡ Some x.now) }
         ensures absent { (result ≡ Err NotLent.Absent) ↔ (map.get self.old.map id ≡ None) }
         ensures succeeds { IsSome (map.get self.old.map id) → HasRoom self.old.room 1 → IsOk result }
@@ -280,7 +280,7 @@ impl<T: Component> MaskedStorage<T> {
         value: T,
     ) -> Result<Replaced<'_, T>, (AllocError, T)>
         requires { IsIndex id }
-        ensures* rests { sem 𝓛 (rests_if_refused T.row T.Storage.row T.Storage.meaning T.Storage.IsDefault self.entry result) }
+        ensures* rests { sem 𝓛 (rests_if_refused T.row T.Storage.row T.Storage.meaning T.Storage.IsDefault T.Storage.TakesNone self.entry result) }
         ensures same_reference { IfOk result (λ r. (storage_of r).ghost_name ≡ self.entry.ghost_name) }
         ensures before { IfOk result (λ r. before_of r ≡ map.get self.old.map id) }
         ensures ok { IfOk result (λ r. Puts self.old (storage_of r).now id value (map.contains_key self.old.map id)) }
@@ -302,7 +302,7 @@ impl<T: Component> MaskedStorage<T> {
     pub fn insert_mut(&mut self, id: Index, value: T) -> Result<&mut T, (AllocError, T)>
         requires absent { map.get self.old.map id ≡ None }
         requires limit { IsIndex id }
-        ensures* writes_back { sem 𝓛 (lends_inserted T.row T.Storage.row T.Storage.meaning T.Storage.IsDefault self.entry id result) }
+        ensures* writes_back { sem 𝓛 (lends_inserted T.row T.Storage.row T.Storage.meaning T.Storage.IsDefault T.Storage.TakesNone self.entry id result) }
         ensures value { IfOk result (λ x. x.now ≡ value) }
         ensures value_returned { IfErr result (λ e. e.1 ≡ value) }
     {
@@ -328,7 +328,7 @@ impl<T: Component> MaskedStorage<T> {
     where
         T: Default + Drop,
         requires { IsIndex id }
-        ensures* writes_back { sem 𝓛 (lends_filled T.row T.Storage.row T.Storage.meaning T.Storage.IsDefault self.entry id result) }
+        ensures* writes_back { sem 𝓛 (lends_filled T.row T.Storage.row T.Storage.meaning T.Storage.IsDefault T.Storage.TakesNone self.entry id result) }
         ensures old { IfOk result (λ x. (y : T) → map.get self.old.map id ≡ Some y → x.now ≡ y) }
         ensures new { map.get self.old.map id ≡ None → IfOk result (λ x. T.is_default x.now) }
         ensures refused { IfErr result (λ e. e ≡ NotLent.OutOfMemory) }
@@ -347,7 +347,7 @@ impl<T: Component> MaskedStorage<T> {
         T: Default + Drop,
         requires absent { map.get self.old.map id ≡ None }
         requires limit { IsIndex id }
-        ensures* writes_back { sem 𝓛 (lends_inserted T.row T.Storage.row T.Storage.meaning T.Storage.IsDefault self.entry id result) }
+        ensures* writes_back { sem 𝓛 (lends_inserted T.row T.Storage.row T.Storage.meaning T.Storage.IsDefault T.Storage.TakesNone self.entry id result) }
         ensures value { IfOk result (λ x. T.is_default x.now) }
         ensures refused { IfErr result (λ e. e ≡ NotLent.OutOfMemory) }
     {
@@ -369,7 +369,7 @@ impl<T: Component> MaskedStorage<T> {
     ) -> Result<&mut T, (AllocError, Option<T>)>
         requires absent { map.get self.old.map id ≡ None }
         requires limit { IsIndex id }
-        ensures* writes_back { sem 𝓛 (lends_inserted T.row T.Storage.row T.Storage.meaning T.Storage.IsDefault self.entry id result) }
+        ensures* writes_back { sem 𝓛 (lends_inserted T.row T.Storage.row T.Storage.meaning T.Storage.IsDefault T.Storage.TakesNone self.entry id result) }
         ensures value { IfOk result (λ x. x.now ≡ value) }
         ensures value_returned { IfErr result (λ e. e.1 ≡ Some value) }
     {

@@ -108,7 +108,7 @@ where
 
     /// The channel, to write to.
     pub fn channel_mut(&mut self) -> Option<&mut EventChannel<ComponentEvent>>
-        ensures* writes_back { sem 𝓛 (lends_slot_channel T.row T.Storage.row T.Storage.meaning T.Storage.IsDefault self.entry result) }
+        ensures* writes_back { sem 𝓛 (lends_slot_channel T.row T.Storage.row T.Storage.meaning T.Storage.IsDefault T.Storage.TakesNone self.entry result) }
         ensures value { IfSome result (λ c. emitting self.old.channel.emission c.now ≡ self.old.channel) }
         ensures there { is_some result ≡ true }
     {

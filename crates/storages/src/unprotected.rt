@@ -18,10 +18,14 @@ pub trait TryDefault: Sized {
     // Holds of each value that `try_default` may give.
     ghost IsDefault: { Self → Type 0 };
 
-    /// A first value. It is refused for want of memory alone, with the empty text.
+    // Holds where a first value takes no memory, as one of each kind here.
+    ghost TakesNone: { Type 0 };
+
+    /// A first value. It is refused for want of memory alone, with the empty text, and never where it takes none.
     fn try_default(alloc: Global) -> Result<Self, String>
         ensures ok { IfOk result IsDefault }
-        ensures err { IfErr result (λ text. string_bytes text ≡ []) };
+        ensures err { IfErr result (λ text. string_bytes text ≡ []) }
+        ensures succeeds { TakesNone → IsOk result };
 }
 
 /// A finite map from indices to components, without the set of its indices. Whoever holds one knows which indices have

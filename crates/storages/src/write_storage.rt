@@ -98,7 +98,7 @@ impl<'a, T: Component> WriteStorage<'a, T> {
     /// The component of an entity that is alive, to write to.
     #[inline(always)]
     pub fn get_mut(&mut self, entity: Entity) -> Result<&mut T, NotLent>
-        ensures* writes_back { sem 𝓛 (lends_found T.row T.Storage.row T.Storage.meaning T.Storage.IsDefault self.entry entity result) }
+        ensures* writes_back { sem 𝓛 (lends_found T.row T.Storage.row T.Storage.meaning T.Storage.IsDefault T.Storage.TakesNone self.entry entity result) }
         ensures value { IfOk result (λ x. found self.old entity ≡ Some x.now) }
         ensures absent { (result ≡ Err NotLent.Absent) ↔ (found self.old entity ≡ None) }
         ensures succeeds { IsSome (found self.old entity) → HasRoom (slot self.old).room 1 → IsOk result }
@@ -115,7 +115,7 @@ impl<'a, T: Component> WriteStorage<'a, T> {
     pub fn get_mut_or_default(&mut self, entity: Entity) -> Result<&mut T, NotLent>
     where
         T: Default + Drop,
-        ensures* writes_back { sem 𝓛 (lends_filled T.row T.Storage.row T.Storage.meaning T.Storage.IsDefault self.entry entity result) }
+        ensures* writes_back { sem 𝓛 (lends_filled T.row T.Storage.row T.Storage.meaning T.Storage.IsDefault T.Storage.TakesNone self.entry entity result) }
         ensures old { IfOk result (λ x. (y : T) → found self.old entity ≡ Some y → x.now ≡ y) }
         ensures new { found self.old entity ≡ None → IfOk result (λ x. T.is_default x.now) }
         ensures absent { (result ≡ Err NotLent.Absent) ↔ (is_alive (population (entities_of self.old)) entity ≡ false) }
@@ -245,7 +245,7 @@ impl<'a, T: Component> WriteStorage<'a, T> {
     /// The storage without the entities.
     #[inline(always)]
     pub fn masked_mut(&mut self) -> &mut MaskedStorage<T>
-        ensures* lends { sem 𝓛 (lends_masked T.row T.Storage.row T.Storage.meaning T.Storage.IsDefault self.entry result) }
+        ensures* lends { sem 𝓛 (lends_masked T.row T.Storage.row T.Storage.meaning T.Storage.IsDefault T.Storage.TakesNone self.entry result) }
         ensures slot { result.now ≡ slot self.old }
     {
         &mut *self.data
@@ -258,7 +258,7 @@ impl<'a, T: Component> WriteStorage<'a, T> {
     /// again: a caller writes `let _masked = &*masked;` after the last write.
     #[inline(always)]
     pub fn live(&mut self, entity: Entity) -> Result<&mut MaskedStorage<T>, WrongGeneration>
-        ensures* lends { sem 𝓛 (lends_live T.row T.Storage.row T.Storage.meaning T.Storage.IsDefault self.entry result) }
+        ensures* lends { sem 𝓛 (lends_live T.row T.Storage.row T.Storage.meaning T.Storage.IsDefault T.Storage.TakesNone self.entry result) }
         ensures alive { is_ok result ≡ is_alive (population (entities_of self.old)) entity }
         ensures slot { IfOk result (λ r. r.now ≡ slot self.old) }
         ensures limit { OnOk result (IsIndex (index_of entity)) }

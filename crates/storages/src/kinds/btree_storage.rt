@@ -1,5 +1,5 @@
 //! An ordered map from indices to components.
-ghost use Rattle.std.specs.Prelude.{refl, ◌≡◌, ℕ, [], Some, IsOk};
+ghost use Rattle.std.specs.Prelude.{refl, ◌≡◌, ℕ, [], Some, IsOk, ⊤};
 ghost use Rattle.std.specs.BTreeMap.{IsEmpty};
 ghost use Rattle.storages.specs.Maps.{meaning_of_tree};
 
@@ -18,6 +18,7 @@ pub struct BTreeStorage<T> {
 
 impl<T> TryDefault for BTreeStorage<T> {
     ghost IsDefault = { λ s. IsEmpty s.map };
+    ghost TakesNone = { ⊤ };
 
     fn try_default(alloc: Global) -> Result<Self, String> {
         Ok(BTreeStorage {

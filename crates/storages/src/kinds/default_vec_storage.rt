@@ -1,5 +1,5 @@
 //! A vector with default values at its unused places.
-ghost use Rattle.std.specs.Prelude.{refl, ◌≡◌, ◌<◌, ◌≤◌, ◌+◌, ℕ, Some, [], IsTrue, is_some, IfOk, IfSome, OnErr, OnOk, IsOk, vec_len, length, slice_get};
+ghost use Rattle.std.specs.Prelude.{refl, ◌≡◌, ◌<◌, ◌≤◌, ◌+◌, ℕ, Some, [], IsTrue, is_some, IfOk, IfSome, OnErr, OnOk, IsOk, vec_len, length, slice_get, ⊤};
 ghost use Rattle.storages.specs.DefaultVec.{meaning_of};
 
 use crate::kinds::room::make_room;
@@ -21,6 +21,7 @@ pub struct DefaultVecStorage<T> {
 
 impl<T> TryDefault for DefaultVecStorage<T> {
     ghost IsDefault = { λ s. s.items.items ≡ [] };
+    ghost TakesNone = { ⊤ };
 
     fn try_default(alloc: Global) -> Result<Self, String> {
         Ok(DefaultVecStorage {

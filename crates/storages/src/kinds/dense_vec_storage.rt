@@ -1,5 +1,5 @@
 //! Values without gaps, with a table from ids to places and one back.
-ghost use Rattle.std.specs.Prelude.{refl, ◌≡◌, ◌<◌, ◌^◌, ℕ, slice_get, [], Some, OnErr, OnOk, IfSome, vec_len};
+ghost use Rattle.std.specs.Prelude.{refl, ◌≡◌, ◌<◌, ◌^◌, ℕ, slice_get, [], Some, OnErr, OnOk, IfSome, vec_len, ⊤};
 ghost use Rattle.storages.specs.Dense.{IsConsistent, value_of};
 
 use crate::kinds::room::make_room;
@@ -21,6 +21,7 @@ pub struct DenseVecStorage<T> {
 
 impl<T> TryDefault for DenseVecStorage<T> {
     ghost IsDefault = { λ s. s.places.items ≡ [] };
+    ghost TakesNone = { ⊤ };
 
     fn try_default(alloc: Global) -> Result<Self, String> {
         Ok(DenseVecStorage {

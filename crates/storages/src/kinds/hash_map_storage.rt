@@ -1,5 +1,5 @@
 //! A hash map from indices to components.
-ghost use Rattle.std.specs.Prelude.{refl, ◌≡◌, ℕ, [], Some, IsOk};
+ghost use Rattle.std.specs.Prelude.{refl, ◌≡◌, ℕ, [], Some, IsOk, ⊤};
 ghost use Rattle.std.specs.HashMap.{IsEmpty};
 ghost use Rattle.storages.specs.Maps.{meaning_of_hash};
 
@@ -18,6 +18,7 @@ pub struct HashMapStorage<T> {
 
 impl<T> TryDefault for HashMapStorage<T> {
     ghost IsDefault = { λ s. IsEmpty s.map };
+    ghost TakesNone = { ⊤ };
 
     fn try_default(alloc: Global) -> Result<Self, String> {
         Ok(HashMapStorage {

@@ -1,5 +1,5 @@
 //! A vector of options, with the component of an index at that place.
-ghost use Rattle.std.specs.Prelude.{refl, ◌≡◌, ◌≤◌, ◌+◌, ℕ, [], OnErr, OnOk, vec_len, length};
+ghost use Rattle.std.specs.Prelude.{refl, ◌≡◌, ◌≤◌, ◌+◌, ℕ, [], OnErr, OnOk, vec_len, length, ⊤};
 ghost use Rattle.storages.specs.Vec.{value_at, meaning_of};
 
 use crate::kinds::room::make_room;
@@ -19,6 +19,7 @@ pub struct VecStorage<T> {
 
 impl<T> TryDefault for VecStorage<T> {
     ghost IsDefault = { λ s. s.items.items ≡ [] };
+    ghost TakesNone = { ⊤ };
 
     fn try_default(alloc: Global) -> Result<Self, String> {
         Ok(VecStorage {

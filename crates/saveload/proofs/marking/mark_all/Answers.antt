@@ -1,4 +1,5 @@
-use Rattle.std.proofs.Common.{rules, subst, refl, arith, append-nil, ◌≡◌, sym, ◌∙◌, ap, get_or, length, ◌<◌}
+use Rattle.std.proofs.Common.{rules, subst, refl, arith, append-nil, ◌≡◌, sym, ◌∙◌, ap, get_or, length, ◌<◌, List, [], ◌++◌}
+use Rattle.std.proofs.lemmas.List.{append_assoc}
 use Rattle.entities.specs.declared.entity.Entity.{Entity}
 use Rattle.std.specs.Prelude.{Err}
 use Rattle.std.proofs.lemmas.Result.{err_from_is_err_and}
@@ -10,6 +11,7 @@ use Rattle.saveload.specs.Closing.LeadsTo.{first}
 use Rattle.saveload.proofs.Lists.{has_at}
 use Rattle.saveload.proofs.Marked.{marks_none, marks_then, found_kept, before_all, came_to, stops_marking, led_more, named_more}
 use Rattle.saveload.proofs.Closing.{closed_step, marked_none}
+use Rattle.saveload.proofs.Turns.{on_err, turns_then, turns_until, turns_end}
 use Rattle.saveload.proofs.marking.mark_all.Goals as goal
 
 pub loop-i-init : goal.loop-i-init
@@ -22,6 +24,7 @@ loop-i-init g c = (
   λ e h. first e h,
   λ e h. absurd h,
   marks_none (population (entities_of c.args.markers.now)) _ (slot c.args.markers.now) (slot c.args.markers.now) refl,
+  ([], sym (append-nil c.args.list.now.items), (refl, refl)),
 )
 
 pub loop-i-preserved : goal.loop-i-preserved
@@ -47,6 +50,11 @@ loop-i-preserved g c =
           (subst (AllNamed (λ x. found c.mark_references.new.markers x)) list now.named),
       marks_then (population (entities_of c.args.markers.now)) (population (entities_of c.loop-i.markers)) (IsMentioned refs c.args.list.now.items) _ (IsMentioned refs c.args.list.now.items) (slot c.args.markers.now) (slot c.loop-i.markers) (slot c.mark_references.new.markers) (ap population inv.1)
           (λ x h. h) (λ x h. (one, inv.5 one has, subst (λ l. Has l x) list h)) inv.7 now.marks,
+      (
+        inv.8.0 ++ now.gives.0,
+        now.gives.1 ∙ ap (λ (l : List Entity). l ++ now.gives.0) inv.8.1 ∙ append_assoc c.args.list.now.items inv.8.0 now.gives.0,
+        turns_then g.M.Marker.id_of g.M.Identifier.PartialEq.eq g.A.MarkerAllocator.MayBeNew g.A.MarkerAllocator.mapping g.A.MarkerAllocator.ids c.args.allocator.now c.loop-i.allocator c.mark_references.new.allocator (slot c.args.markers.now) (slot c.loop-i.markers) (slot c.mark_references.new.markers) inv.8.0 now.gives.0 inv.8.2 now.gives.2,
+      ),
     )
 
 pub returns-in_err-mark_references-clause-marks : goal.returns-in_err-mark_references-clause-marks
@@ -90,3 +98,13 @@ returns-in_err-references-clause-refused g c =
       came_to refs c.args.list.now.items c.loop-i.list.items (refs one) (slot c.args.markers.now) (slot c.loop-i.markers) (slot c.loop-i.markers) c.loop-i.i c.index.result.now
           lt inv.2 inv.3 (inv.5 one has) refl (refs one) (before_all (refs one) (slot c.loop-i.markers) (slot c.loop-i.markers) refl),
     )
+
+pub returns-in_err-mark_references-clause-stops : goal.returns-in_err-mark_references-clause-stops
+returns-in_err-mark_references-clause-stops g c =
+    let inv = c.loop-i.invariant in
+    on_err _ (turns_until g.M.Marker.id_of g.M.Identifier.PartialEq.eq g.A.MarkerAllocator.MayBeNew g.A.MarkerAllocator.mapping g.A.MarkerAllocator.ids c.args.allocator.now c.loop-i.allocator c.mark_references.new.allocator (slot c.args.markers.now) (slot c.loop-i.markers) (slot c.mark_references.new.markers) inv.8.0 inv.8.2 c.in_err-mark_references.ensures.stops)
+
+pub returns-in_err-references-clause-stops : goal.returns-in_err-references-clause-stops
+returns-in_err-references-clause-stops g c =
+    let inv = c.loop-i.invariant in
+    on_err _ (turns_end g.M.Marker.id_of g.M.Identifier.PartialEq.eq g.A.MarkerAllocator.MayBeNew g.A.MarkerAllocator.mapping g.A.MarkerAllocator.ids c.args.allocator.now c.loop-i.allocator (slot c.args.markers.now) (slot c.loop-i.markers) inv.8.0 inv.8.2)

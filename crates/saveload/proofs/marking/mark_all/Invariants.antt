@@ -1,9 +1,10 @@
-use Rattle.std.proofs.Common.{◌≡◌, ℕ, ◌<◌, ◌-◌, ◌^◌, take, length, ◌++◌}
+use Rattle.std.proofs.Common.{◌≡◌, ℕ, ◌<◌, ◌-◌, ◌^◌, take, length, ◌++◌, List}
 use Rattle.std.specs.List.{flat_map}
 use Rattle.entities.specs.declared.entity.Entity.{Entity}
 use Rattle.entities.specs.Census.{population}
 use Rattle.saveload.specs.Conversion.{Has, AllNamed}
 use Rattle.storages.specs.WriteView.{slot, storage_name, entities_of, found}
+use Rattle.saveload.specs.Marking.{MarksInTurn}
 use Rattle.saveload.specs.Closing.{marked_in, new_in, HasMarked, LeadsTo, IsMentioned, MarksSome}
 use Rattle.saveload.proofs.marking.mark_all.Given as goal
 
@@ -15,6 +16,7 @@ invariant-loop-i g l = (storage_name l.markers ≡ storage_name l.fn.markers) ×
     × ((e : Entity) → Has l.list.items e → LeadsTo (λ e. g.P.SerializeComponents.conversion.references (g.P.SerializeComponents.values l.places e)) l.fn.list.items e)
     × ((e : Entity) → Has (take l.i l.list.items) e → AllNamed (λ x. found l.markers x) (g.P.SerializeComponents.conversion.references (g.P.SerializeComponents.values l.places e)))
     × MarksSome (population (entities_of l.fn.markers)) (IsMentioned (λ e. g.P.SerializeComponents.conversion.references (g.P.SerializeComponents.values l.places e)) l.fn.list.items) (slot l.fn.markers) (slot l.markers)
+    × ((added : List Entity) × (l.list.items ≡ l.fn.list.items ++ added) × MarksInTurn g.M.Marker.id_of g.M.Identifier.PartialEq.eq g.A.MarkerAllocator.MayBeNew g.A.MarkerAllocator.mapping g.A.MarkerAllocator.ids l.fn.allocator (slot l.fn.markers) added l.allocator (slot l.markers))
 
 abbrev pub decreases-loop-i : goal.decreases-loop-i
 decreases-loop-i g l = 2 ^ 64 - l.i

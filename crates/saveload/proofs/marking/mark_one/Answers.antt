@@ -1,4 +1,4 @@
-use Rattle.std.proofs.Common.{rules, ◌≡◌, sym, ◌∙◌, subst, ap, Some, None, true, false, ◌++◌, ◌∷◌, [], List, append-nil}
+use Rattle.std.proofs.Common.{rules, ◌≡◌, refl, sym, ◌∙◌, subst, ap, Some, None, true, false, ◌++◌, ◌∷◌, [], List, append-nil}
 use Rattle.std.specs.Prelude.{is_some}
 use Rattle.entities.specs.declared.entity.Entity.{Entity}
 use Rattle.entities.specs.Population.{index_of}
@@ -11,6 +11,7 @@ use Rattle.saveload.specs.Closing.{marked_in, HasMarked}
 use Rattle.saveload.proofs.Closing.{found_none, found_some, new_one, new_none, marked_none, marked_one}
 use Rattle.storages.specs.Slot.{Slot}
 use Rattle.saveload.proofs.Marked.{marks_none, marks_one, found_new, before_all, after_all}
+use Rattle.saveload.proofs.Turns.{turns_end, refused_at_once}
 use Rattle.saveload.proofs.marking.mark_one.Goals as goal
 
 pub returns-else-is_err-clause-list : goal.returns-else-is_err-clause-list
@@ -96,3 +97,37 @@ returns-in-Err-IdTaken-clause-refused g c = (c.args.entity, [], before_all (c.ar
 
 pub returns-in-Err-clause-refused : goal.returns-in-Err-clause-refused
 returns-in-Err-clause-refused g c = (c.args.entity ∷ [], before_all (c.args.entity ∷ []) (slot c.args.markers.now) (slot c.mark.new.storage) c.in-Err.ensures.err.map)
+
+pub returns-else-is_err-clause-gives : goal.returns-else-is_err-clause-gives
+returns-else-is_err-clause-gives g c =
+    let yes : c.in-Ok-Some-true.field-0 ≡ Some true = search rules in
+    let pushed : c.push.new.self.items ≡ c.args.list.now.items ++ c.args.entity ∷ [] = search rules in
+    (c.args.entity ∷ [], pushed, (c.mark.new.self, slot c.mark.new.storage, c.in-Ok-Some-true.ensures.new yes, c.in-Ok-Some-true.ensures.takes yes, (refl, refl)))
+
+pub returns-in-Ok-Some-false-clause-gives : goal.returns-in-Ok-Some-false-clause-gives
+returns-in-Ok-Some-false-clause-gives g c =
+    let no : c.in-Ok-Some-false.field-0 ≡ Some false = search rules in
+    let other = λ (e : c.in-Ok-Some-false.field-0 ≡ Some true). false≢true (same_Some false true (sym no ∙ e)) in
+    ([], sym (append-nil c.args.list.now.items), (c.in-Ok-Some-false.ensures.old_self other, (c.in-Ok-Some-false.ensures.old other).0))
+
+pub returns-then-is_err-clause-stops : goal.returns-then-is_err-clause-stops
+returns-then-is_err-clause-stops g c =
+    let yes : c.in-Ok-Some-true.field-0 ≡ Some true = search rules in
+    turns_end g.M.Marker.id_of g.M.Identifier.PartialEq.eq g.A.MarkerAllocator.MayBeNew g.A.MarkerAllocator.mapping g.A.MarkerAllocator.ids c.args.allocator.now c.mark.new.self (slot c.args.markers.now) (slot c.mark.new.storage) (c.args.entity ∷ [])
+    (c.mark.new.self, slot c.mark.new.storage, c.in-Ok-Some-true.ensures.new yes, c.in-Ok-Some-true.ensures.takes yes, (refl, refl))
+
+pub returns-in-Ok-None-clause-stops : goal.returns-in-Ok-None-clause-stops
+returns-in-Ok-None-clause-stops g c =
+    let no : c.in-Ok-None.field-0 ≡ None = search rules in
+    let other = λ (e : c.in-Ok-None.field-0 ≡ Some true). none-some true (sym no ∙ e) in
+    turns_end g.M.Marker.id_of g.M.Identifier.PartialEq.eq g.A.MarkerAllocator.MayBeNew g.A.MarkerAllocator.mapping g.A.MarkerAllocator.ids c.args.allocator.now c.mark.new.self (slot c.args.markers.now) (slot c.mark.new.storage) []
+    (c.in-Ok-None.ensures.old_self other, (c.in-Ok-None.ensures.old other).0)
+
+pub returns-in-Err-IdsExhausted-clause-stops : goal.returns-in-Err-IdsExhausted-clause-stops
+returns-in-Err-IdsExhausted-clause-stops g c = refused_at_once g.M.Marker.id_of g.M.Identifier.PartialEq.eq g.A.MarkerAllocator.MayBeNew g.A.MarkerAllocator.mapping g.A.MarkerAllocator.ids c.args.allocator.now c.mark.new.self (slot c.args.markers.now) (slot c.mark.new.storage) c.args.entity c.in-Err-IdsExhausted.ensures.err c.in-Err-IdsExhausted.ensures.err_ids c.in-Err-IdsExhausted.ensures.err_mapped
+
+pub returns-in-Err-IdTaken-clause-stops : goal.returns-in-Err-IdTaken-clause-stops
+returns-in-Err-IdTaken-clause-stops g c = refused_at_once g.M.Marker.id_of g.M.Identifier.PartialEq.eq g.A.MarkerAllocator.MayBeNew g.A.MarkerAllocator.mapping g.A.MarkerAllocator.ids c.args.allocator.now c.mark.new.self (slot c.args.markers.now) (slot c.mark.new.storage) c.args.entity c.in-Err-IdTaken.ensures.err c.in-Err-IdTaken.ensures.err_ids c.in-Err-IdTaken.ensures.err_mapped
+
+pub returns-in-Err-clause-stops : goal.returns-in-Err-clause-stops
+returns-in-Err-clause-stops g c = refused_at_once g.M.Marker.id_of g.M.Identifier.PartialEq.eq g.A.MarkerAllocator.MayBeNew g.A.MarkerAllocator.mapping g.A.MarkerAllocator.ids c.args.allocator.now c.mark.new.self (slot c.args.markers.now) (slot c.mark.new.storage) c.args.entity c.in-Err.ensures.err c.in-Err.ensures.err_ids c.in-Err.ensures.err_mapped

@@ -1,6 +1,7 @@
-use Rattle.std.proofs.Common.{rules, subst, ◌≡◌, ◌∙◌, ap, take}
+use Rattle.std.proofs.Common.{rules, subst, ◌≡◌, ◌∙◌, ap, take, List, ◌++◌}
 use Rattle.std.specs.Prelude.{pos}
-use Rattle.std.proofs.lemmas.List.{take_more}
+use Rattle.std.proofs.lemmas.List.{take_more, append_assoc}
+use Rattle.entities.specs.declared.entity.Entity.{Entity}
 use Rattle.storages.specs.WriteView.{slot, entities_of, found}
 use Rattle.std.specs.Prelude.{IsSome, Err}
 use Rattle.entities.specs.Census.{population}
@@ -8,6 +9,7 @@ use Rattle.saveload.specs.Conversion.{Has, AllNamed}
 use Rattle.saveload.proofs.Lists.{has_at, tested_more}
 use Rattle.saveload.proofs.Marked.{marks_then, found_kept, has_one, stops_at}
 use Rattle.saveload.proofs.Closing.{new_more, marks_more}
+use Rattle.saveload.proofs.Turns.{on_err, turns_then, turns_until}
 use Rattle.saveload.proofs.marking.mark_references.Goals as goal
 
 pub loop-x-preserved : goal.loop-x-preserved
@@ -25,7 +27,17 @@ loop-x-preserved g c =
           now.named),
       marks_then (population (entities_of c.args.markers.now)) (population (entities_of c.loop-x.markers)) (Has c.args.references.now) _ (Has c.args.references.now) (slot c.args.markers.now) (slot c.loop-x.markers) (slot c.mark_one.new.markers) (ap population c.loop-x.invariant.1) (λ x h. h)
           (λ x h. has_one c.args.references.now _ x (has_at c.args.references.now c.loop-x.x-index (0, record { 0 = pos 0 }) c.loop-x-test.true) h) c.loop-x.invariant.5 now.marks,
+      (
+        inv.6.0 ++ now.gives.0,
+        now.gives.1 ∙ ap (λ (l : List Entity). l ++ now.gives.0) inv.6.1 ∙ append_assoc c.args.list.now.items inv.6.0 now.gives.0,
+        turns_then g.M.Marker.id_of g.M.Identifier.PartialEq.eq g.A.MarkerAllocator.MayBeNew g.A.MarkerAllocator.mapping g.A.MarkerAllocator.ids c.args.allocator.now c.loop-x.allocator c.mark_one.new.allocator (slot c.args.markers.now) (slot c.loop-x.markers) (slot c.mark_one.new.markers) inv.6.0 now.gives.0 inv.6.2 now.gives.2,
+      ),
     )
+
+pub returns-in_err-mark_one-clause-stops : goal.returns-in_err-mark_one-clause-stops
+returns-in_err-mark_one-clause-stops g c =
+    let inv = c.loop-x.invariant in
+    on_err _ (turns_until g.M.Marker.id_of g.M.Identifier.PartialEq.eq g.A.MarkerAllocator.MayBeNew g.A.MarkerAllocator.mapping g.A.MarkerAllocator.ids c.args.allocator.now c.loop-x.allocator c.mark_one.new.allocator (slot c.args.markers.now) (slot c.loop-x.markers) (slot c.mark_one.new.markers) inv.6.0 inv.6.2 c.in_err-mark_one.ensures.stops)
 
 pub returns-in_err-mark_one-clause-marks : goal.returns-in_err-mark_one-clause-marks
 returns-in_err-mark_one-clause-marks g c = marks_then (population (entities_of c.args.markers.now)) (population (entities_of c.loop-x.markers)) (Has c.args.references.now) _ (Has c.args.references.now) (slot c.args.markers.now) (slot c.loop-x.markers) (slot c.mark_one.new.markers) (ap population c.loop-x.invariant.1) (λ x h. h)

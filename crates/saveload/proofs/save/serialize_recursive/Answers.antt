@@ -1,4 +1,4 @@
-use Rattle.std.proofs.Common.{rules, inl, ◌≡◌, ◌∙◌, sym, ap, subst, ◌++◌, List}
+use Rattle.std.proofs.Common.{rules, inl, refl, ◌≡◌, ◌∙◌, sym, ap, subst, ◌++◌, List, []}
 use mathlib.Core.Path.{fun_ext}
 use Rattle.entities.specs.declared.entity.Entity.{Entity}
 use Rattle.entities.specs.Census.{population}
@@ -9,6 +9,9 @@ use Rattle.storages.specs.WriteView.{slot, entities_of, found as found_by}
 use Rattle.saveload.specs.Saved.{all_marked, IsSavedList}
 use Rattle.saveload.specs.Closing.{marked_in, IsClosed, IsMentioned, MarksSome, MarksAll, MarksUpTo, RefusesMarking}
 use Rattle.saveload.specs.Conversion.{Has}
+use Rattle.saveload.specs.Marking.{MarksInTurn}
+use Rattle.saveload.proofs.Turns.{on_err, turns_end}
+use Rattle.std.proofs.lemmas.List.{append_cancel_left}
 use Rattle.saveload.proofs.Rows.{err_weaker}
 use Rattle.saveload.proofs.Marked.{all_marked_named, closed_named, found_kept, save_refused, marking_refused}
 use Rattle.saveload.proofs.Saving.{if_ok}
@@ -22,6 +25,7 @@ returns-clause-ok g c =
     let values = λ (e : Entity). g.P.SerializeComponents.values c.args.places.now e in
     let begun : c.in_ok-list.list.items ≡ all_marked (population (entities_of c.args.markers.now)) (slot c.args.markers.now) = search rules in
     let more = c.in_ok-mark_all.ensures.marked in
+    let gives = c.in_ok-mark_all.ensures.gives in
     let seen : slot_read c.new-marked.result ≡ slot c.mark_all.new.markers = search rules in
     let beside : entities_read c.new-marked.result ≡ entities_of c.mark_all.new.markers = search rules in
     let same = λ (e : Entity). ap (λ s. found_in (entities_read c.new-marked.result) s e) seen ∙ ap (λ people. found_in people (slot c.mark_all.new.markers) e) beside in
@@ -32,6 +36,7 @@ returns-clause-ok g c =
       parts = listed ∙ more.1 ∙ ap (λ (l : List Entity). l ++ more.0) begun;
       closed = subst (λ (l : List Entity). IsClosed (marked_in (slot c.args.markers.now)) (λ e. convert.references (values e)) l c.deref.result.now) begun (rw listed c.in_ok-mark_all.ensures.closed);
       marked = more.2;
+      given = subst (λ (l : List Entity). MarksInTurn g.M.Marker.id_of g.M.Identifier.PartialEq.eq g.A.MarkerAllocator.MayBeNew g.A.MarkerAllocator.mapping g.A.MarkerAllocator.ids c.args.allocator.now (slot c.args.markers.now) l c.mark_all.new.allocator (slot c.mark_all.new.markers)) (append_cancel_left c.in_ok-list.list.items gives.0 more.0 (sym gives.1 ∙ more.1)) gives.2;
       saved = subst (λ f. IsSavedList convert f values c.deref.result.now rs.items) (fun_ext same) h;
     }) c.save_list.ensures.saved
 
@@ -88,3 +93,11 @@ returns-clause-refused g c =
     } in
     err_weaker c.save_list.result (save_refused (λ e. found c.new-marked.result e) refs c.deref.result.now _ (population (entities_of c.args.markers.now)) (slot c.args.markers.now) (slot c.mark_all.new.markers)
     (λ e h x k. subst IsSome (sym (same x)) (c.in_ok-mark_all.ensures.named e (subst (λ (l : List Entity). Has l e) c.deref.ensures.value h) x k)) all) c.save_list.ensures.refused
+
+pub returns-in_err-list-clause-stops : goal.returns-in_err-list-clause-stops
+returns-in_err-list-clause-stops g c = on_err _ (turns_end g.M.Marker.id_of g.M.Identifier.PartialEq.eq g.A.MarkerAllocator.MayBeNew g.A.MarkerAllocator.mapping g.A.MarkerAllocator.ids c.args.allocator.now c.args.allocator.now (slot c.args.markers.now) (slot c.args.markers.now) [] (refl, refl))
+
+pub returns-clause-stops : goal.returns-clause-stops
+returns-clause-stops g c =
+    let gives = c.in_ok-mark_all.ensures.gives in
+    on_err _ (turns_end g.M.Marker.id_of g.M.Identifier.PartialEq.eq g.A.MarkerAllocator.MayBeNew g.A.MarkerAllocator.mapping g.A.MarkerAllocator.ids c.args.allocator.now c.mark_all.new.allocator (slot c.args.markers.now) (slot c.mark_all.new.markers) gives.0 gives.2)

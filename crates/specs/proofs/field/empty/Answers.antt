@@ -1,6 +1,6 @@
 use Rattle.specs.proofs.Values.{first_fresh}
 use Rattle.specs.proofs.field.empty.Goals as goal
 
-pub returns-in-Ok : goal.returns-in-Ok
-returns-in-Ok g c =
+pub returns-in-Ok-clause-fresh : goal.returns-in-Ok-clause-fresh
+returns-in-Ok-clause-fresh g c =
     first_fresh c.new.result (g.T.Storage.UnprotectedStorage.meaning c.in-Ok.storage) c.new.ensures.map c.new.ensures.channel c.new.ensures.inner_room (g.met.T.Storage.UnprotectedStorage.default_is_new c.in-Ok.storage c.in-Ok.ensures.ok)

@@ -67,3 +67,8 @@ pub returns-clause-ids : goal.returns-clause-ids
 returns-clause-ids g c =
     let given : c.id-id.result ≡ g.M.Marker.id_of c.args.marker = search rules in
     inr (when_ok c.allocate.result _ (search rules) (c.allocate.ensures.passes (g.M.Marker.id_of c.args.marker) (ap Some given)))
+
+pub returns-clause-made : goal.returns-clause-made
+returns-clause-made g c =
+    let given : c.id-id.result ≡ g.M.Marker.id_of c.args.marker = search rules in
+    λ unknown. when_ok c.allocate.result _ (search rules) (c.allocate.ensures.passes (g.M.Marker.id_of c.args.marker) (ap Some given))
