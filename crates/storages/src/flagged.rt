@@ -30,6 +30,7 @@ impl<C, T: TryDefault> TryDefault for FlaggedStorage<C, T> {
     ghost use Rattle.storages.specs.Flagged.{IsNewFlagged};
 
     ghost IsDefault = { λ s. IsNewFlagged T.IsDefault s.storage s.channel s.event_emission };
+
     ghost TakesNone = { T.TakesNone };
 
     fn try_default(alloc: Global) -> Result<Self, String> {

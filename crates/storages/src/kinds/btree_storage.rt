@@ -18,6 +18,7 @@ pub struct BTreeStorage<T> {
 
 impl<T> TryDefault for BTreeStorage<T> {
     ghost IsDefault = { λ s. IsEmpty s.map };
+
     ghost TakesNone = { ⊤ };
 
     fn try_default(alloc: Global) -> Result<Self, String> {

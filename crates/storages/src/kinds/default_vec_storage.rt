@@ -21,6 +21,7 @@ pub struct DefaultVecStorage<T> {
 
 impl<T> TryDefault for DefaultVecStorage<T> {
     ghost IsDefault = { λ s. s.items.items ≡ [] };
+
     ghost TakesNone = { ⊤ };
 
     fn try_default(alloc: Global) -> Result<Self, String> {

@@ -21,6 +21,7 @@ pub struct DenseVecStorage<T> {
 
 impl<T> TryDefault for DenseVecStorage<T> {
     ghost IsDefault = { λ s. s.places.items ≡ [] };
+
     ghost TakesNone = { ⊤ };
 
     fn try_default(alloc: Global) -> Result<Self, String> {

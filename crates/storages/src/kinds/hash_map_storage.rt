@@ -18,6 +18,7 @@ pub struct HashMapStorage<T> {
 
 impl<T> TryDefault for HashMapStorage<T> {
     ghost IsDefault = { λ s. IsEmpty s.map };
+
     ghost TakesNone = { ⊤ };
 
     fn try_default(alloc: Global) -> Result<Self, String> {

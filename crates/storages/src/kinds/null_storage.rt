@@ -23,6 +23,7 @@ pub struct NullStorage<T> {
 
 impl<T: NullComponent> TryDefault for NullStorage<T> {
     ghost IsDefault = { λ _. ⊤ };
+
     ghost TakesNone = { ⊤ };
 
     fn try_default(_alloc: Global) -> Result<Self, String> {

@@ -19,6 +19,7 @@ pub struct VecStorage<T> {
 
 impl<T> TryDefault for VecStorage<T> {
     ghost IsDefault = { λ s. s.items.items ≡ [] };
+
     ghost TakesNone = { ⊤ };
 
     fn try_default(alloc: Global) -> Result<Self, String> {
