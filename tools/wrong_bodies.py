@@ -15,7 +15,8 @@ says that it is not proved, for itself and not for a function that it calls, and
 A missing step of a proof shows nothing, so a goal is not counted where a proof file only names what the edit took away.
 What a group did not show is tried again without the others, then alone, and last by a check of the whole crate.
 
-There are as many lanes as processors, or RT_JOBS. A lane takes the crate that has the most left, makes a room for it (a copy of the tree), and tries
+First the libraries below the edited crates are built in the tree, lowest first, each once: what `rt ci` leaves of them may not serve another check, and each room
+would build them again. There are as many lanes as processors, or RT_JOBS. A lane takes the crate that has the most left, makes a room for it (a copy of the tree), and tries
 one group after another there. What a group's check proved and the next did not change is kept in the room. Where every crate has its lane, the next
 lane makes a second room for the crate that has the most left, so that all lanes end at about one time. The verdicts come as they are found.
 
@@ -177,6 +178,15 @@ def below(crate):
     return found
 
 
+def build_below(crates):
+    """Builds the libraries below these crates, lowest first, and leaves what was proved for the rooms. A library that is built as it stands takes no time."""
+    libraries = {name for it in crates for name in below(it)}
+    for name in sorted(libraries, key=lambda it: (len(below(it)), it)):
+        ran = subprocess.run(["rt", "lib"], cwd=f"crates/{name}", stdin=subprocess.DEVNULL, stdout=subprocess.PIPE, stderr=subprocess.STDOUT, errors="replace")
+        if ran.returncode:
+            print(f"{ran.stdout}wrong bodies: {name} was not built", flush=True)
+
+
 def linked(old, new):
     """One file under two names, or a copy where the disk is another."""
     try:
@@ -264,6 +274,7 @@ def main(words):
     if faults:
         print(f"0 passed, {len(faults)} failed")
         return 1
+    build_below(found)
     verdicts = []
 
     def tell(told):

@@ -34,6 +34,16 @@ pub fn healths(alloc: Global) -> Result<MaskedStorage<Health>, String>
     Ok(MaskedStorage::new(alloc, DenseVecStorage::try_default(alloc)?))
 }
 
+/// The same, which takes no memory: it is never refused.
+pub fn no_healths(alloc: Global) -> MaskedStorage<Health>
+    ensures { result.map ≡ map.empty }
+{
+    match DenseVecStorage::try_default(alloc) {
+        Ok(storage) => MaskedStorage::new(alloc, storage),
+        Err(_) => unreachable!(),
+    }
+}
+
 /// What was inserted is found.
 #[tactic(auto, using(storages::specs::Finds::found_put))]
 pub fn inserted_and_found(

@@ -22,8 +22,8 @@ mod worlds;
 pub use changes::{all_changes_are, first_change};
 pub use channels::{heard, read_twice, told};
 pub use components::{
-    Health, dead_and_gone, healths, hit, inserted_and_found, removed_beside, taken_and_gone,
-    viewed_twice,
+    Health, dead_and_gone, healths, hit, inserted_and_found, no_healths, removed_beside,
+    taken_and_gone, viewed_twice,
 };
 pub use cursors::{
     Shield, all_have, all_taken, first_has, first_in_view_has, first_living_has, first_low_healed,
@@ -39,7 +39,7 @@ pub use own_world::{
 };
 pub use phases::{marked_at_closing, sees_its_own, two_births};
 pub use placed::all_overwritten;
-pub use saving::taken_up;
+pub use saving::{lacks_ids, stays_unmarked, taken_up};
 pub use sets::{
     added_and_found, first_is_member, none_to_walk, one, others_stay, removed_and_gone,
 };
