@@ -1,6 +1,6 @@
 -- Markers given in turn.
-use Rattle.std.proofs.Common.{◌≡◌, ℕ, Bool, List, [], ◌∷◌, ◌++◌, refl, sym, ap, subst, ◌∙◌, inl, inr}
-use Rattle.std.specs.Prelude.{Option, Result, Ok, Err, OnErr}
+use Rattle.std.proofs.Common.{◌≡◌, ℕ, Bool, List, [], ◌∷◌, ◌++◌, refl, subst, inl, inr}
+use Rattle.std.specs.Prelude.{Option}
 use Rattle.entities.specs.declared.entity.Entity.{Entity}
 use Rattle.storages.specs.Slot.{Slot, IsSame}
 use Rattle.saveload.specs.Marking.{MarksInTurn, MarksUntil, MayHaveGiven}
@@ -16,11 +16,6 @@ is_itself s = record {
   needs_inner = refl;
   inner_room = λ n h. h;
 }
-
--- what holds at any rate holds after an error
-pub on_err : {R E X : Type 0} (r : Result R E) → X → OnErr r X
-on_err (Ok v) x = tt
-on_err (Err e) x = x
 
 module _ {M I A : Type 0} (id_of : M → I) (eq : I → I → Bool) (MayBeNew : A → I → Type 0) (mapping : A → I → Option Entity) (ids : A → Option ℕ) where
   -- some, and then some more

@@ -11,7 +11,8 @@ use Rattle.saveload.specs.Closing.LeadsTo.{first}
 use Rattle.saveload.proofs.Lists.{has_at}
 use Rattle.saveload.proofs.Marked.{marks_none, marks_then, found_kept, before_all, came_to, stops_marking, led_more, named_more}
 use Rattle.saveload.proofs.Closing.{closed_step, marked_none}
-use Rattle.saveload.proofs.Turns.{on_err, turns_then, turns_until, turns_end}
+use Rattle.saveload.proofs.Rows.{on_err}
+use Rattle.saveload.proofs.Turns.{turns_then, turns_until, turns_end}
 use Rattle.saveload.proofs.marking.mark_all.Goals as goal
 
 pub loop-i-init : goal.loop-i-init

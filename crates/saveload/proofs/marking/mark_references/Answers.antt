@@ -9,7 +9,8 @@ use Rattle.saveload.specs.Conversion.{Has, AllNamed}
 use Rattle.saveload.proofs.Lists.{has_at, tested_more}
 use Rattle.saveload.proofs.Marked.{marks_then, found_kept, has_one, stops_at}
 use Rattle.saveload.proofs.Closing.{new_more, marks_more}
-use Rattle.saveload.proofs.Turns.{on_err, turns_then, turns_until}
+use Rattle.saveload.proofs.Rows.{on_err}
+use Rattle.saveload.proofs.Turns.{turns_then, turns_until}
 use Rattle.saveload.proofs.marking.mark_references.Goals as goal
 
 pub loop-x-preserved : goal.loop-x-preserved

@@ -10,9 +10,9 @@ use Rattle.saveload.specs.Saved.{all_marked, IsSavedList}
 use Rattle.saveload.specs.Closing.{marked_in, IsClosed, IsMentioned, MarksSome, MarksAll, MarksUpTo, RefusesMarking}
 use Rattle.saveload.specs.Conversion.{Has}
 use Rattle.saveload.specs.Marking.{MarksInTurn}
-use Rattle.saveload.proofs.Turns.{on_err, turns_end}
+use Rattle.saveload.proofs.Turns.{turns_end}
 use Rattle.std.proofs.lemmas.List.{append_cancel_left}
-use Rattle.saveload.proofs.Rows.{err_weaker}
+use Rattle.saveload.proofs.Rows.{err_weaker, on_err}
 use Rattle.saveload.proofs.Marked.{all_marked_named, closed_named, found_kept, save_refused, marking_refused}
 use Rattle.saveload.proofs.Saving.{if_ok}
 use Rattle.saveload.proofs.Closing.{marked_none}
