@@ -1,14 +1,12 @@
 -- The value of a list is read as the list.
-use Rattle.std.proofs.Common.{◌≡◌, ◌≢◌, ℕ, zero, suc, ◌+◌, ◌<◌, ◌≤◌, List, [], ◌∷◌, ◌++◌, length, get_or, take, drop, map, refl, sym, ap, ◌∙◌, subst, Option, Some, None, option_map, Vec, Global, false, append_assoc, append-nil, arith}
-use Rattle.std.proofs.lemmas.List.{take_all, take_more, drop_more, map-append}
-use Rattle.serde_json.specs.Data.{Data, depth, items_depth, array, Items}
+use Rattle.std.proofs.Common.{◌≡◌, ◌≢◌, ℕ, zero, suc, ◌+◌, ◌<◌, ◌≤◌, List, [], ◌∷◌, ◌++◌, length, get_or, drop, map, refl, sym, ap, ◌∙◌, Option, Some, None, option_map, append_assoc, append-nil, arith}
+use Rattle.std.proofs.lemmas.List.{drop_more}
+use Rattle.serde_json.specs.Data.{Data, depth, items_depth, Items}
 use Rattle.serde_json.specs.Events.{items_len}
 use Rattle.serde_json.specs.View.{view, items_view, items_of}
-use Rattle.serde_json.specs.declared.value.Value.{Value, Array}
-use Rattle.serde_json.specs.Written.{has_float, items_have_float}
-use Rattle.serde_json.proofs.Views.{view-Array}
+use Rattle.serde_json.specs.declared.value.Value.{Value}
 use Rattle.saveload.specs.declared.entity_data.EntityData.{EntityData}
-use Rattle.saveload.specs.Json.{record_json, list_json, only_of, record_from, records_from, list_from}
+use Rattle.saveload.specs.Json.{record_json, only_of, record_from, records_from}
 
 -- a list of more or fewer than one has no only item
 pub not_one : (vs : List Value) → length vs ≢ 1 → only_of (items_view vs) ≡ None

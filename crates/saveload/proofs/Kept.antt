@@ -1,5 +1,5 @@
 -- What is written of a value is read as it.
-use Rattle.std.proofs.Common.{◌≡◌, ℕ, ◌+◌, ◌<◌, ◌≤◌, ◌^◌, zero, suc, pos, negsuc, ℤ, List, [], ◌∷◌, ◌++◌, length, map, take, drop, get_or, eqb, not, Bool, true, false, IfSome, MatchOption, Option, Some, None, option_map, option_and_then, decimal, SFits, w64, refl, sym, ap, ◌∙◌, subst, arith, append_assoc, append-nil, length-append}
+use Rattle.std.proofs.Common.{◌≡◌, ℕ, ◌+◌, ◌<◌, ◌≤◌, ◌^◌, pos, negsuc, ℤ, List, [], ◌∷◌, ◌++◌, length, map, take, drop, get_or, eqb, not, Bool, true, false, IfSome, MatchOption, Option, Some, None, option_map, option_and_then, decimal, SFits, w64, refl, sym, ap, ◌∙◌, subst, arith, append_assoc, append-nil}
 use Rattle.std.proofs.lemmas.List.{take_all, take_more, take-append-drop, map-append}
 use Rattle.std.proofs.lemmas.Bool.{false≢true, lt-ltb}
 use Rattle.std.proofs.lemmas.Bool.Decides.{Decides-eqb}
@@ -10,14 +10,13 @@ use Rattle.std.specs.Prelude.{codes}
 use Rattle.json.specs.Token.{Token}
 use Rattle.json.specs.Lex.{tokens}
 use Rattle.json.specs.Json as json
-use Rattle.json.specs.Print.{print, quoted, escape_byte}
+use Rattle.json.specs.Print.{escape_byte}
 use Rattle.json.specs.Tree.{json_tokens, depth as nesting, items_depth as items_nesting, members_depth as members_nesting}
 use Rattle.json.proofs.Numbered.{value-HasNumbers, ArePrintableOrBad-tokens}
 use Rattle.json.proofs.Printed.Tokens.{tokens-print}
 use Rattle.json.proofs.Printed.Trees.{value-json_tokens, ArePrintable-json_tokens}
 use Rattle.json.proofs.Printed.Decimals.{IsNumber-decimal, IsNumber-signed_decimal}
-use Rattle.serde_json.specs.Data.{Num, Data, null, boolean, number, unsigned, negative, string, array, object, Items, no_items, item, Members, no_members, member, depth, items_depth, members_depth}
-use Rattle.serde_json.specs.Find.{of_integer}
+use Rattle.serde_json.specs.Data.{Data, null, boolean, number, string, array, object, Items, no_items, item, Members, no_members, member, depth, items_depth, members_depth}
 use Rattle.serde_json.specs.Read.{read, of_json, of_items}
 use Rattle.serde_json.specs.View.{items_of}
 use Rattle.serde_json.specs.Written.{outline, items_outline, members_outline, has_float, compact_text, items_text, comma_if, IsInOrder}

@@ -1,5 +1,5 @@
 -- Tuples of one to six places: the text of each, as it is written and as it is taken.
-use Rattle.std.proofs.Common.{◌≡◌, List, ℕ, [], ◌∷◌, ◌++◌, Option, refl, sym, ap, ◌∙◌, append_assoc}
+use Rattle.std.proofs.Common.{◌≡◌, List, ℕ, [], ◌∷◌, ◌++◌, Option, refl, ap, ◌∙◌, append_assoc}
 use Rattle.serde_json.specs.Data.{Data}
 use Rattle.serde_json.specs.Written.{compact_text}
 use Rattle.saveload.specs.Json.{IsRead, Writes, Takes, place_json, place_from, array_json}

@@ -1,4 +1,4 @@
-use Rattle.std.proofs.Common.{◌≡◌, string_bytes, Some, option_and_then, ap, ◌∙◌, rules}
+use Rattle.std.proofs.Common.{◌≡◌, string_bytes, option_and_then, ap, ◌∙◌, rules}
 use Rattle.serde_json.specs.Written.{compact_text}
 use Rattle.saveload.specs.Json.{list_json, list_from}
 use Rattle.saveload.proofs.Kept.{text_read}

@@ -1,4 +1,3 @@
-use Rattle.std.proofs.Common.{Bor}
 use Rattle.saveload.proofs.Kept.{took, record_takes}
 use Rattle.saveload.proofs.json_text.take_record.Goals as goal
 
