@@ -1,7 +1,7 @@
 #!/usr/bin/env python3
 """Tries the wrong bodies crates/NAME/wrong/*.edit in groups: the prover must refuse each of them, for the clause that it breaks.
 
-    python3 tools/wrong_bodies.py [--alone | --explain] [NAME..]      NAME: a crate, or a crate and an edit, as hibits or hibits/add_of_a_neighbour
+    python3 tools/wrong_bodies.py [--anew | --alone | --explain] [NAME..]      NAME: a crate, or a crate and an edit, as hibits or hibits/add_of_a_neighbour
 
 An edit has the lines of a must-fail edit ('file: src/FILE', 'old: TEXT', 'new: TEXT', each TEXT once in the file), and two more:
 'fn: PATH', the function that has to be refused, as the check names it without its crate, and 'clause: WORD', of which a goal that the
@@ -20,9 +20,14 @@ would build them again. There are as many lanes as processors, or RT_JOBS. A lan
 one group after another there. What a group's check proved and the next did not change is kept in the room. Where every crate has its lane, the next
 lane makes a second room for the crate that has the most left, so that all lanes end at about one time. The verdicts come as they are found.
 
+That an edit was refused is kept on this machine, by the checksum of all that decides it: the kit, this script, the edit, and the files of its crate and
+of those below. So a later run tries what changed, and what stands above it, as `rt ci` proves it; --anew tries all.
+
 Run at the top of the repository; --alone tries each edit alone, and --explain only tells, of each edit alone, which functions the check of the whole
 crate refuses for themselves, and at which goals: for writing an edit's lines 'fn:' and 'clause:'."""
 import concurrent.futures
+import functools
+import hashlib
 import os
 import re
 import shutil
@@ -161,21 +166,80 @@ def judge(said, edit):
     return True, f"refused: {hit}"
 
 
-def below(crate):
-    """The crates of the repository that this one uses, and those that they use."""
-    uses = {}
+@functools.cache
+def uses():
+    """What each crate of the repository uses."""
+    found = {}
     with open("crates.txt", encoding="utf-8") as it:
         for line in it:
             left, _, right = line.partition("#")[0].partition(":")
             if left.strip():
-                uses[left.split()[0]] = right.split()
+                found[left.split()[0]] = right.split()
+    return found
+
+
+@functools.cache
+def below(crate):
+    """The crates of the repository that this one uses, and those that they use."""
     found, next_ones = set(), [crate]
     while next_ones:
-        for it in uses.get(next_ones.pop(), []):
-            if it in uses and it not in found:
+        for it in uses().get(next_ones.pop(), []):
+            if it in uses() and it not in found:
                 found.add(it)
                 next_ones.append(it)
     return found
+
+
+@functools.cache
+def kit():
+    """The kit's own name, with its logic."""
+    return subprocess.run(["rt", "version"], stdout=subprocess.PIPE, check=True).stdout
+
+
+@functools.cache
+def files_of(crate):
+    """A checksum of what stands in the crate's folders of code, definitions and proofs."""
+    sums = hashlib.sha256()
+    for part in ("src", "specs", "proofs"):
+        for at, folders, names in os.walk(f"crates/{crate}/{part}"):
+            folders.sort()
+            for name in sorted(names):
+                with open(f"{at}/{name}", "rb") as it:
+                    sums.update(f"{at}/{name}\0{hashlib.sha256(it.read()).hexdigest()}\n".encode())
+    return sums.hexdigest()
+
+
+def place_of(edit):
+    """Where it is kept that the edit was refused."""
+    sums = hashlib.sha256(kit())
+    for path in (__file__, edit.path):
+        with open(path, "rb") as it:
+            sums.update(hashlib.sha256(it.read()).digest())
+    for crate in sorted({edit.crate, *below(edit.crate)}):
+        sums.update(f"{crate}: {' '.join(uses()[crate])}\n{files_of(crate)}\n".encode())
+    home = os.environ.get("XDG_CACHE_HOME") or os.path.expanduser("~/.cache")
+    return f"{home}/wrong-bodies/{sums.hexdigest()}"
+
+
+def kept(edit):
+    """What was said of the edit when it was refused here, if it was."""
+    try:
+        with open(place_of(edit), encoding="utf-8") as it:
+            return it.read()
+    except OSError:
+        return None
+
+
+def keep(edit, text):
+    """Keeps that the edit was refused."""
+    place = place_of(edit)
+    try:
+        os.makedirs(os.path.dirname(place), exist_ok=True)
+        with tempfile.NamedTemporaryFile("w", encoding="utf-8", dir=os.path.dirname(place), delete=False) as it:
+            it.write(text)
+        os.replace(it.name, place)
+    except OSError as why:
+        print(f"wrong bodies: what was found is not kept: {why}", flush=True)
 
 
 def build_below(crates):
@@ -264,7 +328,7 @@ def lane(work, how, tell):
 
 def main(words):
     how = next((it for it in words if it.startswith("--")), "")
-    if how not in ("", "--alone", "--explain"):
+    if how not in ("", "--anew", "--alone", "--explain"):
         print(__doc__)
         return 2
     found = edits_of([it for it in words if not it.startswith("--")])
@@ -274,15 +338,25 @@ def main(words):
     if faults:
         print(f"0 passed, {len(faults)} failed")
         return 1
-    build_below(found)
     verdicts = []
 
     def tell(told):
         for edit, well, text in told:
             print(f"wrong body {edit.name}: {text}", flush=True)
             verdicts.append(well)
+            if well and how != "--explain":
+                keep(edit, text)
 
-    work = Work({crate: groups_of(crate, edits) if how == "" else [[it] for it in edits] for crate, edits in found.items()})
+    if how == "":
+        for crate, edits in list(found.items()):
+            told = {it: text for it in edits if (text := kept(it))}
+            for edit, text in told.items():
+                print(f"wrong body {edit.name}: {text}, as kept", flush=True)
+            verdicts += [True] * len(told)
+            found[crate] = [it for it in edits if it not in told]
+        found = {crate: edits for crate, edits in found.items() if edits}
+    build_below(found)
+    work = Work({crate: groups_of(crate, edits) if how in ("", "--anew") else [[it] for it in edits] for crate, edits in found.items()})
     lanes = int(os.environ.get("RT_JOBS") or len(os.sched_getaffinity(0)))
     with concurrent.futures.ThreadPoolExecutor(lanes) as pool:
         for it in [pool.submit(lane, work, how, tell) for _ in range(lanes)]:

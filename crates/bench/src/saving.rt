@@ -8,7 +8,7 @@ use anyhow::{Result, bail};
 use entities::{EntitiesRes, Entity};
 use saveload::{
     EntityData, Marker, MarkerAllocator, SimpleMarker, SimpleMarkerAllocator, deserialize,
-    from_json, serialize, to_json,
+    from_json, serialize_to_json,
 };
 use std::alloc::Global;
 use std::io::Print;
@@ -124,8 +124,7 @@ fn save(level: &Level, alloc: Global) -> Result<String> {
         ReadStorage::new(&level.entities, &level.links),
     );
     let marks = ReadStorage::new(&level.entities, &level.marks);
-    let list = serialize(alloc, &places, &marks)?;
-    Ok(to_json(alloc, list.as_slice())?)
+    Ok(serialize_to_json(alloc, &places, &marks)?)
 }
 
 /// Takes a text's entities up in a level, with the merge of their births.

@@ -1,20 +1,22 @@
 //! What is saved and loaded elsewhere is renamed, one to one; what marking says of the ids.
-ghost use Rattle.std.specs.Prelude.{◌≡◌, Option, List, None, Some, IsTrue, OnOk, true};
+ghost use Rattle.std.specs.Prelude.{◌≡◌, None, Some, IsTrue, IfSome, OnOk, true};
 ghost use Rattle.entities.specs.Census.{population};
-ghost use Rattle.entities.specs.declared.entity.Entity.{Entity as Being};
-ghost use Rattle.saveload.specs.Law.{DistinctIds, HoldsReferences, IsEmpty, IsOneToOne, IsRenamed};
-ghost use Rattle.saveload.specs.Naming.{naming};
-ghost use Rattle.saveload.specs.Saved.{IsSavedList};
+ghost use Rattle.saveload.specs.Law.{RenamesSaved};
+ghost use Rattle.saveload.specs.Loads.{loading};
+ghost use Rattle.saveload.specs.Saved.{IsSavedList, marked_read};
+ghost use Rattle.saveload.specs.Told.{IsTold};
 ghost use Rattle.storages.specs.Life.{is_alive};
+ghost use Rattle.storages.specs.ReadView.{found as seen};
 ghost use Rattle.storages.specs.WriteView.{entities_of, found};
 
 use saveload::{
-    DeserializeComponents, EntityData, LoadError, Marker, MarkerAllocator, SaveError,
-    SerializeComponents, deserialize, one_renaming, serialize_recursive,
+    ConvertSaveload, DeserializeComponents, EntityData, JsonData, JsonPlaces, LoadError, Marker,
+    MarkerAllocator, SaveError, SerializeComponents, deserialize, from_json, one_renaming,
+    serialize_recursive, serialize_to_json,
 };
 use specs::{EntitiesRes, Entity};
 use std::alloc::Global;
-use storages::{MaskedStorage, WriteStorage};
+use storages::{Component, MaskedStorage, ReadStorage, WriteStorage};
 
 /// Loads a list where nobody lives and no id is mapped. Wherever it was saved whole, with distinct ids, it is renamed, one to one.
 pub fn taken_up<M: Marker, P: DeserializeComponents<M>>(
@@ -28,16 +30,48 @@ pub fn taken_up<M: Marker, P: DeserializeComponents<M>>(
 where
     M::Allocator: MarkerAllocator<M>,
     requires { (m n : M) → M.is_clone m n → m ≡ n }
-    ensures { OnOk result ((marker_of : Being → Option M) (values : Being → P.Row) (es : List Being) →
-        IsSavedList P.conversion marker_of values es list.items →
-        DistinctIds M.id_of list.items →
-        HoldsReferences P.conversion values es →
-        IsEmpty (record { naming = naming M.id_of entities.old (M.Allocator.mapping allocator.old) markers.old; rows = P.rows masked.old }) →
-        (r : Being → Being) × IsOneToOne es (population entities.new) r × IsRenamed M.id_of P.conversion marker_of values es r
-        (record { naming = naming M.id_of entities.new (M.Allocator.mapping allocator.new) markers.new; rows = P.rows masked.new })) }
+    ensures { OnOk result (RenamesSaved M.id_of P.conversion list.items
+        (loading M.id_of M.Allocator.mapping P.rows entities.old allocator.old markers.old masked.old)
+        (loading M.id_of M.Allocator.mapping P.rows entities.new allocator.new markers.new masked.new)) }
 {
     one_renaming::<M, P>();
     deserialize(alloc, masked, entities, markers, allocator, list)
+}
+
+/// The same into two storages: their readers were told of each change.
+pub fn taken_up_in_two<M: Marker, A, B>(
+    alloc: Global,
+    masked: &mut (&mut MaskedStorage<A>, &mut MaskedStorage<B>),
+    entities: &mut EntitiesRes,
+    markers: &mut MaskedStorage<M>,
+    allocator: &mut M::Allocator,
+    list: Vec<EntityData<M, (Option<A::Data>, Option<B::Data>)>>,
+) -> Result<(), LoadError>
+where
+    M::Allocator: MarkerAllocator<M>,
+    A: Component + Drop + ConvertSaveload<M>,
+    B: Component + Drop + ConvertSaveload<M>,
+    requires { (m n : M) → M.is_clone m n → m ≡ n }
+    ensures first { IsTold masked.old.0.now masked.new.0.now }
+    ensures second { IsTold masked.old.1.now masked.new.1.now }
+{
+    deserialize(alloc, masked, entities, markers, allocator, list)
+}
+
+/// What is saved, by way of a text.
+pub fn saved_by_text<M: Marker + Copy + JsonData + Drop, P: SerializeComponents<M>>(
+    alloc: Global,
+    places: &P,
+    markers: &ReadStorage<'_, M>,
+) -> Option<Vec<EntityData<M, P::Data>>>
+where
+    P::Data: JsonPlaces,
+    ensures { IfSome result (λ list. IsSavedList P.conversion (λ e. seen markers.now e) (λ e. P.values places.now e) (marked_read markers.now) list.items) }
+{
+    let Ok(text) = serialize_to_json(alloc, places, markers) else {
+        return None;
+    };
+    from_json(alloc, text.as_str()).ok()
 }
 
 /// Whether a save that marks finds the ids used up: none is left then.

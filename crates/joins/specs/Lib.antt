@@ -12,5 +12,6 @@ pub mod Given
 pub mod Held
 pub mod Indexed
 pub mod Keys
+pub mod Next
 pub mod Restricted
 pub mod Restricting

@@ -1,9 +1,10 @@
 //! The values of a join.
-ghost use Rattle.std.specs.Prelude.{◌≡◌, ℕ, ◌+◌, ◌-◌, ◌*◌, ◌≤◌, ◌<◌, true, false, [], ◌∷◌, MatchOption, IfSome, IfNone, ⊤};
+ghost use Rattle.std.specs.Prelude.{◌≡◌, ℕ, ◌+◌, ◌-◌, ◌*◌, ◌≤◌, ◌<◌, true, false, MatchOption, IfSome, IfNone, ⊤};
 ghost use Rattle.std.specs.Iterator.{item_count, MakesProgress};
 ghost use Rattle.hibits.specs.Left.{left};
 ghost use Rattle.entities.specs.Census.{population};
 ghost use Rattle.entities.specs.Population.{index_of, IsAlive};
+ghost use Rattle.joins.specs.Next.{GivesNext};
 
 use crate::join::Join;
 use crate::lookup::Lookup;
@@ -53,9 +54,7 @@ impl<J: Join> JoinIter<J> {
     #[inline(always)]
     pub fn next(&mut self) -> Option<J::Type>
         ensures mask { self.new.keys.mask ≡ self.old.keys.mask }
-        ensures items { MatchOption result
-            (left (J.Mask.has self.old.keys.mask 0) self.old.keys.position ≡ [])
-            (λ r. (i : ℕ) × (left (J.Mask.has self.old.keys.mask 0) self.old.keys.position ≡ i ∷ left (J.Mask.has self.old.keys.mask 0) self.new.keys.position) × J.value_gives self.old.values i r) }
+        ensures items { GivesNext (J.Mask.has self.old.keys.mask 0) (J.value_gives self.old.values) self.old.keys.position self.new.keys.position result }
         ensures forward { IfSome result (λ _. (self.old.keys.position < self.new.keys.position) × (self.new.keys.position ≤ INDEX_LIMIT)) }
         ensures later_gives { (i : ℕ) (r : J.Type) → self.new.keys.position ≤ i → J.value_gives self.new.values i r → J.value_gives self.old.values i r }
         ensures again_gives { J.repeats ≡ true → (i : ℕ) (r : J.Type) → J.value_gives self.new.values i r → J.value_gives self.old.values i r }
@@ -119,9 +118,7 @@ where
 impl<J: Join> Iterator for JoinIter<J> {
     type Item = J::Type;
 
-    ghost next_gives = { λ s r t. (t.keys.mask ≡ s.keys.mask) × MatchOption r
-        (left (J.Mask.has s.keys.mask 0) s.keys.position ≡ [])
-        (λ x. (i : ℕ) × (left (J.Mask.has s.keys.mask 0) s.keys.position ≡ i ∷ left (J.Mask.has s.keys.mask 0) t.keys.position) × J.value_gives s.values i x) };
+    ghost next_gives = { λ s r t. (t.keys.mask ≡ s.keys.mask) × GivesNext (J.Mask.has s.keys.mask 0) (J.value_gives s.values) s.keys.position t.keys.position r };
 
     ghost remaining = { item_count (λ s. left (J.Mask.has s.keys.mask 0) s.keys.position) };
 

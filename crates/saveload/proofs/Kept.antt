@@ -256,32 +256,43 @@ written_more : (old f s t : List ℕ) → ((old ++ (91 ∷ f)) ++ s) ++ t ≡ ol
 written_more old f s t = simp append_assoc
 
 -- one more record is written
+pub write_more : {M D : Type 0} (mj : M → Data) (mf : Data → Option M) (pj : D → List Data) (pf : Data → Option D) (rs : List (EntityData M D)) (r : EntityData M D) (old text next new separator : List ℕ)
+    → text ≡ old ++ (91 ∷ records_text mj pj rs) → separator ≡ comma_if (something rs) → AllRead (record_json mj pj) (record_from mf pf) rs
+    → next ≡ text ++ separator → Writes (record_json mj pj) (record_from mf pf) r next new
+    → (new ≡ old ++ (91 ∷ records_text mj pj (rs ++ r ∷ []))) × ((44 ∷ []) ≡ comma_if (something (rs ++ r ∷ []))) × AllRead (record_json mj pj) (record_from mf pf) (rs ++ r ∷ [])
+write_more mj mf pj pf rs r old text next new separator e s a n w =
+    let f : List ℕ = records_text mj pj rs in
+    let c : List ℕ = comma_if (something rs) in
+    let t : List ℕ = compact_text (record_json mj pj r) in
+    let whole_new : new ≡ ((old ++ (91 ∷ f)) ++ c) ++ t = w.0 ∙ ap (λ u. u ++ t) (n ∙ rw (e, s) refl) in (
+      whole_new ∙ written_more old f c t ∙ ap (λ u. old ++ (91 ∷ u)) (sym (records_more mj pj rs r)),
+      ap comma_if (sym (something_more rs r)),
+      all_read_more (record_json mj pj) (record_from mf pf) rs r a w.1,
+    )
+
+-- one more of a list is written
 pub write_step : {M D : Type 0} (mj : M → Data) (mf : Data → Option M) (pj : D → List Data) (pf : Data → Option D) (rs : List (EntityData M D)) (i : ℕ) (r : EntityData M D) (old text next new separator : List ℕ)
     → i < length rs → text ≡ old ++ (91 ∷ records_text mj pj (take i rs)) → separator ≡ comma_if (something (take i rs)) → AllRead (record_json mj pj) (record_from mf pf) (take i rs)
     → next ≡ text ++ separator → Writes (record_json mj pj) (record_from mf pf) (get_or rs i r) next new
     → (new ≡ old ++ (91 ∷ records_text mj pj (take (i + 1) rs))) × ((44 ∷ []) ≡ comma_if (something (take (i + 1) rs))) × AllRead (record_json mj pj) (record_from mf pf) (take (i + 1) rs)
 write_step mj mf pj pf rs i r old text next new separator lt e s a n w =
-    let x : EntityData _ _ = get_or rs i r in
-    let f : List ℕ = records_text mj pj (take i rs) in
-    let c : List ℕ = comma_if (something (take i rs)) in
-    let t : List ℕ = compact_text (record_json mj pj x) in
-    let whole_new : new ≡ ((old ++ (91 ∷ f)) ++ c) ++ t = w.0 ∙ ap (λ u. u ++ t) (n ∙ rw (e, s) refl) in
-    let front : records_text mj pj (take i rs ++ x ∷ []) ≡ f ++ (c ++ t) = records_more mj pj (take i rs) x in
-    rw (take_more rs i r lt) (
-      whole_new ∙ written_more old f c t ∙ ap (λ u. old ++ (91 ∷ u)) (sym front),
-      ap comma_if (sym (something_more (take i rs) x)),
-      all_read_more (record_json mj pj) (record_from mf pf) (take i rs) x a w.1,
-    )
+    rw (take_more rs i r lt) (write_more mj mf pj pf (take i rs) (get_or rs i r) old text next new separator e s a n w)
 
 -- all records are written
+pub write_all : {M D : Type 0} (mj : M → Data) (mf : Data → Option M) (pj : D → List Data) (pf : Data → Option D) (rs : List (EntityData M D)) (old text new : List ℕ)
+    → text ≡ old ++ (91 ∷ records_text mj pj rs) → AllRead (record_json mj pj) (record_from mf pf) rs → new ≡ text ++ 93 ∷ []
+    → Writes (list_json mj pj) (list_from mf pf) rs old new
+write_all mj mf pj pf rs old text new e a n =
+    let f : List ℕ = records_text mj pj rs in
+    let whole_new : new ≡ (old ++ (91 ∷ f)) ++ 93 ∷ [] = n ∙ ap (λ u. u ++ 93 ∷ []) e in
+    (whole_new ∙ append_assoc old (91 ∷ f) (93 ∷ []) ∙ ap (λ u. old ++ u) (sym (list_text mj pj rs)), list_read mj mf pj pf rs a)
+
 pub write_end : {M D : Type 0} (mj : M → Data) (mf : Data → Option M) (pj : D → List Data) (pf : Data → Option D) (rs : List (EntityData M D)) (i : ℕ) (old text new : List ℕ)
     → length rs ≤ i → text ≡ old ++ (91 ∷ records_text mj pj (take i rs)) → AllRead (record_json mj pj) (record_from mf pf) (take i rs) → new ≡ text ++ 93 ∷ []
     → Writes (list_json mj pj) (list_from mf pf) rs old new
 write_end mj mf pj pf rs i old text new le e a n =
     let all : take i rs ≡ rs = take_all i rs le in
-    let f : List ℕ = records_text mj pj rs in
-    let whole_new : new ≡ (old ++ (91 ∷ f)) ++ 93 ∷ [] = n ∙ ap (λ u. u ++ 93 ∷ []) (e ∙ ap (λ u. old ++ (91 ∷ records_text mj pj u)) all) in
-    (whole_new ∙ append_assoc old (91 ∷ f) (93 ∷ []) ∙ ap (λ u. old ++ u) (sym (list_text mj pj rs)), list_read mj mf pj pf rs (subst (AllRead (record_json mj pj) (record_from mf pf)) all a))
+    write_all mj mf pj pf rs old text new (e ∙ ap (λ u. old ++ (91 ∷ records_text mj pj u)) all) (subst (AllRead (record_json mj pj) (record_from mf pf)) all a) n
 
 taken_more : (f c t rest : List ℕ) → f ++ (c ++ (t ++ rest)) ≡ (f ++ (c ++ t)) ++ rest
 taken_more f c t rest = simp append_assoc

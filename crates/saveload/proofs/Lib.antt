@@ -17,3 +17,5 @@ pub mod Stopped
 pub mod Marked
 pub mod Resting
 pub mod Turns
+pub mod Writing
+pub mod Telling

@@ -5,7 +5,7 @@ use Rattle.json.specs.Tree.{HasNumbers}
 use Rattle.serde_json.specs.Data.{Data, null, array, object, Items, no_items, item, Members, member, no_members}
 use Rattle.serde_json.specs.Find.{get, at, as_null, as_array, as_object}
 use Rattle.serde_json.specs.Events.{items_len, members_len}
-use Rattle.serde_json.specs.Read.{of_json}
+use Rattle.serde_json.specs.Read.{of_json, read}
 use Rattle.serde_json.specs.View.{items_of}
 use Rattle.serde_json.specs.Written.{outline, compact_text}
 use Rattle.saveload.specs.declared.entity_data.EntityData.{EntityData}
@@ -95,3 +95,14 @@ Writes json from x old new = (new ≡ old ++ compact_text (json x)) × IsRead js
 -- the compact text of x stands at the front of a text, and a rest behind it
 abbrev pub Takes : {D : Type 0} → (D → Data) → (Data → Option D) → List ℕ → D → List ℕ → Type 0
 Takes json from text x rest = (text ≡ compact_text (json x) ++ rest) × IsRead json from x
+
+-- a text is that of a saved list, and is read as that list
+pub record IsTextOf {M D : Type 0} (mj : M → Data) (mf : Data → Option M) (pj : D → List Data) (pf : Data → Option D) (IsSaved : List (EntityData M D) → Type 0) (text : List ℕ) : Type 0 where
+  pub list : List (EntityData M D)
+  pub saved : IsSaved list
+  pub written : text ≡ compact_text (list_json mj pj list)
+  pub reads_back : option_and_then (list_from mf pf) (read text) ≡ Some list
+
+-- the compact text of a saved list is written behind a text
+abbrev pub WritesSome : {M D : Type 0} → (M → Data) → (Data → Option M) → (D → List Data) → (Data → Option D) → (List (EntityData M D) → Type 0) → List ℕ → List ℕ → Type 0
+WritesSome {M} {D} mj mf pj pf IsSaved old new = (list : List (EntityData M D)) × IsSaved list × Writes (list_json mj pj) (list_from mf pf) list old new

@@ -32,6 +32,12 @@ pub record IsEmpty {I V : Type 0} (s : Loading I V) : Type 0 where
   pub nobody : (i : ℕ) → lives s.naming.people i ≡ false
   pub unmapped : (id : I) → s.naming.mapping id ≡ None
 
+-- wherever it was saved whole, with distinct ids, and nobody lived and no id was mapped before, it is renamed, one to one
+abbrev pub RenamesSaved : {M I V D : Type 0} → (M → I) → Conversion M V D → List (EntityData M D) → Loading I V → Loading I V → Type 0
+RenamesSaved {M} {I} {V} {D} id_of c rs old new = (marker_of : Entity → Option M) (values : Entity → V) (es : List Entity) →
+    IsSavedList c marker_of values es rs → DistinctIds id_of rs → HoldsReferences c values es → IsEmpty old →
+    (r : Entity → Entity) × IsOneToOne es new.naming.people r × IsRenamed id_of c marker_of values es r new
+
 abbrev pub OneRenaming : {M I V D : Type 0} → (M → I) → (I → I → Bool) → Conversion M V D → Type 0
 OneRenaming {M} {I} {V} {D} id_of eq c = (marker_of : Entity → Option M) (values : Entity → V) (es : List Entity) (rs : List (EntityData M D)) (old new : Loading I V) →
     IsSavedList c marker_of values es rs → DistinctIds id_of rs → HoldsReferences c values es → IsEmpty old → Loads id_of eq c old rs new →

@@ -12,6 +12,7 @@ pub mod Closing
 pub mod Loads
 pub mod Stops
 pub mod Law
+pub mod Told
 pub mod Json
 pub mod JsonNumbers
 pub mod Wrapped

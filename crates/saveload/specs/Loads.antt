@@ -2,11 +2,12 @@
 use Rattle.std.specs.Prelude.{◌≡◌, ℕ, pos, List, [], ◌∷◌, map, Option, unwrap_or, Bool, ◌==◌, if◌then◌else◌}
 use Rattle.std.specs.FinMap as finmap
 use Rattle.entities.specs.declared.entity.Entity.{Entity}
+use Rattle.entities.specs.Census.{Census}
 use Rattle.entities.specs.Population.{index_of}
 use Rattle.storages.specs.Slot.{Slot}
 use Rattle.saveload.specs.declared.entity_data.EntityData.{EntityData}
 use Rattle.saveload.specs.Conversion.{Conversion, GivesEach}
-use Rattle.saveload.specs.Naming.{Naming, Names, NamesAll}
+use Rattle.saveload.specs.Naming.{Naming, naming, Names, NamesAll}
 
 -- the entity that an id is mapped to
 abbrev pub entity_of : {I : Type 0} → (I → Option Entity) → I → Entity
@@ -20,6 +21,10 @@ named id_of mapping m = entity_of mapping (id_of m)
 pub record Loading (I V : Type 0) : Type 0 where
   pub naming : Naming I
   pub rows : ℕ → V
+
+-- what a load reads and changes, of its parts
+abbrev pub loading : {M I V A P : Type 0} → (M → I) → (A → I → Option Entity) → (P → ℕ → V) → Census → A → Slot M → P → Loading I V
+loading id_of mapping rows entities allocator markers masked = record { naming = naming id_of entities (mapping allocator) markers; rows = rows masked }
 
 abbrev pub row_put : {V : Type 0} → (ℕ → V) → ℕ → V → ℕ → V
 row_put rows i v j = if i == j then v else rows j

@@ -3,7 +3,12 @@ use Rattle.std.specs.Prelude.{◌≡◌, ℕ, ◌&&◌, map, List, [], ◌∷◌
 use Rattle.std.specs.FinMap as finmap
 use Rattle.hibits.specs.Left.{left}
 use Rattle.entities.specs.Population.{Population, lives, generation_now}
+use Rattle.entities.specs.Census.{population}
 use Rattle.storages.specs.Slot.{Slot}
+use Rattle.storages.specs.declared.read_storage.ReadStorage.{ReadStorage}
+use Rattle.storages.specs.declared.write_storage.WriteStorage.{WriteStorage}
+use Rattle.storages.specs.ReadView.{slot as slot_read, entities_of as entities_read}
+use Rattle.storages.specs.WriteView.{slot, entities_of}
 use Rattle.entities.specs.declared.entity.Entity.{Entity}
 use Rattle.saveload.specs.declared.entity_data.EntityData.{EntityData}
 use Rattle.saveload.specs.declared.error.SaveError.{SaveError}
@@ -37,3 +42,10 @@ entity_at people i = (i, record { 0 = generation_now people i })
 -- those that live, merged or pending, and have a marker, ascending
 abbrev pub all_marked : {M : Type 0} → Population → Slot M → List Entity
 all_marked people s = map (entity_at people) (left (λ i. lives people i && finmap.contains_key s.map i) 0)
+
+-- the same, of a view of the markers
+abbrev pub marked_read : {M S : Type 0} → ReadStorage M S → List Entity
+marked_read markers = all_marked (population (entities_read markers)) (slot_read markers)
+
+abbrev pub marked_by : {M S : Type 0} → WriteStorage M S → List Entity
+marked_by markers = all_marked (population (entities_of markers)) (slot markers)

@@ -47,7 +47,7 @@ pub(crate) fn write_next<D: JsonData>(
 }
 
 // Writes a record behind a text.
-fn write_record<M: JsonData, D: JsonPlaces>(
+pub(crate) fn write_record<M: JsonData, D: JsonPlaces>(
     alloc: Global,
     saved: &EntityData<M, D>,
     text: &mut String,

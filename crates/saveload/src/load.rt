@@ -9,7 +9,8 @@ ghost use Rattle.storages.specs.Life.{is_alive};
 ghost use Rattle.saveload.specs.Conversion.{Conversion, IsFaithful, GivesEach};
 ghost use Rattle.saveload.specs.Naming.{naming, NamesAll};
 ghost use Rattle.saveload.specs.Places.{place, both};
-ghost use Rattle.saveload.specs.Loads.{column, beside, PutsSaved, named, LoadsRecord, Loads};
+ghost use Rattle.saveload.specs.Loads.{column, beside, loading, PutsSaved, named, LoadsRecord, Loads};
+ghost use Rattle.saveload.specs.Told.{IsTold};
 ghost use Rattle.saveload.specs.Stops.{IsOfStoring, PartlyPair, PutsSome, StopsNaming, RefusesRecord, Stops};
 
 use crate::convert::ConvertSaveload;
@@ -36,8 +37,8 @@ pub trait DeserializeComponents<M: Marker> {
     // Of an old row and a new one: some first places of a row are the new one's and the others the old one's, but not all are the new one's.
     ghost Partly: { Self.Row → Self.Row → Self.Row → Type 0 };
 
-    // The same storages are lent.
-    ghost SameLoans: { Self → Self → Type 0 };
+    // The same storages are lent, and each was changed by insertions and removals alone, of which its readers were told.
+    ghost Changes: { Self → Self → Type 0 };
 
     /// The markers that the data mentions, place by place.
     fn mentions(alloc: Global, saved: &Self::Data) -> Result<Vec<M>, AllocError>
@@ -58,7 +59,7 @@ pub trait DeserializeComponents<M: Marker> {
         ids: F,
     ) -> Result<(), LoadError>
         requires { F.IsAlwaysCallable ids }
-        ensures loans { SameLoans self.old self.new }
+        ensures changes { Changes self.old self.new }
         ensures rows { is_alive (population entities.now) entity ≡ true → OnOk result (PutsSaved conversion (F.post ids) saved entity (rows self.old) (rows self.new)) }
         ensures stopped { is_alive (population entities.now) entity ≡ true → OnErr result (PutsSome Partly conversion (F.post ids) saved entity (rows self.old) (rows self.new)) }
         ensures refused { (f : M → Being) → GivesEach (F.post ids) (conversion.mentions saved) f → IfErr result IsOfStoring }
@@ -66,9 +67,9 @@ pub trait DeserializeComponents<M: Marker> {
 
     ghost faithful: { IsFaithful conversion };
 
-    ghost loans_self: { (s : Self) → SameLoans s s };
+    ghost changes_self: { (s : Self) → Changes s s };
 
-    ghost loans_both: { (s t u : Self) → SameLoans s t → SameLoans t u → SameLoans s u };
+    ghost changes_both: { (s t u : Self) → Changes s t → Changes t u → Changes s u };
 }
 
 // Puts the markers that a place mentions at the end of a list.
@@ -107,6 +108,7 @@ pub(crate) fn store_place<
     requires { F.IsAlwaysCallable ids.now }
     ensures stored { is_alive (population entities.now) entity ≡ true
         → OnOk result (PutsSaved (place T.conversion) (F.post ids.now) saved entity (column masked.old) (column masked.new)) }
+    ensures told { IsTold masked.old masked.new }
     ensures err { OnErr result (column masked.new ≡ column masked.old) }
     ensures dead { is_alive (population entities.now) entity ≡ false → column masked.new ≡ column masked.old }
     ensures refused { (f : M → Being) → GivesEach (F.post ids.now) ((place T.conversion).mentions saved) f → IfErr result IsOfStoring }
@@ -140,7 +142,8 @@ pub(crate) fn store_with_rest<
     ids: F,
 ) -> Result<(), LoadError>
     requires { F.IsAlwaysCallable ids }
-    ensures loans { R.SameLoans rest.old rest.new }
+    ensures told { IsTold first.old first.new }
+    ensures changes { R.Changes rest.old rest.new }
     ensures rows { is_alive (population entities.now) entity ≡ true
         → OnOk result (PutsSaved (both (place A.conversion) R.conversion) (F.post ids) saved entity (beside first.old (R.rows rest.old)) (beside first.new (R.rows rest.new))) }
     ensures stopped { is_alive (population entities.now) entity ≡ true → OnErr result (PutsSome (PartlyPair R.Partly) (both (place A.conversion) R.conversion)
@@ -162,6 +165,7 @@ fn put_at<T: Component + Drop>(
 ) -> Result<(), AllocError>
     ensures alive { is_alive (population entities.now) entity ≡ true → OnOk result (masked.new.map ≡ finmap.insert masked.old.map (index_of entity) value) }
     ensures dead { is_alive (population entities.now) entity ≡ false → OnOk result (masked.new.map ≡ masked.old.map) }
+    ensures told { IsTold masked.old masked.new }
     ensures err { OnErr result (masked.new.map ≡ masked.old.map) }
 {
     match WriteStorage::new(entities, masked).insert(entity, value) {
@@ -179,6 +183,7 @@ fn take_out<T: Component + Drop>(
 ) -> Result<(), AllocError>
     ensures present { is_some (found_in entities.now masked.old entity) ≡ true → OnOk result (masked.new.map ≡ finmap.remove masked.old.map (index_of entity)) }
     ensures absent { found_in entities.now masked.old entity ≡ None → OnOk result (masked.new.map ≡ masked.old.map) }
+    ensures told { IsTold masked.old masked.new }
     ensures err { OnErr result (masked.new.map ≡ masked.old.map) }
 {
     match WriteStorage::new(entities, masked).remove(entity) {
@@ -204,15 +209,15 @@ pub fn deserialize<M: Marker, P: DeserializeComponents<M>>(
 where
     M::Allocator: MarkerAllocator<M>,
     requires { (m n : M) → M.is_clone m n → m ≡ n }
-    ensures loans { P.SameLoans masked.old masked.new }
+    ensures changes { P.Changes masked.old masked.new }
     ensures loaded { OnOk result (Loads M.id_of M.Identifier.eq P.conversion
-        (record { naming = naming M.id_of entities.old (M.Allocator.mapping allocator.old) markers.old; rows = P.rows masked.old })
+        (loading M.id_of M.Allocator.mapping P.rows entities.old allocator.old markers.old masked.old)
         list.items
-        (record { naming = naming M.id_of entities.new (M.Allocator.mapping allocator.new) markers.new; rows = P.rows masked.new })) }
+        (loading M.id_of M.Allocator.mapping P.rows entities.new allocator.new markers.new masked.new)) }
     ensures refused { IfErr result (λ e. Stops M.id_of M.Identifier.eq P.conversion P.Partly
-        (record { naming = naming M.id_of entities.old (M.Allocator.mapping allocator.old) markers.old; rows = P.rows masked.old })
+        (loading M.id_of M.Allocator.mapping P.rows entities.old allocator.old markers.old masked.old)
         list.items e
-        (record { naming = naming M.id_of entities.new (M.Allocator.mapping allocator.new) markers.new; rows = P.rows masked.new })) }
+        (loading M.id_of M.Allocator.mapping P.rows entities.new allocator.new markers.new masked.new)) }
 {
     for saved in list {
         load_record(alloc, masked, entities, markers, allocator, saved)?;
@@ -232,15 +237,15 @@ fn load_record<M: Marker, P: DeserializeComponents<M>>(
 where
     M::Allocator: MarkerAllocator<M>,
     requires { (m n : M) → M.is_clone m n → m ≡ n }
-    ensures loans { P.SameLoans masked.old masked.new }
+    ensures changes { P.Changes masked.old masked.new }
     ensures loaded { OnOk result (LoadsRecord M.id_of M.Identifier.eq P.conversion
-        (record { naming = naming M.id_of entities.old (M.Allocator.mapping allocator.old) markers.old; rows = P.rows masked.old })
+        (loading M.id_of M.Allocator.mapping P.rows entities.old allocator.old markers.old masked.old)
         saved
-        (record { naming = naming M.id_of entities.new (M.Allocator.mapping allocator.new) markers.new; rows = P.rows masked.new })) }
+        (loading M.id_of M.Allocator.mapping P.rows entities.new allocator.new markers.new masked.new)) }
     ensures refused { IfErr result (λ e. RefusesRecord M.id_of M.Identifier.eq P.conversion P.Partly
-        (record { naming = naming M.id_of entities.old (M.Allocator.mapping allocator.old) markers.old; rows = P.rows masked.old })
+        (loading M.id_of M.Allocator.mapping P.rows entities.old allocator.old markers.old masked.old)
         saved e
-        (record { naming = naming M.id_of entities.new (M.Allocator.mapping allocator.new) markers.new; rows = P.rows masked.new })) }
+        (loading M.id_of M.Allocator.mapping P.rows entities.new allocator.new markers.new masked.new)) }
 {
     let EntityData { marker, components } = saved;
     let entity = allocator.retrieve_entity(marker, markers, entities)?;

@@ -1,9 +1,8 @@
 //! Tuples of one to six storages that are lent for a load.
-ghost use Rattle.std.specs.Prelude.{◌≡◌, refl};
-ghost use Rattle.std.proofs.Common.{◌∙◌};
 ghost use Rattle.saveload.specs.Loads.{column};
 ghost use Rattle.saveload.specs.Stops.{PartlyOne, PartlyTwo, PartlyThree, PartlyFour, PartlyFive, PartlySix};
 ghost use Rattle.saveload.specs.Tuples.{one_place, two_places, three_places, four_places, five_places, six_places};
+ghost use Rattle.saveload.specs.Told.{IsFilled, filled_self, filled_both};
 ghost use Rattle.saveload.specs.Tuples.{one_place_faithful, two_places_faithful, three_places_faithful, four_places_faithful, five_places_faithful, six_places_faithful};
 
 use crate::convert::ConvertSaveload;
@@ -28,7 +27,7 @@ where
 
     ghost Partly = { PartlyOne };
 
-    ghost SameLoans = { λ s t. s.0.ghost_name ≡ t.0.ghost_name };
+    ghost Changes = { λ s t. IsFilled s.0 t.0 };
 
     fn mentions(alloc: Global, saved: &Self::Data) -> Result<Vec<M>, AllocError> {
         let mut list = Vec::new(alloc);
@@ -51,9 +50,9 @@ where
 
     ghost faithful = { one_place_faithful _ A.faithful };
 
-    ghost loans_self = { λ s. refl };
+    ghost changes_self = { λ s. filled_self s.0 };
 
-    ghost loans_both = { λ s t u a b. a ∙ b };
+    ghost changes_both = { λ s t u a b. filled_both s.0 t.0 u.0 a b };
 }
 
 impl<M: Marker, A, B> DeserializeComponents<M> for (&mut MaskedStorage<A>, &mut MaskedStorage<B>)
@@ -74,7 +73,7 @@ where
 
     ghost Partly = { PartlyTwo };
 
-    ghost SameLoans = { λ s t. (s.0.ghost_name ≡ t.0.ghost_name) × (s.1.ghost_name ≡ t.1.ghost_name) };
+    ghost Changes = { λ s t. IsFilled s.0 t.0 × IsFilled s.1 t.1 };
 
     fn mentions(alloc: Global, saved: &Self::Data) -> Result<Vec<M>, AllocError> {
         let mut list = Vec::new(alloc);
@@ -99,9 +98,9 @@ where
 
     ghost faithful = { two_places_faithful _ _ A.faithful B.faithful };
 
-    ghost loans_self = { λ s. (refl, refl) };
+    ghost changes_self = { λ s. (filled_self s.0, filled_self s.1) };
 
-    ghost loans_both = { λ s t u a b. (a.0 ∙ b.0, a.1 ∙ b.1) };
+    ghost changes_both = { λ s t u a b. (filled_both s.0 t.0 u.0 a.0 b.0, filled_both s.1 t.1 u.1 a.1 b.1) };
 }
 
 impl<M: Marker, A, B, C> DeserializeComponents<M>
@@ -129,7 +128,7 @@ where
 
     ghost Partly = { PartlyThree };
 
-    ghost SameLoans = { λ s t. (s.0.ghost_name ≡ t.0.ghost_name) × (s.1.ghost_name ≡ t.1.ghost_name) × (s.2.ghost_name ≡ t.2.ghost_name) };
+    ghost Changes = { λ s t. IsFilled s.0 t.0 × IsFilled s.1 t.1 × IsFilled s.2 t.2 };
 
     fn mentions(alloc: Global, saved: &Self::Data) -> Result<Vec<M>, AllocError> {
         let mut list = Vec::new(alloc);
@@ -163,9 +162,9 @@ where
 
     ghost faithful = { three_places_faithful _ _ _ A.faithful B.faithful C.faithful };
 
-    ghost loans_self = { λ s. (refl, refl, refl) };
+    ghost changes_self = { λ s. (filled_self s.0, filled_self s.1, filled_self s.2) };
 
-    ghost loans_both = { λ s t u a b. (a.0 ∙ b.0, a.1 ∙ b.1, a.2 ∙ b.2) };
+    ghost changes_both = { λ s t u a b. (filled_both s.0 t.0 u.0 a.0 b.0, filled_both s.1 t.1 u.1 a.1 b.1, filled_both s.2 t.2 u.2 a.2 b.2) };
 }
 
 impl<M: Marker, A, B, C, D> DeserializeComponents<M>
@@ -196,7 +195,7 @@ where
 
     ghost Partly = { PartlyFour };
 
-    ghost SameLoans = { λ s t. (s.0.ghost_name ≡ t.0.ghost_name) × (s.1.ghost_name ≡ t.1.ghost_name) × (s.2.ghost_name ≡ t.2.ghost_name) × (s.3.ghost_name ≡ t.3.ghost_name) };
+    ghost Changes = { λ s t. IsFilled s.0 t.0 × IsFilled s.1 t.1 × IsFilled s.2 t.2 × IsFilled s.3 t.3 };
 
     fn mentions(alloc: Global, saved: &Self::Data) -> Result<Vec<M>, AllocError> {
         let mut list = Vec::new(alloc);
@@ -231,9 +230,9 @@ where
 
     ghost faithful = { four_places_faithful _ _ _ _ A.faithful B.faithful C.faithful D.faithful };
 
-    ghost loans_self = { λ s. (refl, refl, refl, refl) };
+    ghost changes_self = { λ s. (filled_self s.0, filled_self s.1, filled_self s.2, filled_self s.3) };
 
-    ghost loans_both = { λ s t u a b. (a.0 ∙ b.0, a.1 ∙ b.1, a.2 ∙ b.2, a.3 ∙ b.3) };
+    ghost changes_both = { λ s t u a b. (filled_both s.0 t.0 u.0 a.0 b.0, filled_both s.1 t.1 u.1 a.1 b.1, filled_both s.2 t.2 u.2 a.2 b.2, filled_both s.3 t.3 u.3 a.3 b.3) };
 }
 
 impl<M: Marker, A, B, C, D, E> DeserializeComponents<M>
@@ -267,8 +266,7 @@ where
 
     ghost Partly = { PartlyFive };
 
-    ghost SameLoans = { λ s t. (s.0.ghost_name ≡ t.0.ghost_name) × (s.1.ghost_name ≡ t.1.ghost_name) × (s.2.ghost_name ≡ t.2.ghost_name)
-        × (s.3.ghost_name ≡ t.3.ghost_name) × (s.4.ghost_name ≡ t.4.ghost_name) };
+    ghost Changes = { λ s t. IsFilled s.0 t.0 × IsFilled s.1 t.1 × IsFilled s.2 t.2 × IsFilled s.3 t.3 × IsFilled s.4 t.4 };
 
     fn mentions(alloc: Global, saved: &Self::Data) -> Result<Vec<M>, AllocError> {
         let mut list = Vec::new(alloc);
@@ -304,9 +302,9 @@ where
 
     ghost faithful = { five_places_faithful _ _ _ _ _ A.faithful B.faithful C.faithful D.faithful E.faithful };
 
-    ghost loans_self = { λ s. (refl, refl, refl, refl, refl) };
+    ghost changes_self = { λ s. (filled_self s.0, filled_self s.1, filled_self s.2, filled_self s.3, filled_self s.4) };
 
-    ghost loans_both = { λ s t u a b. (a.0 ∙ b.0, a.1 ∙ b.1, a.2 ∙ b.2, a.3 ∙ b.3, a.4 ∙ b.4) };
+    ghost changes_both = { λ s t u a b. (filled_both s.0 t.0 u.0 a.0 b.0, filled_both s.1 t.1 u.1 a.1 b.1, filled_both s.2 t.2 u.2 a.2 b.2, filled_both s.3 t.3 u.3 a.3 b.3, filled_both s.4 t.4 u.4 a.4 b.4) };
 }
 
 impl<M: Marker, A, B, C, D, E, G> DeserializeComponents<M>
@@ -350,8 +348,7 @@ where
 
     ghost Partly = { PartlySix };
 
-    ghost SameLoans = { λ s t. (s.0.ghost_name ≡ t.0.ghost_name) × (s.1.ghost_name ≡ t.1.ghost_name) × (s.2.ghost_name ≡ t.2.ghost_name)
-        × (s.3.ghost_name ≡ t.3.ghost_name) × (s.4.ghost_name ≡ t.4.ghost_name) × (s.5.ghost_name ≡ t.5.ghost_name) };
+    ghost Changes = { λ s t. IsFilled s.0 t.0 × IsFilled s.1 t.1 × IsFilled s.2 t.2 × IsFilled s.3 t.3 × IsFilled s.4 t.4 × IsFilled s.5 t.5 };
 
     fn mentions(alloc: Global, saved: &Self::Data) -> Result<Vec<M>, AllocError> {
         let mut list = Vec::new(alloc);
@@ -394,7 +391,7 @@ where
 
     ghost faithful = { six_places_faithful _ _ _ _ _ _ A.faithful B.faithful C.faithful D.faithful E.faithful G.faithful };
 
-    ghost loans_self = { λ s. (refl, refl, refl, refl, refl, refl) };
+    ghost changes_self = { λ s. (filled_self s.0, filled_self s.1, filled_self s.2, filled_self s.3, filled_self s.4, filled_self s.5) };
 
-    ghost loans_both = { λ s t u a b. (a.0 ∙ b.0, a.1 ∙ b.1, a.2 ∙ b.2, a.3 ∙ b.3, a.4 ∙ b.4, a.5 ∙ b.5) };
+    ghost changes_both = { λ s t u a b. (filled_both s.0 t.0 u.0 a.0 b.0, filled_both s.1 t.1 u.1 a.1 b.1, filled_both s.2 t.2 u.2 a.2 b.2, filled_both s.3 t.3 u.3 a.3 b.3, filled_both s.4 t.4 u.4 a.4 b.4, filled_both s.5 t.5 u.5 a.5 b.5) };
 }

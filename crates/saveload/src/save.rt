@@ -4,10 +4,10 @@ ghost use Rattle.std.specs.FinMap as map;
 ghost use Rattle.entities.specs.declared.entity.Entity.{Entity};
 ghost use Rattle.entities.specs.Census.{population};
 ghost use Rattle.hibits.specs.Left.{left};
-ghost use Rattle.storages.specs.ReadView.{found, slot as slot_read, entities_of as entities_read};
+ghost use Rattle.storages.specs.ReadView.{found};
 ghost use Rattle.storages.specs.WriteView.{slot, entities_of, storage_name, found as found_by};
 ghost use Rattle.saveload.specs.Conversion.{AllNamed, Refuses};
-ghost use Rattle.saveload.specs.Saved.{IsRecord, IsSavedList, RefusesSave, all_marked};
+ghost use Rattle.saveload.specs.Saved.{IsRecord, IsSavedList, RefusesSave, all_marked, marked_read, marked_by};
 ghost use Rattle.saveload.specs.Closing.{marked_in, IsMentioned, MarksSome, RefusesAll, SavesAll};
 ghost use Rattle.saveload.specs.Marking.{MarksInTurn, MarksUntil};
 
@@ -30,9 +30,9 @@ pub fn serialize<M: Marker + Copy, P: SerializeComponents<M>>(
     markers: &ReadStorage<'_, M>,
 ) -> Result<Vec<EntityData<M, P::Data>>, SaveError>
     ensures saved { IfOk result (λ rs. IsSavedList P.conversion (λ e. found markers.now e) (λ e. P.values places.now e)
-        (all_marked (population (entities_read markers.now)) (slot_read markers.now)) rs.items) }
+        (marked_read markers.now) rs.items) }
     ensures refused { IfErr result (RefusesSave (λ e. found markers.now e) (λ e. P.conversion.references (P.values places.now e))
-        (all_marked (population (entities_read markers.now)) (slot_read markers.now))) }
+        (marked_read markers.now)) }
 {
     let list = marked(alloc, markers.fetched_entities(), markers.storage())?;
     save_list(alloc, places, markers, &list)
@@ -53,11 +53,11 @@ pub fn serialize_recursive<M: Marker + Copy, A: MarkerAllocator<M>, P: Serialize
     ensures entities { entities_of markers.new ≡ entities_of markers.old }
     ensures ok { IfOk result (λ rs. SavesAll P.conversion (λ e. found_by markers.new e) (λ e. P.values places.now e) (slot markers.old) (slot markers.new)
         (λ added. MarksInTurn M.id_of M.Identifier.eq A.MayBeNew A.mapping A.ids allocator.old (slot markers.old) added allocator.new (slot markers.new))
-        (all_marked (population (entities_of markers.old)) (slot markers.old)) rs.items) }
+        (marked_by markers.old) rs.items) }
     ensures marks { MarksSome (population (entities_of markers.old)) (IsMentioned (λ e. P.conversion.references (P.values places.now e))
-        (all_marked (population (entities_of markers.old)) (slot markers.old))) (slot markers.old) (slot markers.new) }
+        (marked_by markers.old)) (slot markers.old) (slot markers.new) }
     ensures refused { IfErr result (RefusesAll (population (entities_of markers.old)) (λ e. P.conversion.references (P.values places.now e))
-        (all_marked (population (entities_of markers.old)) (slot markers.old)) (slot markers.old) (slot markers.new)) }
+        (marked_by markers.old) (slot markers.old) (slot markers.new)) }
     ensures stops { OnErr result (MarksUntil M.id_of M.Identifier.eq A.MayBeNew A.mapping A.ids allocator.old (slot markers.old) allocator.new (slot markers.new)) }
     ensures used_up { result ≡ Err SaveError.IdsExhausted → A.ids allocator.new ≡ Some 0 }
     ensures drawn { result ≡ Err SaveError.IdTaken → A.ids allocator.new ≡ None }
@@ -107,7 +107,7 @@ fn save_list<M: Marker + Copy, P: SerializeComponents<M>>(
 }
 
 // Saves an entity, which is alive and has a marker.
-fn save_one<M: Marker + Copy, P: SerializeComponents<M>>(
+pub(crate) fn save_one<M: Marker + Copy, P: SerializeComponents<M>>(
     alloc: Global,
     places: &P,
     markers: &ReadStorage<'_, M>,

@@ -1,9 +1,9 @@
 //! Saved lists as texts.
 use crate::components::Position;
 use crate::worlds::{
-    NetMarker, Record, World, comes_true, is_linked, is_marked_now, is_placed, save,
+    NetMarker, Record, World, comes_true, is_linked, is_marked_now, is_placed, save, save_text,
 };
-use saveload::{LoadError, from_json, to_json};
+use saveload::{LoadError, SaveError, from_json, to_json};
 use std::alloc::Global;
 use std::process::Abort;
 use std::test::Fail;
@@ -44,6 +44,24 @@ fn two_saved(world: &mut World) -> Result<bool, Fail> {
 #[test]
 fn a_saved_list_is_written_compactly(rt: HostRuntime) -> Result<(), Fail> {
     assert!(rt; comes_true(rt.alloc(), 2, two_saved)?);
+    Ok(())
+}
+
+// The same, written a record at a time; an entity without a marker that is referred to is refused.
+fn two_written(world: &mut World) -> Result<bool, Fail> {
+    let empty = save_text(world).ok().ok_or("not saved")?;
+    let marked = is_marked_now(world, 0) && is_marked_now(world, 1);
+    let linked = is_linked(world, 0, 1) && is_linked(world, 1, 0) && is_placed(world, 0, 5);
+    let text = save_text(world).ok().ok_or("not saved")?;
+    let stray = is_linked(world, 1, 2);
+    let third = world.entities.entity(2);
+    let refused = matches!(save_text(world), Err(SaveError::Unmarked(e)) if e == third);
+    Ok(empty.as_str() == "[]" && marked && linked && text.as_str() == TWO && stray && refused)
+}
+
+#[test]
+fn a_save_is_written_a_record_at_a_time(rt: HostRuntime) -> Result<(), Fail> {
+    assert!(rt; comes_true(rt.alloc(), 3, two_written)?);
     Ok(())
 }
 

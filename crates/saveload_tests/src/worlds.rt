@@ -4,6 +4,7 @@ use entities::{EntitiesRes, Entity};
 use saveload::{
     EntityData, LoadError, MarkError, Marker, MarkerAllocator, SaveError, SimpleMarker,
     SimpleMarkerAllocator, WithMarker, deserialize, serialize, serialize_recursive,
+    serialize_to_json,
 };
 use std::alloc::Global;
 use std::test::Fail;
@@ -202,6 +203,16 @@ pub fn save(world: &World) -> Result<Vec<Record>, SaveError> {
     );
     let markers = ReadStorage::new(&world.entities, &world.markers);
     serialize(world.alloc, &places, &markers)
+}
+
+/// Saves them as a text.
+pub fn save_text(world: &World) -> Result<String, SaveError> {
+    let places = (
+        ReadStorage::new(&world.entities, &world.positions),
+        ReadStorage::new(&world.entities, &world.links),
+    );
+    let markers = ReadStorage::new(&world.entities, &world.markers);
+    serialize_to_json(world.alloc, &places, &markers)
 }
 
 /// Saves them and what they lead to.

@@ -1,5 +1,6 @@
 -- What jobs do, one by one and one after another.
 use Rattle.std.specs.Prelude.{◌≡◌, ◌≢◌, ℕ, zero, suc, ◌+◌, ◌≤◌, ◌<◌, Bool, true, false, ◌⊎◌, if◌then◌else◌, List, [], ◌∷◌, ◌++◌, Option, Some, None, MatchOption}
+use Rattle.std.specs.Global.{Vec}
 use Rattle.entities.specs.declared.entity.Entity.{Entity}
 use Rattle.specs.specs.declared.command.Refusal.{Refusal}
 use Rattle.specs.specs.declared.command.Refusal.TheVariants.{OutOfMemory}
@@ -42,6 +43,10 @@ pub record KeepsRest {K V : Type 0} (place : V → K) (old : State K V) (pairs :
   pub inserted : InsertsAll place old done refused new
   pub wants : FirstWantsRoom place new kept
 
+-- insertions in order: all are done, or the rest of them is kept where one finds no memory
+abbrev pub InsertsOrKeeps : {K V : Type 0} → (V → K) → State K V → List (Entity × V) → ℕ → Option (Vec (Entity × V)) → State K V → Type 0
+InsertsOrKeeps place old pairs refused rest new = MatchOption rest (InsertsAll place old pairs refused new) (λ r. KeepsRest place old pairs refused r.items new)
+
 -- a removal, or nothing where the slot is not registered
 abbrev pub RemoveStep : {K V : Type 0} → State K V → K → Entity → State K V → Type 0
 RemoveStep {K} {V} old slot e new = MatchOption (old.table slot) (new ≡ old) (λ _. (found : Option V) × RemovesAlone slot e found old new)
@@ -73,6 +78,12 @@ module _ {S J K V : Type 0} (place : V → K) (marks : K → Bool) (does : J →
   JobStops old (Mark slot e) refused kept new = (kept ≡ Mark slot e) × (refused ≡ 0) × MarkWantsRoom marks old slot e × (new ≡ old)
   JobStops old (Own j) refused kept new = (kept ≡ Own j) × (refused ≡ 0) × (new ≡ old)
   JobStops old job refused kept new = ⊥
+
+  -- a job is done, and the further ones that it queues come at the queue's end; or it finds no memory, and what is kept of it
+  abbrev pub DoesOrKeeps : State K V → Job S J K V → ℕ → Option (Job S J K V) → State K V → List (Job S J K V) → List (Job S J K V) → Type 0
+  DoesOrKeeps old job refused kept new queue queue' = MatchOption kept
+      ((more : List (Job S J K V)) × (queue' ≡ queue ++ more) × JobStep old job refused more new)
+      (λ k. (queue' ≡ queue) × JobStops old job refused k new)
 
   -- n jobs, each taken from the front, with the further ones put at the end
   abbrev pub Ran : ℕ → ℕ → State K V → List (Job S J K V) → State K V → List (Job S J K V) → Type 0

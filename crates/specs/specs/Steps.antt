@@ -1,6 +1,5 @@
 -- The world as a machine with a queue of jobs: its states, its steps and its runs.
 use Rattle.std.specs.Prelude.{◌≡◌, ℕ, Bool, List, [], ◌∷◌, ◌++◌, IsTrue, ◌↔◌, None, length}
-use Rattle.std.specs.Option.{option_to_list}
 use Rattle.entities.specs.Population.{born, born_pending, IsAlive, IsMerged}
 use Rattle.entities.specs.Merges.{the_marked}
 use Rattle.specs.specs.declared.command.Maintained.{Maintained}
@@ -15,7 +14,7 @@ use Rattle.specs.specs.declared.world.World.{World}
 use Rattle.specs.specs.Ids.{Ids}
 use Rattle.specs.specs.Jobs.{RunsJobs}
 use Rattle.specs.specs.People.{Births, BirthIsRefused, DeathIsRefused, Marks, MarkIsRefused, IsEntityAt, NoneMarked, NobodyLives, the_living}
-use Rattle.specs.specs.Queue.{queued}
+use Rattle.specs.specs.Queue.{to_come}
 use Rattle.specs.specs.Readers.{RegistersReader, RegisterReaderIsRefused, ReadsEvents, DropsReader, ReaderIsRefused, Switches, SwitchIsRefused}
 use Rattle.specs.specs.Sets.{SelectIsRefused}
 use Rattle.specs.specs.State.{State, state_of, OnPeople, OnTable, InsertsAlone, RemovesAlone, Deletes, Selects, DeletionWantsMemory, merged}
@@ -28,7 +27,7 @@ pub record WorldState (S J K V : Type 0) : Type 0 where
 
 -- what a world shows: a job that found no memory is the first of those that wait
 abbrev pub world_state : {S J K V : Type 0} → (S → Table K V) → (S → Ids K) → World S J K V → WorldState S J K V
-world_state table ids w = record { core = state_of table ids w; jobs = option_to_list w.kept ++ queued w.parts.lazy }
+world_state table ids w = record { core = state_of table ids w; jobs = to_come w.kept w.parts.lazy }
 
 -- only entities and components changed
 pub record OnCore {S J K V : Type 0} (change : State K V → State K V → Type 0) (old new : WorldState S J K V) : Type 0 where

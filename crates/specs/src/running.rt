@@ -1,10 +1,8 @@
 //! Runs jobs.
-ghost use Rattle.std.specs.Prelude.{◌≡◌, ℕ, [], ◌≤◌, ◌^◌, ◌*◌, ◌+◌, ◌++◌, ◌∷◌, List, Bool, None, IfOk, IfErr, OnOk, OnErr, IfSome, IfNone, MatchOption, length, is_some};
-ghost use Rattle.std.specs.Option.{option_to_list};
-ghost use Rattle.std.specs.Vec.{vec_len};
+ghost use Rattle.std.specs.Prelude.{◌≡◌, [], ◌∷◌, None, IfOk, IfErr, OnOk, OnErr, IfSome, IfNone};
 ghost use Rattle.specs.specs.State.{core_state};
-ghost use Rattle.specs.specs.Queue.{queued};
-ghost use Rattle.specs.specs.Jobs.{InsertStep, InsertWantsRoom, InsertsAll, KeepsRest, RemoveStep, MarkStep, MarkWantsRoom, count_of, JobStep, JobStops, RunsJobs};
+ghost use Rattle.specs.specs.Queue.{queued, to_come};
+ghost use Rattle.specs.specs.Jobs.{InsertStep, InsertWantsRoom, InsertsOrKeeps, RemoveStep, MarkStep, MarkWantsRoom, count_of, DoesOrKeeps, RunsJobs};
 ghost use Rattle.specs.specs.Table.{RemovalWantsMemory};
 ghost use Rattle.specs.specs.declared.job.Job.{Job};
 
@@ -57,9 +55,7 @@ fn insert_one<S: Storages>(core: &mut Core<S>, e: Entity, value: S::Value) -> Re
 
 /// Insertions in order.
 fn insert_all<S: Storages>(core: &mut Core<S>, pairs: Vec<(Entity, S::Value)>) -> Inserted<S::Value>
-    ensures done { MatchOption result.rest
-        (InsertsAll S.place (core_state S.table S.ids core.old) pairs.items result.refused (core_state S.table S.ids core.new))
-        (λ rest. KeepsRest S.place (core_state S.table S.ids core.old) pairs.items result.refused rest.items (core_state S.table S.ids core.new)) }
+    ensures done { InsertsOrKeeps S.place (core_state S.table S.ids core.old) pairs.items result.refused result.rest (core_state S.table S.ids core.new) }
 {
     let mut left = VecDeque::from_vec(pairs);
     let mut refused = 0;
@@ -126,10 +122,8 @@ pub(crate) fn run_one<S: Storages, J: WorldJob<S>>(
     queue: &mut LazyUpdate<S, J>,
     job: Job<S, J>,
 ) -> Outcome<S, J>
-    ensures done { MatchOption result.kept
-        ((more : List (Job S J S.Slot S.Value)) × (queued queue.new ≡ queued queue.old ++ more) ×
-        JobStep S.place S.marks J.does (core_state S.table S.ids core.old) job result.refused more (core_state S.table S.ids core.new))
-        (λ kept. (queued queue.new ≡ queued queue.old) × JobStops S.place S.marks J.does (core_state S.table S.ids core.old) job result.refused kept (core_state S.table S.ids core.new)) }
+    ensures done { DoesOrKeeps S.place S.marks J.does (core_state S.table S.ids core.old) job result.refused result.kept (core_state S.table S.ids core.new)
+        (queued queue.old) (queued queue.new) }
 {
     match job {
         Job::Insert(e, value) => match insert_one(core, e, value) {
@@ -193,8 +187,8 @@ fn next<S: Storages, J: Drop>(
     first: &mut Option<Job<S, J>>,
     queue: &mut LazyUpdate<S, J>,
 ) -> Option<Job<S, J>>
-    ensures taken { IfSome result (λ job. option_to_list first.old ++ queued queue.old ≡ job ∷ queued queue.new) }
-    ensures none { IfNone result (option_to_list first.old ++ queued queue.old ≡ queued queue.new) }
+    ensures taken { IfSome result (λ job. to_come first.old queue.old ≡ job ∷ queued queue.new) }
+    ensures none { IfNone result (to_come first.old queue.old ≡ queued queue.new) }
     ensures empty { IfNone result (queued queue.new ≡ []) }
     ensures first { first.new ≡ None }
 {
@@ -213,8 +207,7 @@ pub(crate) fn run_jobs<S: Storages, J: WorldJob<S>>(
     limit: u64,
 ) -> Ending
     ensures { RunsJobs S.place S.marks J.does result.stopped limit result.ran result.refused
-        (core_state S.table S.ids core.old) (option_to_list first.old ++ queued queue.old)
-        (core_state S.table S.ids core.new) (option_to_list first.new ++ queued queue.new) }
+        (core_state S.table S.ids core.old) (to_come first.old queue.old) (core_state S.table S.ids core.new) (to_come first.new queue.new) }
 {
     let mut ran = 0;
     let mut refused: u128 = 0;

@@ -3,7 +3,7 @@ use crate::parse::Saving;
 use crate::printed::write_entity;
 use composed::{Both, Sole};
 use saveload::{
-    LoadError, SaveError, deserialize, from_json, serialize, serialize_recursive, to_json,
+    LoadError, SaveError, deserialize, from_json, serialize_recursive, serialize_to_json, to_json,
 };
 use slots::{Label, SavedSlots};
 use specs::{EntitiesRes, Entity, MarkError, Refusal, Storages};
@@ -170,8 +170,8 @@ fn save(alloc: Global, entities: &EntitiesRes, saved: &SavedSlots) -> Result<Str
         ReadStorage::new(entities, positions),
         ReadStorage::new(entities, links),
     );
-    let list = serialize(alloc, &places, &ReadStorage::new(entities, labels))?;
-    Ok(to_json(alloc, &list)?)
+    let markers = ReadStorage::new(entities, labels);
+    Ok(serialize_to_json(alloc, &places, &markers)?)
 }
 
 /// The text of the entities that have labels, and of those that they lead to, which get labels.

@@ -1,8 +1,9 @@
 //! The walk of a cursor.
-ghost use Rattle.std.specs.Prelude.{◌≡◌, ℕ, Bool, ◌&&◌, ◌+◌, ◌<◌, ◌≤◌, true, false, IfSome, [], ◌∷◌, MatchOption, is_some, not};
+ghost use Rattle.std.specs.Prelude.{◌≡◌, ℕ, Bool, ◌&&◌, ◌+◌, ◌<◌, ◌≤◌, true, false, IfSome, is_some, not};
 ghost use Rattle.std.specs.Option.{ForSome};
 ghost use Rattle.hibits.specs.Left.{left};
 ghost use Rattle.hibits.specs.WalkOf.{IsWalkOf, position};
+ghost use Rattle.joins.specs.Next.{StepsTo};
 
 use crate::join::Join;
 use hibits::{BitSetAnd, INDEX_LIMIT, Index, Layers, Reads, Walk};
@@ -69,10 +70,7 @@ impl<J: Join> Steps<J> {
     pub(crate) fn next<M: Layers>(&mut self, own: &M) -> Option<Index>
         requires { IsWalkOf (λ l i. M.has own.now l i && J.Mask.has self.old.mask l i) 0 self.old.walk }
         ensures walk { IsWalkOf (λ l i. M.has own.now l i && J.Mask.has self.old.mask l i) 0 self.new.walk }
-        ensures items { MatchOption result
-            (left (λ i. M.has own.now 0 i && J.Mask.has self.old.mask 0 i) (position self.old.walk) ≡ [])
-            (λ i. left (λ i. M.has own.now 0 i && J.Mask.has self.old.mask 0 i) (position self.old.walk)
-            ≡ i ∷ left (λ i. M.has own.now 0 i && J.Mask.has self.old.mask 0 i) (position self.new.walk)) }
+        ensures items { StepsTo (λ i. M.has own.now 0 i && J.Mask.has self.old.mask 0 i) (position self.old.walk) (position self.new.walk) result }
         ensures member { IfSome result (λ i. M.has own.now 0 i ≡ true) }
         ensures below { IfSome result (λ i. i < INDEX_LIMIT) }
         ensures forward { position self.old.walk ≤ position self.new.walk }

@@ -11,14 +11,14 @@ use Rattle.saveload.proofs.Stopped.{naming_refused, stops_first, stops_later}
 use Rattle.saveload.proofs.Named.{named_entity, names_alive, all_alive, alive_true, living_born_in, has_map}
 use Rattle.saveload.proofs.load.load_record.Goals as goal
 
-pub returns-in_err-entity-clause-loans : goal.returns-in_err-entity-clause-loans
-returns-in_err-entity-clause-loans g c = g.met.P.DeserializeComponents.loans_self c.args.masked.now
+pub returns-in_err-entity-clause-changes : goal.returns-in_err-entity-clause-changes
+returns-in_err-entity-clause-changes g c = g.met.P.DeserializeComponents.changes_self c.args.masked.now
 
-pub returns-in_err-mentioned-clause-loans : goal.returns-in_err-mentioned-clause-loans
-returns-in_err-mentioned-clause-loans g c = g.met.P.DeserializeComponents.loans_self c.args.masked.now
+pub returns-in_err-mentioned-clause-changes : goal.returns-in_err-mentioned-clause-changes
+returns-in_err-mentioned-clause-changes g c = g.met.P.DeserializeComponents.changes_self c.args.masked.now
 
-pub returns-in_err-name_all-clause-loans : goal.returns-in_err-name_all-clause-loans
-returns-in_err-name_all-clause-loans g c = g.met.P.DeserializeComponents.loans_self c.args.masked.now
+pub returns-in_err-name_all-clause-changes : goal.returns-in_err-name_all-clause-changes
+returns-in_err-name_all-clause-changes g c = g.met.P.DeserializeComponents.changes_self c.args.masked.now
 
 pub returns-clause-loaded : goal.returns-clause-loaded
 returns-clause-loaded g c =

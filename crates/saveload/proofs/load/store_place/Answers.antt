@@ -2,6 +2,7 @@ use Rattle.std.proofs.Common.{rules, ◌≡◌, ap, ◌∙◌, Some}
 use Rattle.std.specs.Prelude.{Err}
 use Rattle.entities.specs.Population.{index_of}
 use Rattle.saveload.specs.Loads.{column, row_put}
+use Rattle.saveload.specs.Told.IsTold.{start}
 use Rattle.saveload.proofs.Rows.{column-insert, taken}
 use Rattle.saveload.proofs.load.store_place.Goals as goal
 
@@ -19,3 +20,6 @@ returns-in_err-value-in-Some-clause-refused g c = rw c.in-Some.is (λ f gives.
 pub returns-in_ok-take_out-in-None-clause-stored : goal.returns-in_ok-take_out-in-None-clause-stored
 returns-in_ok-take_out-in-None-clause-stored g c = rw c.in-None.is (λ alive f gives.
     taken _ c.args.masked.now c.take_out.new.masked (index_of c.args.entity) alive c.in_ok-take_out-in-None.ensures.present c.in_ok-take_out-in-None.ensures.absent)
+
+pub returns-in_err-value-in-Some-clause-told : goal.returns-in_err-value-in-Some-clause-told
+returns-in_err-value-in-Some-clause-told g c = start

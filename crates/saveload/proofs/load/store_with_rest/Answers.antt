@@ -38,5 +38,5 @@ pub returns-clause-dead : goal.returns-clause-dead
 returns-clause-dead g c dead =
     same_two (column c.args.first.now) (column c.store_place.new.masked) (g.R.DeserializeComponents.rows c.args.rest.now) (g.R.DeserializeComponents.rows c.deserialize_entity.new.self) (c.in_ok-store_place.ensures.dead dead) (c.deserialize_entity.ensures.dead dead)
 
-pub returns-in_err-store_place-clause-loans : goal.returns-in_err-store_place-clause-loans
-returns-in_err-store_place-clause-loans g c = g.met.R.DeserializeComponents.loans_self c.args.rest.now
+pub returns-in_err-store_place-clause-changes : goal.returns-in_err-store_place-clause-changes
+returns-in_err-store_place-clause-changes g c = g.met.R.DeserializeComponents.changes_self c.args.rest.now

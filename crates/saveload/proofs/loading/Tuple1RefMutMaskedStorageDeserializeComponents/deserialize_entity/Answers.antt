@@ -32,3 +32,9 @@ returns-in_err-store_place-clause-dead g c dead =
 pub returns-clause-dead : goal.returns-clause-dead
 returns-clause-dead g c dead =
     same_one (column c.args.self.now.0.now) (column c.store_place.new.masked) (c.in_ok-store_place.ensures.dead dead)
+
+pub returns-clause-changes : goal.returns-clause-changes
+returns-clause-changes g c = record { loan = refl; told = c.in_ok-store_place.ensures.told }
+
+pub returns-in_err-store_place-clause-changes : goal.returns-in_err-store_place-clause-changes
+returns-in_err-store_place-clause-changes g c = record { loan = refl; told = c.in_err-store_place.ensures.told }

@@ -2,6 +2,7 @@ use Rattle.std.proofs.Common.{rules, ◌≡◌, refl, inl, inr}
 use Rattle.std.specs.Prelude.{Err}
 use Rattle.saveload.specs.Places.{place, has_left, has_right}
 use Rattle.saveload.specs.Loads.{column}
+use Rattle.saveload.specs.Told.IsTold.{start}
 use Rattle.saveload.proofs.Putting.{put_two, same_two, put_same}
 use Rattle.saveload.proofs.Rows.{on_err}
 use Rattle.entities.specs.Population.{index_of}
@@ -62,3 +63,12 @@ returns-in_err-store_place-2-clause-dead g c dead =
 pub returns-clause-dead : goal.returns-clause-dead
 returns-clause-dead g c dead =
     same_two (column c.args.self.now.0.now) (column c.store_place.new.masked) (column c.args.self.now.1.now) (column c.store_place-2.new.masked) (c.in_ok-store_place.ensures.dead dead) (c.in_ok-store_place-2.ensures.dead dead)
+
+pub returns-in_err-store_place-clause-changes : goal.returns-in_err-store_place-clause-changes
+returns-in_err-store_place-clause-changes g c = (record { loan = refl; told = c.in_err-store_place.ensures.told }, record { loan = refl; told = start })
+
+pub returns-in_err-store_place-2-clause-changes : goal.returns-in_err-store_place-2-clause-changes
+returns-in_err-store_place-2-clause-changes g c = (record { loan = refl; told = c.in_ok-store_place.ensures.told }, record { loan = refl; told = c.in_err-store_place-2.ensures.told })
+
+pub returns-clause-changes : goal.returns-clause-changes
+returns-clause-changes g c = (record { loan = refl; told = c.in_ok-store_place.ensures.told }, record { loan = refl; told = c.in_ok-store_place-2.ensures.told })

@@ -5,8 +5,8 @@ use Rattle.saveload.specs.Tuples.{four, three_places}
 use Rattle.saveload.proofs.Resting.{put_along, some_along, same_along}
 use Rattle.saveload.proofs.loading.Tuple4RefMutMaskedStorageRefMutMaskedStorageRefMutMaskedStorageRefMutMaskedStorageDeserializeComponents.deserialize_entity.Goals as goal
 
-pub returns-clause-loans : goal.returns-clause-loans
-returns-clause-loans g c = (refl, refl, refl, refl)
+pub returns-clause-changes : goal.returns-clause-changes
+returns-clause-changes g c = (record { loan = refl; told = c.store_with_rest.ensures.told }, record { loan = refl; told = c.store_with_rest.ensures.changes.0.told }, record { loan = refl; told = c.store_with_rest.ensures.changes.1.told }, record { loan = refl; told = c.store_with_rest.ensures.changes.2.told })
 
 pub returns-clause-rows : goal.returns-clause-rows
 returns-clause-rows g c alive =

@@ -1,0 +1,11 @@
+-- The step of a walk to its next index.
+use Rattle.std.specs.Prelude.{◌≡◌, ℕ, Bool, [], ◌∷◌, Option, MatchOption}
+use Rattle.hibits.specs.Left.{left}
+
+-- the walk goes from a place to behind the next index, or nothing is left from there on
+abbrev pub StepsTo : (ℕ → Bool) → ℕ → ℕ → Option ℕ → Type 0
+StepsTo has from to found = MatchOption found (left has from ≡ []) (λ i. left has from ≡ i ∷ left has to)
+
+-- the same, with what is given at that index
+abbrev pub GivesNext : {R : Type 0} → (ℕ → Bool) → (ℕ → R → Type 0) → ℕ → ℕ → Option R → Type 0
+GivesNext has gives from to found = MatchOption found (left has from ≡ []) (λ r. (i : ℕ) × (left has from ≡ i ∷ left has to) × gives i r)

@@ -1,0 +1,28 @@
+-- What insertions and removals tell.
+use Rattle.std.proofs.Common.{◌≡◌, ℕ, Bool, true, Option, Some, None, refl, sym, ap, subst}
+use Rattle.std.specs.Prelude.{IsSome, is_some, cond, Result, Ok, Err, OnOk, OnErr}
+use Rattle.std.specs.FinMap as finmap
+use Rattle.entities.specs.Census.{Census, population}
+use Rattle.entities.specs.Population.{index_of}
+use Rattle.entities.specs.declared.entity.Entity.{Entity}
+use Rattle.storages.specs.Life.{is_alive}
+use Rattle.storages.specs.Found.{found_in}
+use Rattle.storages.specs.Slot.{Slot, IsSame, Puts, Takes}
+use Rattle.saveload.specs.Told.{IsTold}
+use Rattle.saveload.specs.Told.IsTold.{start, same, put, taken}
+
+module _ {T : Type 0} where
+  pub same_told : (s u : Slot T) → IsSame s u → IsTold s u
+  same_told s u e = same s u start e
+
+  pub put_told : (c : Census) (s u : Slot T) (e : Entity) (x : T) → is_alive (population c) e ≡ true → Puts s u (index_of e) x (is_some (found_in c s e)) → IsTold s u
+  put_told c s u e x alive p =
+      put s u (index_of e) x start (subst (λ b. Puts s u (index_of e) x b) (ap (λ b. is_some (cond b (finmap.get s.map (index_of e)) None)) alive) p)
+
+  taken_told : (s u : Slot T) (i : ℕ) (o : Option T) → (IsSome o → Takes s u i) → (o ≡ None → u ≡ s) → IsTold s u
+  taken_told s u i (Some x) t n = taken s u i start (t refl)
+  taken_told s u i None t n = subst (IsTold s) (sym (n refl)) start
+
+  pub removal_told : {E : Type 0} (s u : Slot T) (i : ℕ) (o : Option T) (r : Result (Option T) E) → OnOk r (IsSome o → Takes s u i) → OnErr r (IsSame s u) → (o ≡ None → (r ≡ Ok None) × (u ≡ s)) → IsTold s u
+  removal_told s u i o (Ok x) t e n = taken_told s u i o t (λ h. (n h).1)
+  removal_told s u i o (Err x) t e n = same_told s u e
