@@ -18,8 +18,8 @@ def at(ratio):
     return LEFT + WIDTH * math.log2(min(max(ratio, LEAST), MOST) / LEAST) / math.log2(MOST / LEAST)
 
 
-def text(x, y, words, anchor="start", size=12, weight="normal"):
-    return f'<text x="{x:.1f}" y="{y:.1f}" font-size="{size}" font-weight="{weight}" text-anchor="{anchor}">{words}</text>'
+def text(x, y, words, anchor="start", size=12, weight="normal", fill="black"):
+    return f'<text x="{x:.1f}" y="{y:.1f}" font-size="{size}" font-weight="{weight}" text-anchor="{anchor}" fill="{fill}">{words}</text>'
 
 
 def picture(rows):
@@ -35,7 +35,13 @@ def picture(rows):
         y, x, one = TOP + STEP * number, at(ratio), at(1.0)
         told.append(text(LEFT - 10, y + 13, name, "end"))
         told.append(f'<rect x="{min(x, one):.1f}" y="{y + 3}" width="{abs(x - one):.1f}" height="{STEP - 5}" fill="{"#2a7f62" if ratio <= 1 else "#b5482f"}"/>')
-        told.append(text(max(x, one) + 6 if ratio > 1 else min(x, one) - 6, y + 13, f"{ratio:.2f}", "start" if ratio > 1 else "end"))
+        if ratio > 1:
+            told.append(text(x + 6, y + 13, f"{ratio:.2f}"))
+        elif ratio > LEAST:
+            told.append(text(x - 6, y + 13, f"{ratio:.2f}", "end"))
+        else:
+            # Left of the scale: the number stands in the bar.
+            told.append(text(x + 6, y + 13, f"{ratio:.2f}", fill="white"))
     return "\n".join([*told, "</svg>", ""])
 
 
