@@ -19,3 +19,4 @@ pub mod Resting
 pub mod Turns
 pub mod Writing
 pub mod Telling
+pub mod Giving

@@ -6,7 +6,7 @@ use Rattle.std.proofs.lemmas.Option.{same_Some}
 use Rattle.entities.specs.declared.entity.Entity.{Entity}
 use Rattle.entities.specs.Population.{IsAlive, MayBeBorn, born_pending, lives, index_of, generation_of}
 use Rattle.saveload.specs.Conversion.{Has}
-use Rattle.saveload.specs.Naming.{Naming, Knows, Names, NamesAll, put_id, put_at}
+use Rattle.saveload.specs.Naming.{Naming, Knows, Names, NamesAll, once_given, put_id, put_at}
 use Rattle.saveload.proofs.Named.{IsExact, LivingBorn, fresh, living_born}
 
 pub entity_same : (a b : Entity) → index_of a ≡ index_of b → generation_of a ≡ generation_of b → a ≡ b
@@ -35,7 +35,7 @@ module _ {I : Type 0} (eq : I → I → Bool) (w : IsExact eq) where
   cases_id a b = elim (cases_Bool (eq a b)) [ inl t ↦ inl ((w a b).0 t) | inr f ↦ inr (λ e. false≢true (sym f ∙ eq_id a b e)) ]
 
   abbrev after : Naming I → I → Entity → Naming I
-  after s id e = record { people = born_pending s.people (index_of e); mapping = put_id eq s.mapping id e; markers = put_at s.markers (index_of e) id }
+  after s id e = record { people = born_pending s.people (index_of e); mapping = put_id eq s.mapping id e; left = once_given s.left id; markers = put_at s.markers (index_of e) id }
 
   left_true : (b c : Bool) → b ≡ true → (c || b) ≡ true
   left_true b true e = refl
@@ -105,15 +105,17 @@ module _ {I : Type 0} (eq : I → I → Bool) (w : IsExact eq) where
         | inr d ↦ inl (rw (ne_id id q d) at m)
       ]
 
-  naming_same : (a b : Naming I) → a.people ≡ b.people → a.mapping ≡ b.mapping → a.markers ≡ b.markers → a ≡ b
-  naming_same a b p m k = ap (λ x. record { people = x; mapping = a.mapping; markers = a.markers }) p ∙ ap (λ x. record { people = b.people; mapping = x; markers = a.markers }) m ∙ ap (λ x. record { people = b.people; mapping = b.mapping; markers = x }) k
+  naming_same : (a b : Naming I) → a.people ≡ b.people → a.mapping ≡ b.mapping → a.left ≡ b.left → a.markers ≡ b.markers → a ≡ b
+  naming_same a b p m l k =
+      ap (λ x. record { people = x; mapping = a.mapping; left = a.left; markers = a.markers }) p ∙ ap (λ x. record { people = b.people; mapping = x; left = a.left; markers = a.markers }) m
+      ∙ ap (λ x. record { people = b.people; mapping = b.mapping; left = x; markers = a.markers }) l ∙ ap (λ x. record { people = b.people; mapping = b.mapping; left = b.left; markers = x }) k
 
   there : (old : Naming I) (id : I) (e : Entity) → IsSound old → Knows old id e → IsNamed old id e old
   there old id e s k = record { sound = s; grows = λ q f m. m; mapped = k.mapped; only = λ q f m. inl m }
 
   pub names : (old : Naming I) (id : I) (e : Entity) (new : Naming I) → IsSound old → Names eq old id e new → IsNamed old id e new
   names old id e new s (inl k) = subst (IsNamed old id e) (sym k.1) (there old id e s k.0)
-  names old id e new s (inr m) = subst (IsNamed old id e) (sym (naming_same new (after old id e) m.people m.mapping m.markers)) (made old id e s m.unknown m.may m.generation)
+  names old id e new s (inr m) = subst (IsNamed old id e) (sym (naming_same new (after old id e) m.people m.mapping m.left m.markers)) (made old id e s m.unknown m.may m.generation)
 
   pub record AreNamed (old : Naming I) (ids : List I) (new : Naming I) : Type 0 where
     pub sound : IsSound new

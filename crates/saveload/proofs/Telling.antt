@@ -1,13 +1,15 @@
 -- What insertions and removals tell.
-use Rattle.std.proofs.Common.{◌≡◌, ℕ, Bool, true, Option, Some, None, refl, sym, ap, subst}
-use Rattle.std.specs.Prelude.{IsSome, is_some, cond, Result, Ok, Err, OnOk, OnErr}
+use Rattle.std.proofs.Common.{◌≡◌, ℕ, true, Option, Some, None, refl, sym, ap, subst}
+use Rattle.std.specs.Prelude.{IsSome, is_some, option_map, cond, Result, Ok, Err, OnOk, OnErr}
 use Rattle.std.specs.FinMap as finmap
+use Rattle.std.proofs.lemmas.Bool.{false≢true}
 use Rattle.entities.specs.Census.{Census, population}
 use Rattle.entities.specs.Population.{index_of}
 use Rattle.entities.specs.declared.entity.Entity.{Entity}
 use Rattle.storages.specs.Life.{is_alive}
 use Rattle.storages.specs.Found.{found_in}
 use Rattle.storages.specs.Slot.{Slot, IsSame, Puts, Takes}
+use Rattle.saveload.specs.Naming.{ids_in}
 use Rattle.saveload.specs.Told.{IsTold}
 use Rattle.saveload.specs.Told.IsTold.{start, same, put, taken}
 
@@ -26,3 +28,11 @@ module _ {T : Type 0} where
   pub removal_told : {E : Type 0} (s u : Slot T) (i : ℕ) (o : Option T) (r : Result (Option T) E) → OnOk r (IsSome o → Takes s u i) → OnErr r (IsSame s u) → (o ≡ None → (r ≡ Ok None) × (u ≡ s)) → IsTold s u
   removal_told s u i o (Ok x) t e n = taken_told s u i o t (λ h. (n h).1)
   removal_told s u i o (Err x) t e n = same_told s u e
+
+  shown : {I : Type 0} (id_of : T → I) (o : Option T) (id : I) → option_map id_of o ≡ Some id → is_some o ≡ true
+  shown id_of (Some x) id e = refl
+  shown id_of None id e = absurd (false≢true (ap is_some e))
+
+  -- a write to a component that is there
+  pub written_told : {I : Type 0} (id_of : T → I) (s u : Slot T) (i : ℕ) (x : T) (id : I) → ids_in id_of s i ≡ Some id → Puts s u i x true → IsTold s u
+  written_told id_of s u i x id there p = put s u i x start (subst (λ b. Puts s u i x b) (sym (shown id_of (finmap.get s.map i) id there)) p)

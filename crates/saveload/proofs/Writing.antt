@@ -6,7 +6,7 @@ use Rattle.entities.specs.declared.entity.Entity.{Entity}
 use Rattle.saveload.specs.declared.entity_data.EntityData.{EntityData}
 use Rattle.saveload.specs.Conversion.{Conversion}
 use Rattle.saveload.specs.Saved.{IsRecord, IsSavedList}
-use Rattle.saveload.specs.Json.{AllRead, Writes, WritesSome, record_json, record_from, list_json, list_from}
+use Rattle.saveload.specs.Json.{AllRead, Writes, WritesSome, record_json, record_from}
 use Rattle.saveload.proofs.Kept.{something, records_text, write_more, write_all}
 use Rattle.saveload.proofs.Saving.{saved_more}
 

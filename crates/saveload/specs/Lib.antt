@@ -13,6 +13,7 @@ pub mod Loads
 pub mod Stops
 pub mod Law
 pub mod Told
+pub mod Giving
 pub mod Json
 pub mod JsonNumbers
 pub mod Wrapped

@@ -23,8 +23,8 @@ pub record Loading (I V : Type 0) : Type 0 where
   pub rows : ℕ → V
 
 -- what a load reads and changes, of its parts
-abbrev pub loading : {M I V A P : Type 0} → (M → I) → (A → I → Option Entity) → (P → ℕ → V) → Census → A → Slot M → P → Loading I V
-loading id_of mapping rows entities allocator markers masked = record { naming = naming id_of entities (mapping allocator) markers; rows = rows masked }
+abbrev pub loading : {M I V A P : Type 0} → (M → I) → (A → I → Option Entity) → (A → List I → Option ℕ) → (P → ℕ → V) → Census → A → Slot M → P → Loading I V
+loading id_of mapping left rows entities allocator markers masked = record { naming = naming id_of mapping left entities allocator markers; rows = rows masked }
 
 abbrev pub row_put : {V : Type 0} → (ℕ → V) → ℕ → V → ℕ → V
 row_put rows i v j = if i == j then v else rows j

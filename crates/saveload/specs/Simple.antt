@@ -1,5 +1,5 @@
 -- What a giver of numbers has given.
-use Rattle.std.specs.Prelude.{ℕ, ◌+◌, ◌-◌, ◌^◌, max, Option, Some, nat_eq}
+use Rattle.std.specs.Prelude.{◌≡◌, ℕ, ◌+◌, ◌-◌, ◌^◌, max, List, [], ◌∷◌, Option, Some, nat_eq}
 use Rattle.std.specs.HashMap as hash
 use Rattle.entities.specs.declared.entity.Entity.{Entity}
 use Rattle.saveload.specs.declared.simple.SimpleMarker.{SimpleMarker}
@@ -17,6 +17,11 @@ given a = hash.get nat_eq a.mapping
 abbrev pub numbers_from : ℕ → Option ℕ
 numbers_from next = Some (2 ^ 64 - next)
 
--- how many are left once this one was given from outside: none below it is new any more
-abbrev pub numbers_past : ℕ → ℕ → Option ℕ
-numbers_past next id = numbers_from (max next (id + 1))
+-- as many are left as from this number on, so it may come next
+abbrev pub comes_next : Option ℕ → ℕ → Type 0
+comes_next left id = left ≡ numbers_from id
+
+-- how many are left once these were given from outside: none below one of them is new any more
+abbrev pub numbers_past : ℕ → List ℕ → Option ℕ
+numbers_past next [] = numbers_from next
+numbers_past next (id ∷ ids) = numbers_past (max next (id + 1)) ids

@@ -32,6 +32,10 @@ given_uuids a = hash.get same_bytes a.mapping
 abbrev pub drawn_from : Stream → List ℕ
 drawn_from s = (v4_of_fill (fill_bytes 16 s)).0
 
+-- what a generator will answer after a draw
+abbrev pub after_draw : Stream → Stream
+after_draw s = (v4_of_fill (fill_bytes 16 s)).1
+
 -- a new identifier is the one drawn, and names nobody
 abbrev pub IsDrawn : (List ℕ → Option Entity) → Stream → List ℕ → Type 0
 IsDrawn mapping s id = (id ≡ drawn_from s) × (mapping id ≡ None)

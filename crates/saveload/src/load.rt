@@ -210,14 +210,15 @@ where
     M::Allocator: MarkerAllocator<M>,
     requires { (m n : M) → M.is_clone m n → m ≡ n }
     ensures changes { P.Changes masked.old masked.new }
+    ensures told { IsTold markers.old markers.new }
     ensures loaded { OnOk result (Loads M.id_of M.Identifier.eq P.conversion
-        (loading M.id_of M.Allocator.mapping P.rows entities.old allocator.old markers.old masked.old)
+        (loading M.id_of M.Allocator.mapping M.Allocator.ids_past P.rows entities.old allocator.old markers.old masked.old)
         list.items
-        (loading M.id_of M.Allocator.mapping P.rows entities.new allocator.new markers.new masked.new)) }
+        (loading M.id_of M.Allocator.mapping M.Allocator.ids_past P.rows entities.new allocator.new markers.new masked.new)) }
     ensures refused { IfErr result (λ e. Stops M.id_of M.Identifier.eq P.conversion P.Partly
-        (loading M.id_of M.Allocator.mapping P.rows entities.old allocator.old markers.old masked.old)
+        (loading M.id_of M.Allocator.mapping M.Allocator.ids_past P.rows entities.old allocator.old markers.old masked.old)
         list.items e
-        (loading M.id_of M.Allocator.mapping P.rows entities.new allocator.new markers.new masked.new)) }
+        (loading M.id_of M.Allocator.mapping M.Allocator.ids_past P.rows entities.new allocator.new markers.new masked.new)) }
 {
     for saved in list {
         load_record(alloc, masked, entities, markers, allocator, saved)?;
@@ -238,14 +239,15 @@ where
     M::Allocator: MarkerAllocator<M>,
     requires { (m n : M) → M.is_clone m n → m ≡ n }
     ensures changes { P.Changes masked.old masked.new }
+    ensures told { IsTold markers.old markers.new }
     ensures loaded { OnOk result (LoadsRecord M.id_of M.Identifier.eq P.conversion
-        (loading M.id_of M.Allocator.mapping P.rows entities.old allocator.old markers.old masked.old)
+        (loading M.id_of M.Allocator.mapping M.Allocator.ids_past P.rows entities.old allocator.old markers.old masked.old)
         saved
-        (loading M.id_of M.Allocator.mapping P.rows entities.new allocator.new markers.new masked.new)) }
+        (loading M.id_of M.Allocator.mapping M.Allocator.ids_past P.rows entities.new allocator.new markers.new masked.new)) }
     ensures refused { IfErr result (λ e. RefusesRecord M.id_of M.Identifier.eq P.conversion P.Partly
-        (loading M.id_of M.Allocator.mapping P.rows entities.old allocator.old markers.old masked.old)
+        (loading M.id_of M.Allocator.mapping M.Allocator.ids_past P.rows entities.old allocator.old markers.old masked.old)
         saved e
-        (loading M.id_of M.Allocator.mapping P.rows entities.new allocator.new markers.new masked.new)) }
+        (loading M.id_of M.Allocator.mapping M.Allocator.ids_past P.rows entities.new allocator.new markers.new masked.new)) }
 {
     let EntityData { marker, components } = saved;
     let entity = allocator.retrieve_entity(marker, markers, entities)?;
@@ -265,14 +267,15 @@ fn name_all<M: Marker>(
 ) -> Result<(), LoadError>
 where
     M::Allocator: MarkerAllocator<M>,
+    ensures told { IsTold markers.old markers.new }
     ensures named { OnOk result (NamesAll M.Identifier.eq
-        (naming M.id_of entities.old (M.Allocator.mapping allocator.old) markers.old)
+        (naming M.id_of M.Allocator.mapping M.Allocator.ids_past entities.old allocator.old markers.old)
         (map M.id_of mentioned.items)
-        (naming M.id_of entities.new (M.Allocator.mapping allocator.new) markers.new)) }
+        (naming M.id_of M.Allocator.mapping M.Allocator.ids_past entities.new allocator.new markers.new)) }
     ensures refused { IfErr result (λ e. StopsNaming M.Identifier.eq
-        (naming M.id_of entities.old (M.Allocator.mapping allocator.old) markers.old)
+        (naming M.id_of M.Allocator.mapping M.Allocator.ids_past entities.old allocator.old markers.old)
         (map M.id_of mentioned.items) e
-        (naming M.id_of entities.new (M.Allocator.mapping allocator.new) markers.new)) }
+        (naming M.id_of M.Allocator.mapping M.Allocator.ids_past entities.new allocator.new markers.new)) }
 {
     for m in mentioned {
         let _ = allocator.retrieve_entity(m, markers, entities)?;

@@ -1,5 +1,5 @@
 //! Markers, and what gives them their ids.
-ghost use Rattle.std.specs.Prelude.{◌≡◌, ◌↔◌, ◌⊎◌, true, false, ℕ, Option, Some, None, Ok, Err, IfOk, IfErr, OnOk, OnErr, IsTrue, is_some};
+ghost use Rattle.std.specs.Prelude.{◌≡◌, ◌↔◌, ◌⊎◌, true, false, ℕ, List, [], Option, Some, None, Ok, Err, IfSome, IfOk, IfErr, OnOk, OnErr, IsTrue, is_some};
 ghost use Rattle.entities.specs.declared.entity.Entity.{Entity};
 ghost use Rattle.entities.specs.Census.{population};
 ghost use Rattle.entities.specs.Population.{NoneFree, NoneUnused, IsAlive, mark, index_of};
@@ -7,8 +7,9 @@ ghost use Rattle.storages.specs.Life.{is_alive};
 ghost use Rattle.storages.specs.Limit.{IsIndex};
 ghost use Rattle.storages.specs.Slot.{IsSame};
 ghost use Rattle.storages.specs.WriteView.{slot, entities_of, found, storage_name};
-ghost use Rattle.saveload.specs.Naming.{naming, ids_in, Knows, Names, NamesNone, put_id, put_at};
+ghost use Rattle.saveload.specs.Naming.{naming, ids_in, Names, NamesNone, once_given, put_id, put_at};
 ghost use Rattle.saveload.specs.Remapping.{living_ids};
+ghost use Rattle.saveload.specs.Told.{IsTold};
 ghost use Rattle.saveload.specs.Marking.{MarksNew, IsOfIds, MayHaveGiven, TakesOne};
 
 use crate::mark_error::MarkError;
@@ -56,11 +57,18 @@ pub trait MarkerAllocator<M: Marker> {
     // Whether an id may be given as a new one.
     ghost MayBeNew: { Self → M.Identifier → Type 0 };
 
+    // Which ids a new one may be while so many are left.
+    ghost ComesNext: { Option ℕ → M.Identifier → Type 0 };
+
     // How many new ids are left, and none where that can't be told: ids that are drawn may turn out to be taken.
     ghost ids: { Self → Option ℕ };
 
-    // How many are left once this id was given from outside.
-    ghost ids_past: { Self → M.Identifier → Option ℕ };
+    // How many are left once these ids were given from outside, one after another.
+    ghost ids_past: { Self → List M.Identifier → Option ℕ };
+
+    ghost ids_now: { (a : Self) → ids_past a [] ≡ ids a };
+
+    ghost comes: { (a : Self) (id : M.Identifier) → MayBeNew a id → ComesNext (ids a) id };
 
     /// A marker of the given id, or of a new one, which is then mapped to the entity. A refusal leaves the map; for a given id
     /// it is want of memory.
@@ -72,8 +80,8 @@ pub trait MarkerAllocator<M: Marker> {
         ensures refused { IfErr result IsOfIds }
         ensures given_refused { (i : M.Identifier) → id ≡ Some i → IfErr result (λ e. e ≡ MarkError.OutOfMemory) }
         ensures takes { id ≡ None → OnOk result (TakesOne (ids self.old) (ids self.new)) }
-        ensures passes { (i : M.Identifier) → id ≡ Some i → OnOk result (ids self.new ≡ ids_past self.old i) }
-        ensures err_ids { OnErr result (ids self.new ≡ ids self.old) }
+        ensures passes { (i : M.Identifier) → id ≡ Some i → OnOk result (ids_past self.new ≡ once_given (ids_past self.old) i) }
+        ensures err_ids { OnErr result (ids_past self.new ≡ ids_past self.old) }
         ensures used_up { result ≡ Err MarkError.IdsExhausted → ids self.old ≡ Some 0 }
         ensures drawn { result ≡ Err MarkError.IdTaken → ids self.old ≡ None };
 
@@ -91,19 +99,15 @@ pub trait MarkerAllocator<M: Marker> {
         storage: &mut MaskedStorage<M>,
         entities: &mut EntitiesRes,
     ) -> Result<Entity, CreateError>
-        ensures named { IfOk result (λ e. Names M.Identifier.eq (naming M.id_of entities.old (mapping self.old) storage.old) (M.id_of marker) e (naming M.id_of entities.new (mapping self.new) storage.new)) }
-        ensures err { OnErr result (NamesNone M.Identifier.eq (naming M.id_of entities.old (mapping self.old) storage.old) (M.id_of marker) (naming M.id_of entities.new (mapping self.new) storage.new)) }
+        ensures named { IfOk result (λ e. Names M.Identifier.eq (naming M.id_of mapping ids_past entities.old self.old storage.old) (M.id_of marker) e (naming M.id_of mapping ids_past entities.new self.new storage.new)) }
+        ensures err { OnErr result (NamesNone M.Identifier.eq (naming M.id_of mapping ids_past entities.old self.old storage.old) (M.id_of marker) (naming M.id_of mapping ids_past entities.new self.new storage.new)) }
         ensures limit { result ≡ Err CreateError.IndexLimit → NoneFree (population entities.old) × NoneUnused (population entities.old) }
-        ensures known { IfOk result (λ e. Knows (naming M.id_of entities.old (mapping self.old) storage.old) (M.id_of marker) e → ids self.new ≡ ids self.old) }
-        ensures ids { (ids self.new ≡ ids self.old) ⊎ (ids self.new ≡ ids_past self.old (M.id_of marker)) }
-        ensures made { IfOk result (λ e. (Knows (naming M.id_of entities.old (mapping self.old) storage.old) (M.id_of marker) e → ⊥) → ids self.new ≡ ids_past self.old (M.id_of marker)) }
+        ensures told { IsTold storage.old storage.new }
     {
         let id = marker.id();
-        if let Some(known) = self.retrieve_entity_internal(id) {
-            if entities.is_alive(known) && is_marked_with(storage, known.id(), id) {
-                update_at(storage, known.id(), marker)?;
-                return Ok(known);
-            }
+        if let Some(known) = named_by(self.retrieve_entity_internal(id), entities, storage, id) {
+            update_at(storage, known.id(), marker)?;
+            return Ok(known);
         }
         let made = entities.create()?;
         if self.allocate(made, Some(id)).is_err() {
@@ -125,7 +129,7 @@ pub trait MarkerAllocator<M: Marker> {
     ) -> Result<(), AllocError>
         ensures ok { OnOk result (mapping self.new ≡ living_ids M.id_of M.Identifier.eq (population entities.now) storage.now) }
         ensures err { OnErr result (mapping self.new ≡ mapping self.old) }
-        ensures ids { ids self.new ≡ ids self.old };
+        ensures ids { ids_past self.new ≡ ids_past self.old };
 
     /// Gives an entity that is alive a marker of a new id, if it has none. The answer is whether it is new, and none for an
     /// entity that isn't alive; the marker is then found in the storage.
@@ -151,9 +155,30 @@ pub trait MarkerAllocator<M: Marker> {
         ensures err { OnErr result (IsSame (slot storage.old) (slot storage.new)) }
         ensures err_mapped { OnErr result (MayHaveGiven M.Identifier.eq (MayBeNew self.old) entity (mapping self.old) (mapping self.new)) }
         ensures err_ids { OnErr result (ids self.new ≡ ids self.old) }
+        ensures err_past { OnErr result (ids_past self.new ≡ ids_past self.old) }
         ensures refused { IfErr result IsOfIds }
         ensures used_up { result ≡ Err MarkError.IdsExhausted → ids self.old ≡ Some 0 }
         ensures drawn { result ≡ Err MarkError.IdTaken → ids self.old ≡ None };
+}
+
+// Of the entity that an id is mapped to, if there is one, whether the id names it: it is alive and has a marker of this id.
+fn named_by<M: Marker>(
+    mapped: Option<Entity>,
+    entities: &EntitiesRes,
+    storage: &MaskedStorage<M>,
+    id: M::Identifier,
+) -> Option<Entity>
+    ensures mapped { IfSome result (λ e. mapped ≡ Some e) }
+    ensures alive { IfSome result (λ e. IsAlive (population entities.now) e) }
+    ensures agrees { IfSome result (λ e. ids_in M.id_of storage.now (index_of e) ≡ Some id) }
+    ensures unknown { result ≡ None → IfSome mapped (λ e. IsAlive (population entities.now) e → ids_in M.id_of storage.now (index_of e) ≡ Some id → ⊥) }
+{
+    let known = mapped?;
+    if entities.is_alive(known) && is_marked_with(storage, known.id(), id) {
+        Some(known)
+    } else {
+        None
+    }
 }
 
 // Whether an index has a marker of this id.
@@ -175,6 +200,7 @@ fn update_at<M: Marker>(
     requires { ids_in M.id_of storage.old index ≡ Some (M.id_of marker) }
     ensures ids { OnOk result (ids_in M.id_of storage.new ≡ ids_in M.id_of storage.old) }
     ensures err { OnErr result (ids_in M.id_of storage.new ≡ ids_in M.id_of storage.old) }
+    ensures told { IsTold storage.old storage.new }
     ensures refused { IfErr result (λ e. e ≡ CreateError.OutOfMemory) }
 {
     match storage.get_mut(index) {
@@ -204,6 +230,7 @@ fn put_marker<M: Marker>(
     requires { IsIndex index }
     ensures ok { OnOk result (ids_in M.id_of storage.new ≡ put_at (ids_in M.id_of storage.old) index (M.id_of marker)) }
     ensures err { OnErr result (ids_in M.id_of storage.new ≡ ids_in M.id_of storage.old) }
+    ensures told { IsTold storage.old storage.new }
 {
     match storage.put(index, marker) {
         Ok(_) => Ok(()),

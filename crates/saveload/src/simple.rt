@@ -1,10 +1,10 @@
 //! Markers that are numbers.
-ghost use Rattle.std.specs.Prelude.{◌≡◌, ℕ, ◌+◌, ◌^◌, ◌≤◌, ◌⊎◌, max, true, false, Option, Some, None, Ok, Err, IfOk, IfErr, OnOk, OnErr, is_some, ⊤};
+ghost use Rattle.std.specs.Prelude.{◌≡◌, ℕ, ◌+◌, ◌^◌, ◌≤◌, ◌⊎◌, max, true, false, Option, Some, None, Ok, Err, IfOk, IfErr, OnOk, OnErr, is_some, ⊤, refl};
 ghost use Rattle.entities.specs.Census.{population};
 ghost use Rattle.storages.specs.Life.{is_alive};
 ghost use Rattle.storages.specs.Slot.{IsSame};
 ghost use Rattle.storages.specs.WriteView.{slot, entities_of, found, storage_name};
-ghost use Rattle.saveload.specs.Naming.{put_id};
+ghost use Rattle.saveload.specs.Naming.{put_id, once_given};
 ghost use Rattle.saveload.specs.Marking.{MarksNew, MayHaveGiven, IsOfIds, TakesOne};
 ghost use Rattle.saveload.specs.Remapping.{living_ids};
 ghost use Rattle.saveload.specs.Numbers.{same_numbers};
@@ -16,10 +16,12 @@ use entities::{EntitiesRes, Entity};
 use std::alloc::{AllocError, Global};
 use std::collections::HashMap;
 use std::fmt;
+use std::hash::Hash;
 use std::marker::PhantomData;
 use storages::{Component, DenseVecStorage, MaskedStorage, WriteStorage};
 
 /// A marker that is a number, of a kind `T`. Ports `specs::saveload::SimpleMarker`.
+#[derive(PartialEq, Eq, Hash)]
 pub struct SimpleMarker<T> {
     id: u64,
     kind: PhantomData<T>,
@@ -101,7 +103,8 @@ impl<T> SimpleMarkerAllocator<T> {
 }
 
 impl<T> MarkerAllocator<SimpleMarker<T>> for SimpleMarkerAllocator<T> {
-    ghost use Rattle.saveload.specs.Simple.{given, number_of_marker, numbers_from, numbers_past};
+    ghost use Rattle.std.proofs.Common.{ap, sym};
+    ghost use Rattle.saveload.specs.Simple.{comes_next, given, number_of_marker, numbers_from, numbers_past};
 
     ghost mapping = { λ a. given a };
 
@@ -109,7 +112,13 @@ impl<T> MarkerAllocator<SimpleMarker<T>> for SimpleMarkerAllocator<T> {
 
     ghost ids = { λ a. numbers_from a.next };
 
-    ghost ids_past = { λ a id. numbers_past a.next id };
+    ghost ids_past = { λ a. numbers_past a.next };
+
+    ghost ids_now = { λ a. refl };
+
+    ghost ComesNext = { comes_next };
+
+    ghost comes = { λ a id e. ap numbers_from (sym e) };
 
     fn allocate(&mut self, entity: Entity, id: Option<u64>) -> Result<SimpleMarker<T>, MarkError>
         ensures given { (i : ℕ) → id ≡ Some i → IfOk result (λ m. m.id ≡ i) }
@@ -123,7 +132,7 @@ impl<T> MarkerAllocator<SimpleMarker<T>> for SimpleMarkerAllocator<T> {
         ensures refused { IfErr result IsOfIds }
         ensures given_refused { (i : ℕ) → id ≡ Some i → IfErr result (λ e. e ≡ MarkError.OutOfMemory) }
         ensures takes { id ≡ None → OnOk result (TakesOne (numbers_from self.old.next) (numbers_from self.new.next)) }
-        ensures passes { (i : ℕ) → id ≡ Some i → OnOk result (numbers_from self.new.next ≡ numbers_past self.old.next i) }
+        ensures passes { (i : ℕ) → id ≡ Some i → OnOk result (numbers_past self.new.next ≡ once_given (numbers_past self.old.next) i) }
     {
         let chosen = match id {
             Some(given) => given,

@@ -1,12 +1,13 @@
 //! Markers that are identifiers of sixteen random bytes.
-ghost use Rattle.std.specs.Prelude.{◌≡◌, ◌⊎◌, true, false, Option, Some, None, Ok, Err, IfOk, IfErr, OnOk, OnErr, is_some, ⊤};
+ghost use Rattle.std.specs.Prelude.{◌≡◌, ◌⊎◌, true, false, Option, Some, None, Ok, Err, IfOk, IfErr, OnOk, OnErr, is_some, ⊤, refl};
 ghost use Rattle.entities.specs.Census.{population};
 ghost use Rattle.storages.specs.Life.{is_alive};
 ghost use Rattle.storages.specs.Slot.{IsSame};
 ghost use Rattle.storages.specs.WriteView.{slot, entities_of, found, storage_name};
 ghost use Rattle.saveload.specs.Naming.{put_id};
 ghost use Rattle.saveload.specs.Marking.{MarksNew, MayHaveGiven, IsOfIds};
-ghost use Rattle.saveload.specs.Uuids.{same_uuids, same_bytes, drawn_from, IsDrawn};
+ghost use Rattle.saveload.specs.Remapping.{living_ids};
+ghost use Rattle.saveload.specs.Uuids.{same_uuids, same_bytes, drawn_from, after_draw, IsDrawn};
 ghost use Rattle.std.specs.HashMap as hash;
 
 use crate::mark_error::MarkError;
@@ -16,11 +17,13 @@ use entities::{EntitiesRes, Entity};
 use rand_core::Rng;
 use std::alloc::{AllocError, Global};
 use std::collections::HashMap;
+use std::hash::Hash;
 use std::marker::PhantomData;
 use storages::{Component, MaskedStorage, VecStorage, WriteStorage};
 use uuid::Uuid;
 
 /// A marker that is an identifier of sixteen bytes, drawn from a generator `R`. Ports `specs::saveload::UuidMarker`.
+#[derive(PartialEq, Eq, Hash)]
 pub struct UuidMarker<R> {
     uuid: Uuid,
     generator: PhantomData<R>,
@@ -49,6 +52,7 @@ impl<R: Rng> UuidMarker<R> {
     /// A marker whose identifier is drawn from a generator.
     pub fn new_random(generator: &mut R) -> Self
         ensures drawn { result.uuid ≡ drawn_from (R.stream generator.old) }
+        ensures after { R.stream generator.new ≡ after_draw (R.stream generator.old) }
     {
         UuidMarker::new(Uuid::new_v4(generator))
     }
@@ -115,6 +119,7 @@ impl<R> UuidMarkerAllocator<R> {
         ensures mapped { OnOk result (given_uuids self.new ≡ put_id (⟦<Uuid as PartialEq>⟧.eq) (given_uuids self.old) id entity) }
         ensures err { OnErr result (given_uuids self.new ≡ given_uuids self.old) }
         ensures refused { IfErr result (λ e. e ≡ MarkError.OutOfMemory) }
+        ensures generator { self.new.generator ≡ self.old.generator }
     {
         if self.mapping.insert(id, entity).is_err() {
             return Err(MarkError::OutOfMemory);
@@ -127,6 +132,7 @@ impl<R> UuidMarkerAllocator<R> {
 fn draw<R: Rng>(generator: &mut R, mapping: &HashMap<Uuid, Entity>) -> Result<Uuid, MarkError>
     ensures new { IfOk result (λ id. IsDrawn (hash.get same_bytes mapping.now) (R.stream generator.old) id) }
     ensures taken { IfErr result (λ e. (e ≡ MarkError.IdTaken) × (is_some (hash.get same_bytes mapping.now (drawn_from (R.stream generator.old))) ≡ true)) }
+    ensures after { R.stream generator.new ≡ after_draw (R.stream generator.old) }
 {
     let id = Uuid::new_v4(generator);
     if mapping.contains_key(&id) {
@@ -144,7 +150,13 @@ impl<R: Rng> MarkerAllocator<UuidMarker<R>> for UuidMarkerAllocator<R> {
 
     ghost ids = { λ a. None };
 
-    ghost ids_past = { λ a id. None };
+    ghost ids_past = { λ a ids. None };
+
+    ghost ids_now = { λ a. refl };
+
+    ghost ComesNext = { λ left id. left ≡ None };
+
+    ghost comes = { λ a id e. refl };
 
     fn allocate(&mut self, entity: Entity, id: Option<Uuid>) -> Result<UuidMarker<R>, MarkError>
         ensures given { (i : _) → id ≡ Some i → IfOk result (λ m. m.uuid ≡ i) }
@@ -155,6 +167,8 @@ impl<R: Rng> MarkerAllocator<UuidMarker<R>> for UuidMarkerAllocator<R> {
         ensures given_refused { (i : _) → id ≡ Some i → IfErr result (λ e. e ≡ MarkError.OutOfMemory) }
         ensures taken { result ≡ Err MarkError.IdTaken → (id ≡ None) × (is_some (given_uuids self.old (drawn_from (R.stream self.old.generator))) ≡ true) }
         ensures never_used_up { result ≡ Err MarkError.IdsExhausted → ⊥ }
+        ensures draws { id ≡ None → R.stream self.new.generator ≡ after_draw (R.stream self.old.generator) }
+        ensures draws_none { (i : _) → id ≡ Some i → self.new.generator ≡ self.old.generator }
     {
         match id {
             Some(given) => self.map_to(given, entity),
@@ -169,12 +183,17 @@ impl<R: Rng> MarkerAllocator<UuidMarker<R>> for UuidMarkerAllocator<R> {
         self.mapping.get(&id).copied()
     }
 
+    /// As the trait says. Nothing is drawn.
     fn maintain(
         &mut self,
         alloc: Global,
         entities: &EntitiesRes,
         storage: &MaskedStorage<UuidMarker<R>>,
-    ) -> Result<(), AllocError> {
+    ) -> Result<(), AllocError>
+        ensures ok { OnOk result (given_uuids self.new ≡ living_ids uuid_of_marker (⟦<Uuid as PartialEq>⟧.eq) (population entities.now) storage.now) }
+        ensures err { OnErr result (given_uuids self.new ≡ given_uuids self.old) }
+        ensures generator { self.new.generator ≡ self.old.generator }
+    {
         self.mapping = remapped(alloc, entities, storage)?;
         Ok(())
     }
@@ -201,6 +220,8 @@ impl<R: Rng> MarkerAllocator<UuidMarker<R>> for UuidMarkerAllocator<R> {
         ensures refused { IfErr result IsOfIds }
         ensures taken { result ≡ Err MarkError.IdTaken → is_some (given_uuids self.old (drawn_from (R.stream self.old.generator))) ≡ true }
         ensures never_used_up { result ≡ Err MarkError.IdsExhausted → ⊥ }
+        ensures draws { IfOk result (λ o. o ≡ Some true → R.stream self.new.generator ≡ after_draw (R.stream self.old.generator)) }
+        ensures err_draws { OnErr result (R.stream self.new.generator ≡ after_draw (R.stream self.old.generator)) }
     {
         if !storage.fetched_entities().is_alive(entity) {
             return Ok(None);

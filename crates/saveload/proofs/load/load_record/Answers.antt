@@ -6,6 +6,7 @@ use Rattle.storages.specs.Life.{is_alive}
 use Rattle.saveload.specs.Naming.{naming, NamesAll}
 use Rattle.saveload.specs.Loads.{named}
 use Rattle.saveload.specs.Stops.{StopsNaming}
+use Rattle.saveload.specs.Told.{told_both}
 use Rattle.saveload.proofs.Rows.{on_ok, if_err, ok_given, err_given}
 use Rattle.saveload.proofs.Stopped.{naming_refused, stops_first, stops_later}
 use Rattle.saveload.proofs.Named.{named_entity, names_alive, all_alive, alive_true, living_born_in, has_map}
@@ -24,9 +25,10 @@ pub returns-clause-loaded : goal.returns-clause-loaded
 returns-clause-loaded g c =
     let eq = g.M.Identifier.PartialEq.eq in
     let mapping = g.M.Allocator.MarkerAllocator.mapping in
-    let before = naming g.M.Marker.id_of c.args.entities.now (mapping c.args.allocator.now) c.args.markers.now in
-    let mid = naming g.M.Marker.id_of c.retrieve_entity.new.entities (mapping c.retrieve_entity.new.self) c.retrieve_entity.new.storage in
-    let after = naming g.M.Marker.id_of c.name_all.new.entities (mapping c.name_all.new.allocator) c.name_all.new.markers in
+    let past = g.M.Allocator.MarkerAllocator.ids_past in
+    let before = naming g.M.Marker.id_of mapping past c.args.entities.now c.args.allocator.now c.args.markers.now in
+    let mid = naming g.M.Marker.id_of mapping past c.retrieve_entity.new.entities c.retrieve_entity.new.self c.retrieve_entity.new.storage in
+    let after = naming g.M.Marker.id_of mapping past c.name_all.new.entities c.name_all.new.allocator c.name_all.new.markers in
     let all : NamesAll eq mid (map g.M.Marker.id_of (g.P.DeserializeComponents.conversion.mentions c.args.saved.components)) after =
     subst (λ (ms : List g.row.M.Denot). NamesAll eq mid (map g.M.Marker.id_of ms) after) c.in_ok-mentioned.ensures c.in_ok-name_all.ensures.named in
     let own = c.in_ok-entity.ensures.named in
@@ -51,8 +53,9 @@ pub returns-in_err-name_all-clause-refused : goal.returns-in_err-name_all-clause
 returns-in_err-name_all-clause-refused g c =
     let eq = g.M.Identifier.PartialEq.eq in
     let mapping = g.M.Allocator.MarkerAllocator.mapping in
-    let mid = naming g.M.Marker.id_of c.retrieve_entity.new.entities (mapping c.retrieve_entity.new.self) c.retrieve_entity.new.storage in
-    let after = naming g.M.Marker.id_of c.name_all.new.entities (mapping c.name_all.new.allocator) c.name_all.new.markers in
+    let past = g.M.Allocator.MarkerAllocator.ids_past in
+    let mid = naming g.M.Marker.id_of mapping past c.retrieve_entity.new.entities c.retrieve_entity.new.self c.retrieve_entity.new.storage in
+    let after = naming g.M.Marker.id_of mapping past c.name_all.new.entities c.name_all.new.allocator c.name_all.new.markers in
     let same : c.from_residual-in_err-name_all.result ≡ Err c.in_err-name_all.field-0.0 = search rules in
     let stops : StopsNaming eq mid (map g.M.Marker.id_of (g.P.DeserializeComponents.conversion.mentions c.args.saved.components)) c.in_err-name_all.field-0.0 after =
     subst (λ (ms : List g.row.M.Denot). StopsNaming eq mid (map g.M.Marker.id_of ms) c.in_err-name_all.field-0.0 after) c.in_ok-mentioned.ensures c.in_err-name_all.ensures.refused in
@@ -65,9 +68,10 @@ pub returns-clause-refused : goal.returns-clause-refused
 returns-clause-refused g c =
     let eq = g.M.Identifier.PartialEq.eq in
     let mapping = g.M.Allocator.MarkerAllocator.mapping in
-    let before = naming g.M.Marker.id_of c.args.entities.now (mapping c.args.allocator.now) c.args.markers.now in
-    let mid = naming g.M.Marker.id_of c.retrieve_entity.new.entities (mapping c.retrieve_entity.new.self) c.retrieve_entity.new.storage in
-    let after = naming g.M.Marker.id_of c.name_all.new.entities (mapping c.name_all.new.allocator) c.name_all.new.markers in
+    let past = g.M.Allocator.MarkerAllocator.ids_past in
+    let before = naming g.M.Marker.id_of mapping past c.args.entities.now c.args.allocator.now c.args.markers.now in
+    let mid = naming g.M.Marker.id_of mapping past c.retrieve_entity.new.entities c.retrieve_entity.new.self c.retrieve_entity.new.storage in
+    let after = naming g.M.Marker.id_of mapping past c.name_all.new.entities c.name_all.new.allocator c.name_all.new.markers in
     let all : NamesAll eq mid (map g.M.Marker.id_of (g.P.DeserializeComponents.conversion.mentions c.args.saved.components)) after =
     subst (λ (ms : List g.row.M.Denot). NamesAll eq mid (map g.M.Marker.id_of ms) after) c.in_ok-mentioned.ensures c.in_ok-name_all.ensures.named in
     let own = c.in_ok-entity.ensures.named in
@@ -82,3 +86,9 @@ returns-clause-refused g c =
     (c.deserialize_entity.ensures.refused f
     (λ m r h p. let answered : r ≡ mapping c.name_all.new.allocator (g.M.Marker.id_of m) = search rules in answered
     ∙ named_entity eq g.met.M.Marker.same_ids _ mid after all (g.M.Marker.id_of m) (has_map g.M.Marker.id_of _ m h)))
+
+pub returns-in_err-name_all-clause-told : goal.returns-in_err-name_all-clause-told
+returns-in_err-name_all-clause-told g c = told_both _ _ _ c.in_ok-entity.ensures.told c.in_err-name_all.ensures.told
+
+pub returns-clause-told : goal.returns-clause-told
+returns-clause-told g c = told_both _ _ _ c.in_ok-entity.ensures.told c.in_ok-name_all.ensures.told

@@ -1,4 +1,4 @@
-use Rattle.std.proofs.Common.{rules, ◌≡◌, ◌++◌, ◌∷◌, [], take, get_or, subst, string_bytes, List}
+use Rattle.std.proofs.Common.{rules, ◌≡◌, take, subst, string_bytes, List}
 use Rattle.std.specs.Prelude.{pos, Err}
 use Rattle.std.proofs.lemmas.List.{take_all, take_more}
 use Rattle.entities.specs.declared.entity.Entity.{Entity}
