@@ -1,7 +1,9 @@
 //! Markers in a world, and entities whose components are queued.
 ghost use Rattle.std.specs.Prelude.{◌≡◌, [], ◌∷◌, ◌++◌, Some, true, IsTrue, MatchOption, IfOk, IfSome};
 ghost use Rattle.entities.specs.Census.{population};
-ghost use Rattle.entities.specs.Population.{born, IsAlive};
+ghost use Rattle.entities.specs.Population.{born, index_of, IsAlive};
+ghost use Rattle.specs.specs.Column.{Column};
+ghost use Rattle.std.specs.Option.{option_map};
 ghost use Rattle.specs.specs.People.{Births};
 ghost use Rattle.specs.specs.Queue.{queued};
 ghost use Rattle.specs.specs.State.{core_state};
@@ -17,10 +19,25 @@ pub fn labelled<S: Storages>(
     e: Entity,
 ) -> Result<bool, MarkError>
     ensures alive { IfOk result (λ had. IsTrue had → IsAlive (population entities.now) e) }
-    ensures marker { IfOk result (λ had. S.marks slot ≡ true) }
+    ensures marker { IfOk result (λ had. S.marks.holds slot ≡ true) }
 {
     let given = storages.mark(entities, slot, e)?;
     Ok(given.is_some())
+}
+
+/// Whether an entity gets a new marker. It has one then that may come next.
+pub fn is_labelled_anew<S: Storages>(
+    storages: &mut S,
+    entities: &EntitiesRes,
+    slot: S::Slot,
+    e: Entity,
+) -> bool
+    ensures { IsTrue result → (v : S.Value) × S.marks.comes slot (S.ids storages.old slot) v × (option_map (λ (c : Column S.Value). c.values (index_of e)) (S.table storages.new slot) ≡ Some (Some v)) }
+{
+    match storages.mark(entities, slot, e) {
+        Ok(Some(given)) => given,
+        _ => false,
+    }
 }
 
 /// Whether an entity gets no marker for want of an id: the slot has none left then.

@@ -1,9 +1,11 @@
 //! What is saved and loaded elsewhere is renamed, one to one; what marking says of the ids.
-ghost use Rattle.std.specs.Prelude.{◌≡◌, None, Some, IsTrue, IfSome, OnOk, true};
+ghost use Rattle.std.specs.Prelude.{◌≡◌, ◌<◌, ◌^◌, ℕ, None, Some, IsTrue, IfSome, OnSome, OnOk, true};
 ghost use Rattle.entities.specs.Census.{population};
 ghost use Rattle.saveload.specs.Law.{RenamesSaved};
 ghost use Rattle.saveload.specs.Loads.{loading};
+ghost use Rattle.saveload.specs.Naming.{once_given};
 ghost use Rattle.saveload.specs.Saved.{IsSavedList, marked_read};
+ghost use Rattle.saveload.specs.Simple.{given};
 ghost use Rattle.saveload.specs.Told.{IsTold};
 ghost use Rattle.storages.specs.Life.{is_alive};
 ghost use Rattle.storages.specs.ReadView.{found as seen};
@@ -11,8 +13,8 @@ ghost use Rattle.storages.specs.WriteView.{entities_of, found};
 
 use saveload::{
     ConvertSaveload, DeserializeComponents, EntityData, JsonData, JsonPlaces, LoadError, Marker,
-    MarkerAllocator, SaveError, SerializeComponents, deserialize, from_json, one_renaming,
-    serialize_recursive, serialize_to_json,
+    MarkerAllocator, SaveError, SerializeComponents, SimpleMarker, SimpleMarkerAllocator, deserialize,
+    from_json, next_number_is_new, one_renaming, serialize_recursive, serialize_to_json,
 };
 use specs::{EntitiesRes, Entity};
 use std::alloc::Global;
@@ -31,14 +33,14 @@ where
     M::Allocator: MarkerAllocator<M>,
     requires { (m n : M) → M.is_clone m n → m ≡ n }
     ensures { OnOk result (RenamesSaved M.id_of P.conversion list.items
-        (loading M.id_of M.Allocator.mapping P.rows entities.old allocator.old markers.old masked.old)
-        (loading M.id_of M.Allocator.mapping P.rows entities.new allocator.new markers.new masked.new)) }
+        (loading M.id_of M.Allocator.mapping M.Allocator.ids_past P.rows entities.old allocator.old markers.old masked.old)
+        (loading M.id_of M.Allocator.mapping M.Allocator.ids_past P.rows entities.new allocator.new markers.new masked.new)) }
 {
     one_renaming::<M, P>();
     deserialize(alloc, masked, entities, markers, allocator, list)
 }
 
-/// The same into two storages: their readers were told of each change.
+/// The same into two storages: their readers were told of each change, and those of the markers too.
 pub fn taken_up_in_two<M: Marker, A, B>(
     alloc: Global,
     masked: &mut (&mut MaskedStorage<A>, &mut MaskedStorage<B>),
@@ -54,8 +56,39 @@ where
     requires { (m n : M) → M.is_clone m n → m ≡ n }
     ensures first { IsTold masked.old.0.now masked.new.0.now }
     ensures second { IsTold masked.old.1.now masked.new.1.now }
+    ensures markers { IsTold markers.old markers.new }
 {
     deserialize(alloc, masked, entities, markers, allocator, list)
+}
+
+/// Loads where no number is mapped. The next new number is then mapped to nobody, so that none is given twice.
+pub fn taken_up_by_numbers<T, P: DeserializeComponents<SimpleMarker<T>>>(
+    alloc: Global,
+    masked: &mut P,
+    entities: &mut EntitiesRes,
+    markers: &mut MaskedStorage<SimpleMarker<T>>,
+    allocator: &mut SimpleMarkerAllocator<T>,
+    list: Vec<EntityData<SimpleMarker<T>, P::Data>>,
+) -> Result<(), LoadError>
+    requires { (id : ℕ) → given allocator.old id ≡ None }
+    ensures { OnOk result (allocator.new.next < 2 ^ 64 → given allocator.new allocator.new.next ≡ None) }
+{
+    next_number_is_new::<T, P>();
+    deserialize(alloc, masked, entities, markers, allocator, list)
+}
+
+/// The entity that a marker names, if its id was mapped to none: a new one, and its id counts as given.
+pub fn named_anew<M: Marker, A: MarkerAllocator<M>>(
+    allocator: &mut A,
+    marker: M,
+    markers: &mut MaskedStorage<M>,
+    entities: &mut EntitiesRes,
+) -> Option<Entity>
+    requires { A.mapping allocator.old (M.id_of marker) ≡ None }
+    ensures mapped { IfSome result (λ e. A.mapping allocator.new (M.id_of marker) ≡ Some e) }
+    ensures given { OnSome result (A.ids_past allocator.new ≡ once_given (A.ids_past allocator.old) (M.id_of marker)) }
+{
+    allocator.retrieve_entity(marker, markers, entities).ok()
 }
 
 /// What is saved, by way of a text.

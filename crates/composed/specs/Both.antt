@@ -1,5 +1,7 @@
 -- The table that two make.
+use Rattle.std.specs.Prelude.{ℕ, Option}
 use Rattle.std.specs.Option.{option_map}
+use Rattle.specs.specs.Marks.{Markers}
 use Rattle.specs.specs.Shows.{column_as}
 use Rattle.specs.specs.Table.{Table}
 use Rattle.composed.specs.declared.either.Either.{Either}
@@ -17,3 +19,13 @@ place_of_both p q (Rest v) = Rest (q v)
 abbrev pub of_either : {K L X : Type 0} → (K → X) → (L → X) → Either K L → X
 of_either f g (First k) = f k
 of_either f g (Rest l) = g l
+
+-- which values a new marker may be: those of the slot's own part
+abbrev pub comes_of_both : {K L V W : Type 0} → (K → Option ℕ → V → Type 0) → (L → Option ℕ → W → Type 0) → Either K L → Option ℕ → Either V W → Type 0
+comes_of_both f g (First k) left (First v) = f k left v
+comes_of_both f g (First k) left (Rest w) = ⊥
+comes_of_both f g (Rest l) left (First v) = ⊥
+comes_of_both f g (Rest l) left (Rest w) = g l left w
+
+abbrev pub markers_of_both : {K L V W : Type 0} → Markers K V → Markers L W → Markers (Either K L) (Either V W)
+markers_of_both m n = record { holds = of_either m.holds n.holds; comes = comes_of_both m.comes n.comes }

@@ -20,7 +20,7 @@ pub struct Both<A, B> {
 impl<A: Storages, B: Storages> Storages for Both<A, B> {
     ghost use Rattle.std.specs.Prelude.{refl};
     ghost use Rattle.composed.specs.Exact.{exact_by};
-    ghost use Rattle.composed.specs.Both.{table_of_both, place_of_both, of_either};
+    ghost use Rattle.composed.specs.Both.{table_of_both, place_of_both, of_either, markers_of_both};
     ghost use Rattle.composed.specs.Places.{idless_of_both};
 
     type Slot = Either<A::Slot, B::Slot>;
@@ -33,11 +33,11 @@ impl<A: Storages, B: Storages> Storages for Both<A, B> {
 
     ghost exact = { exact_by _ A.Slot.eq B.Slot.eq (λ x y. refl) (λ x y. refl) (λ x y. refl) (λ x y. refl) A.exact B.exact };
 
-    ghost marks = { of_either A.marks B.marks };
+    ghost marks = { markers_of_both A.marks B.marks };
 
     ghost ids = { λ s. of_either (A.ids s.first) (B.ids s.rest) };
 
-    ghost idless = { λ s. idless_of_both A.marks B.marks (A.ids s.first) (B.ids s.rest) (A.idless s.first) (B.idless s.rest) };
+    ghost idless = { λ s. idless_of_both A.marks.holds B.marks.holds (A.ids s.first) (B.ids s.rest) (A.idless s.first) (B.idless s.rest) };
 
     ghost place = { place_of_both A.place B.place };
 

@@ -1,5 +1,6 @@
 //! Storages without any component type registered.
 ghost use Rattle.std.specs.Prelude.{◌≡◌, None};
+ghost use Rattle.specs.specs.Ids.{AllLeft};
 ghost use Rattle.specs.specs.Reached.{HasNoValue};
 
 use crate::both::Both;
@@ -12,10 +13,11 @@ use storages::{Component, MaybeTracked};
 
 /// A struct of storages that can be made empty.
 pub trait Empty: Storages + Sized {
-    /// No component type is registered. It takes no memory.
+    /// No component type is registered, and no marker has been given an id. It takes no memory.
     fn empty(alloc: Global) -> Self
         ensures none { (slot : Self.Slot) → Self.table result slot ≡ None }
-        ensures empty { HasNoValue (Self.table result) };
+        ensures empty { HasNoValue (Self.table result) }
+        ensures ids { AllLeft Self.marks.holds (Self.ids result) };
 }
 
 impl<T: Component + Duplicate> Empty for Only<T>
@@ -36,7 +38,7 @@ impl<T> Empty for Marking<SimpleMarker<T>, SimpleMarkerAllocator<T>> {
 }
 
 impl<A: Empty, B: Empty> Empty for Both<A, B> {
-    #[tactic(auto, using(crate::proofs::Parts::has_no_value))]
+    #[tactic(auto, using(crate::proofs::Parts::has_no_value, crate::proofs::Parts::all_left))]
     fn empty(alloc: Global) -> Self {
         Both {
             first: A::empty(alloc),

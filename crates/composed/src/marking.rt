@@ -19,11 +19,14 @@ pub struct Marking<M: Marker, A> {
 }
 
 impl<T> Marking<SimpleMarker<T>, SimpleMarkerAllocator<T>> {
-    ghost use Rattle.std.specs.Prelude.{◌≡◌, None};
+    ghost use Rattle.std.specs.Prelude.{◌≡◌, ℕ, None};
+    ghost use Rattle.saveload.specs.Simple.{given};
 
     /// The markers are not registered, and no id is given.
     pub fn new(alloc: Global) -> Self
-        ensures { result.markers.field ≡ None }
+        ensures field { result.markers.field ≡ None }
+        ensures next { result.allocator.next ≡ 0 }
+        ensures mapping { (id : ℕ) → given result.allocator id ≡ None }
     {
         Marking {
             markers: Only::new(),
@@ -52,7 +55,7 @@ where
 
     ghost exact = { λ a b. (λ _. sole_is a b, λ _. refl) };
 
-    ghost marks = { λ _. true };
+    ghost marks = { record { holds = λ _. true; comes = λ _ left m. A.ComesNext left (M.id_of m) } };
 
     ghost ids = { λ s _. A.ids s.allocator };
 

@@ -38,6 +38,7 @@ where
     ghost use Rattle.std.specs.Prelude.{refl, false, Some};
     ghost use Rattle.composed.specs.Exact.{sole_is};
     ghost use Rattle.specs.specs.Field.{field_column, field_room};
+    ghost use Rattle.specs.specs.Marks.{no_markers};
     ghost use Rattle.composed.specs.declared.only.Sole.TheVariants.{Sole};
 
     type Slot = Sole;
@@ -50,7 +51,7 @@ where
 
     ghost exact = { λ a b. (λ _. sole_is a b, λ _. refl) };
 
-    ghost marks = { λ _. false };
+    ghost marks = { no_markers };
 
     ghost ids = { λ _ _. Some 0 };
 

@@ -11,7 +11,7 @@ use Rattle.specs.specs.Jobs.{InsertStep, InsertsAll, RemoveStep, MarkStep, JobSt
 use Rattle.specs.specs.Ids.{Ids}
 use Rattle.specs.specs.State.{State, OnTable}
 use Rattle.specs.specs.Marking.{GivesMarkerIn}
-use Rattle.specs.specs.Marks.{GetsMarker}
+use Rattle.specs.specs.Marks.{Markers, GetsMarker}
 use Rattle.specs.specs.Table.{Table, Inserts, Removes}
 
 pub each_more : {X : Type 0} (Q : X → Type 0) (xs ys : List X) → Each Q xs → Each Q ys → Each Q (xs ++ ys)
@@ -23,15 +23,15 @@ each_unit [] = tt
 each_unit (x ∷ xs) = (tt, each_unit xs)
 
 -- a marker that is given is a value that is inserted in its slot
-gets : {K V : Type 0} (p : Population) (old : Table K V) (slot : K) (e : Entity) (new : Table K V) (g : GetsMarker p old slot e new) → Inserts (λ _. slot) p old e g.value (g.column.values (index_of e)) new
-gets p old slot e new g = record { column = g.column; registered = g.registered; alive = g.alive; told = refl; put = g.put }
+gets : {K V : Type 0} (Comes : V → Type 0) (p : Population) (old : Table K V) (slot : K) (e : Entity) (new : Table K V) (g : GetsMarker Comes p old slot e new) → Inserts (λ _. slot) p old e g.value (g.column.values (index_of e)) new
+gets Comes p old slot e new g = record { column = g.column; registered = g.registered; alive = g.alive; told = refl; put = g.put }
 
 unchanged : {K V : Type 0} (old new : State K V) → new.people ≡ old.people → new.table ≡ old.table → new.ids ≡ old.ids → new ≡ old
 unchanged {K} {V} old new p t i =
     ap (λ (q : Population). record { people = q; table = new.table; ids = new.ids }) p ∙ ap (λ (u : Table K V). record { people = old.people; table = u; ids = new.ids }) t
     ∙ ap (λ (j : Ids K). record { people = old.people; table = old.table; ids = j }) i
 
-module _ {S J K V : Type 0} (place : V → K) (marks : K → Bool) (does : J → State K V → List (Job S J K V) → State K V → Type 0) (P : State K V → Type 0) (Q : Job S J K V → Type 0)
+module _ {S J K V : Type 0} (place : V → K) (marks : Markers K V) (does : J → State K V → List (Job S J K V) → State K V → Type 0) (P : State K V → Type 0) (Q : Job S J K V → Type 0)
     (whatever_ids : (s : State K V) (ids : Ids K) → P s → P (record s { ids = ids }))
     (inserted : (place : V → K) (old new : State K V) (e : Entity) (value : V) (before : Option V) → OnTable (λ t t'. Inserts place old.people t e value before t') old new → P old → P new)
     (removed : (old new : State K V) (slot : K) (e : Entity) (found : Option V) → OnTable (λ t t'. Removes old.people t slot e found t') old new → P old → P new)
@@ -53,11 +53,11 @@ module _ {S J K V : Type 0} (place : V → K) (marks : K → Bool) (does : J →
   remove old new slot e (Some c) s w = removed old new slot e s.0 s.1 w
 
   -- a new marker is an insertion in its slot
-  given : (old new : State K V) (slot : K) (e : Entity) (is_new : Bool) → GivesMarkerIn slot e (Some is_new) old new → P old → P new
+  given : (old new : State K V) (slot : K) (e : Entity) (is_new : Bool) → GivesMarkerIn marks slot e (Some is_new) old new → P old → P new
   given old new slot e false s w = same old new (unchanged old new s.people s.table.1 s.ids) w
   given old new slot e true s w =
       let put : State K V = record new { ids = old.ids } in
-      whatever_ids put new.ids (inserted (λ _. slot) old put e s.table.value (s.table.column.values (index_of e)) (record { people = s.people; table = gets old.people old.table slot e new.table s.table; ids = refl }) w)
+      whatever_ids put new.ids (inserted (λ _. slot) old put e s.table.value (s.table.column.values (index_of e)) (record { people = s.people; table = gets (marks.comes slot (old.ids slot)) old.people old.table slot e new.table s.table; ids = refl }) w)
 
   mark : (old new : State K V) (slot : K) (e : Entity) (counted : Bool) → MarkStep marks old slot e counted new → P old → P new
   mark old new slot e false s w = given old new slot e s.1 s.2 w

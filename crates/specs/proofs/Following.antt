@@ -37,6 +37,7 @@ use Rattle.specs.specs.Ids.{Ids}
 use Rattle.specs.proofs.Lasting.{living_whatever_ids, grown, merged_kept, inserted_living, removed_living, living_step}
 use Rattle.specs.specs.Leading.{index_at, replay, is_named}
 use Rattle.specs.specs.Following.{values, unread, IsListening, IsFollowed, Advances, Follows, Replays, given_by, given, Each, Throughout, JobSpares, AllSpare, Spared, IsWatched, IsQuiet, AreQuiet, Tells}
+use Rattle.specs.specs.Marks.{Markers}
 use Rattle.specs.proofs.Leading.{leads_more, replay-append, or_false}
 use Rattle.specs.proofs.Telling.{unread_gone}
 use Rattle.specs.proofs.Advancing.{IsBelow, Keeps, stays, puts, takes, loses, empties, registers, drops, switches, reads}
@@ -181,7 +182,7 @@ module _ {K V : Type 0} (slot : K) (n : ℕ) (here : K → Bool) (tells : Tells 
   goes_on : (first old new : State K V) → GoesOn first old → OnlyLiving new → KeepsAt old.table new.table [] → GoesOn first new
   goes_on first old new h living k = record { living = living; followed = k.listening; follows = follows_more first old new [] [] h.follows (k.advances (living_below slot old h.living)) }
 
-  module _ {S J : Type 0} (place : V → K) (allocates marks : K → Bool) (does : J → State K V → List (Job S J K V) → State K V → Type 0) (spares : J → K → ℕ → Type 0)
+  module _ {S J : Type 0} (place : V → K) (allocates : K → Bool) (marks : Markers K V) (does : J → State K V → List (Job S J K V) → State K V → Type 0) (spares : J → K → ℕ → Type 0)
       (law : (j : J) (slot : K) (n : ℕ) (old new : State K V) (more : List (Job S J K V)) → does j old more new → spares j slot n → IsFollowed slot n old → Spared spares slot n old more new) where
     -- jobs that spare a reader let it follow the slot
     followed_jobs : (stopped : Bool) (limit count counted : ℕ) (old new : State K V) (jobs left : List (Job S J K V)) → RunsJobs place marks does stopped limit count counted old jobs new left → AllSpare spares slot n jobs → IsFollowed slot n old → IsFollowed slot n new × AllSpare spares slot n left

@@ -3,8 +3,9 @@ use Rattle.std.proofs.Common.{◌≡◌, ℕ, zero, suc, ◌+◌, Bool, List, []
 use Rattle.specs.specs.State.{State}
 use Rattle.specs.specs.declared.job.Job.{Job}
 use Rattle.specs.specs.Jobs.{Ran, JobStep}
+use Rattle.specs.specs.Marks.{Markers}
 
-module _ {S J K V : Type 0} (place : V → K) (marks : K → Bool) (does : J → State K V → List (Job S J K V) → State K V → Type 0) where
+module _ {S J K V : Type 0} (place : V → K) (marks : Markers K V) (does : J → State K V → List (Job S J K V) → State K V → Type 0) where
   pub ran_more : (n counted here : ℕ) (old mid new : State K V) (jobs now left more : List (Job S J K V)) (job : Job S J K V)
       → Ran place marks does n counted old jobs mid now → now ≡ job ∷ left → JobStep place marks does mid job here more new → Ran place marks does (suc n) (counted + here) old jobs new (left ++ more)
   ran_more zero counted here old mid new [] now left more job ran is step = absurd (apart (sym ran.2 ∙ is))

@@ -20,6 +20,7 @@ use Rattle.specs.specs.Jobs.{RunsJobs}
 use Rattle.specs.proofs.Carrying.{carried, each_unit}
 use Rattle.specs.proofs.Gone.{gone_evolved, gone_after_merge, keeps_step as keeps_gone}
 use Rattle.specs.specs.Living.{keeps_step, deletes_kept, maintains_kept}
+use Rattle.specs.specs.Marks.{Markers}
 
 -- the population alone, over no storage
 abbrev bare : Population → State ℕ ℕ
@@ -55,7 +56,7 @@ pub living_whatever_ids : {K V : Type 0} (s : State K V) (ids : Ids K) → OnlyL
 living_whatever_ids s ids w = record { values = w.values; born = w.born; below = w.below }
 
 -- what each step keeps, a run keeps
-module _ {S J K V : Type 0} (place : V → K) (allocates marks : K → Bool) (does : J → State K V → List (Job S J K V) → State K V → Type 0) (P : State K V → Type 0)
+module _ {S J K V : Type 0} (place : V → K) (allocates : K → Bool) (marks : Markers K V) (does : J → State K V → List (Job S J K V) → State K V → Type 0) (P : State K V → Type 0)
     (core : (old : State K V) (c : Command S J K V) (r : Reply V) (new : State K V) → CoreStep place allocates old c r new → P old → P new)
     (maintain : (old new : WorldState S J K V) (limit : ℕ) (m : Maintained) → Maintains place marks does old limit m new → P old.core → P new.core) where
   step : (old : WorldState S J K V) (c : Command S J K V) (r : Reply V) (new : WorldState S J K V) → Step place allocates marks does old c r new → P old.core → P new.core
@@ -69,7 +70,7 @@ module _ {S J K V : Type 0} (place : V → K) (allocates marks : K → Bool) (do
   lasts (c ∷ cs) [] old new run w = absurd run
   lasts (c ∷ cs) (r ∷ rs) old new run w = lasts cs rs run.0 new run.2 (step old c r run.0 run.1 w)
 
-module _ {S J K V : Type 0} (place : V → K) (allocates marks : K → Bool) (does : J → State K V → List (Job S J K V) → State K V → Type 0)
+module _ {S J K V : Type 0} (place : V → K) (allocates : K → Bool) (marks : Markers K V) (does : J → State K V → List (Job S J K V) → State K V → Type 0)
     (grows : (j : J) (old new : State K V) (more : List (Job S J K V)) → does j old more new → Evolves old.people new.people) where
   -- jobs leave dead who died
   pub gone_jobs : (e : Entity) (old new : State K V) (jobs left : List (Job S J K V)) (stopped : Bool) (limit count counted : ℕ) → RunsJobs place marks does stopped limit count counted old jobs new left → IsGone old.people e → IsGone new.people e

@@ -18,7 +18,7 @@ use Rattle.saveload.specs.Marking.{MarksNew, IsOfIds, TakesOne}
 use Rattle.specs.specs.Field.{column_of}
 use Rattle.specs.specs.Column.{Column}
 use Rattle.specs.specs.Ids.{LeftAfter}
-use Rattle.specs.specs.Marks.{FieldGivesMarker, FieldMarkerIsRefused, LacksMarker}
+use Rattle.specs.specs.Marks.{IsGiven, FieldGivesMarker, FieldMarkerIsRefused, LacksMarker}
 use Rattle.specs.proofs.Values.{alive_fact, column_is, values-insert}
 
 none_by : {V : Type 0} (o : Option V) → is_some o ≡ false → o ≡ None
@@ -29,7 +29,7 @@ none_by (Some x) e = absurd (false≢true (sym e))
 module _ {M : Type 0} (c : Census) (s : masked.Slot M) (e : Entity) (alive : is_alive (population c) e ≡ true) (none : map.contains_key s.map (index_of e) ≡ false) where
   given_marker : {I : Type 0} (id_of : M → I) (eq : I → I → Bool) (MayBeNew : I → Type 0) (a a' : I → Option Entity) (s' : masked.Slot M) (o : Option Bool)
       → is_some o ≡ is_alive (population c) e → (o ≡ Some false → is_some (found_in c s e) ≡ true) → (o ≡ Some true → MarksNew id_of eq MayBeNew e a a' s s')
-      → FieldGivesMarker (population c) (Some (column_of s)) e o (Some (column_of s'))
+      → FieldGivesMarker (IsGiven id_of eq MayBeNew e a a') (population c) (Some (column_of s)) e o (Some (column_of s'))
   given_marker id_of eq MayBeNew a a' s' None dead was new = absurd (false≢true (dead ∙ alive))
   given_marker id_of eq MayBeNew a a' s' (Some false) dead was new = absurd (false≢true (sym none ∙ sym (ap (λ b. is_some (cond b (map.get s.map (index_of e)) None)) alive) ∙ was refl))
   given_marker id_of eq MayBeNew a a' s' (Some true) dead was new =
@@ -41,6 +41,7 @@ module _ {M : Type 0} (c : Census) (s : masked.Slot M) (e : Entity) (alive : is_
         alive = alive_fact (population c) e alive;
         absent = none_by _ none;
         value = made.0;
+        comes = (made.1, made.2.mapping);
         now = ap Some (column_is (values-insert s.map s'.map (index_of e) made.0 becomes.map) (becomes.channel ∙ ap (λ (b : Bool). emitted (cond b (Modified (index_of e)) (Inserted (index_of e))) s.channel) (sym none)) becomes.needs_inner);
       }
 
@@ -50,7 +51,7 @@ module _ {M : Type 0} (c : Census) (s : masked.Slot M) (e : Entity) (alive : is_
   -- the same of an answer, if there is one
   pub given : {I : Type 0} (id_of : M → I) (eq : I → I → Bool) (MayBeNew : I → Type 0) (a a' : I → Option Entity) (s' : masked.Slot M) (r : Result (Option Bool) MarkError)
       → IfOk r (λ o. is_some o ≡ is_alive (population c) e) → IfOk r (λ o. o ≡ Some false → is_some (found_in c s e) ≡ true) → IfOk r (λ o. o ≡ Some true → MarksNew id_of eq MayBeNew e a a' s s')
-      → IfOk r (λ o. FieldGivesMarker (population c) (Some (column_of s)) e o (Some (column_of s')))
+      → IfOk r (λ o. FieldGivesMarker (IsGiven id_of eq MayBeNew e a a') (population c) (Some (column_of s)) e o (Some (column_of s')))
   given id_of eq MayBeNew a a' s' (Ok o) dead was new = given_marker id_of eq MayBeNew a a' s' o dead was new
   given id_of eq MayBeNew a a' s' (Err r) dead was new = tt
 

@@ -8,8 +8,9 @@ use Rattle.specs.specs.declared.command.Reply.{Reply}
 use Rattle.specs.specs.declared.job.Job.{Job}
 use Rattle.specs.specs.State.{State}
 use Rattle.specs.specs.Steps.{WorldState, Step, Run}
+use Rattle.specs.specs.Marks.{Markers}
 
-module _ {S J K V : Type 0} (place : V → K) (allocates marks : K → Bool) (does : J → State K V → List (Job S J K V) → State K V → Type 0) where
+module _ {S J K V : Type 0} (place : V → K) (allocates : K → Bool) (marks : Markers K V) (does : J → State K V → List (Job S J K V) → State K V → Type 0) where
   pub run_more : (a b d : WorldState S J K V) (cs : List (Command S J K V)) (rs : List (Reply V)) (c : Command S J K V) (r : Reply V) → Run place allocates marks does a cs rs b → Step place allocates marks does b c r d → Run place allocates marks does a (cs ++ c ∷ []) (rs ++ r ∷ []) d
   run_more a b d [] [] c r run step = (d, subst (λ (s : WorldState S J K V). Step place allocates marks does s c r d) run step, refl)
   run_more a b d [] (x ∷ rs) c r run step = absurd run

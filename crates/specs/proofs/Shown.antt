@@ -108,17 +108,18 @@ module _ {K L V W : Type 0} {slot : K → L} {value : V → W} {t t' : Table K V
   lacks_as : (p : Population) (k : K) (e : Entity) → LacksMarker p (t k) e → LacksMarker p (u (slot k)) e
   lacks_as p k e l = record { column = column_as value l.column; registered = registered_as k l.column l.registered; alive = l.alive; absent = ap (option_map value) l.absent }
 
-  pub shown_gives : (p : Population) (k : K) (e : Entity) (given : Option Bool) → GivesMarker p t k e given t' → GivesMarker p u (slot k) e given u'
-  shown_gives p k e None g = (some_as k g.0, g.1, shown_same g.2)
-  shown_gives p k e (Some false) g =
+  pub shown_gives : (Comes : V → Type 0) (Shown : W → Type 0) → ((v : V) → Comes v → Shown (value v)) → (p : Population) (k : K) (e : Entity) (given : Option Bool) → GivesMarker Comes p t k e given t' → GivesMarker Shown p u (slot k) e given u'
+  shown_gives Comes Shown c p k e None g = (some_as k g.0, g.1, shown_same g.2)
+  shown_gives Comes Shown c p k e (Some false) g =
       let has = g.0 in
       (record { column = column_as value has.column; registered = registered_as k has.column has.registered; alive = has.alive; present = has_as value (has.column.values (index_of e)) ∙ has.present }, shown_same g.1)
-  shown_gives p k e (Some true) g = record {
+  shown_gives Comes Shown c p k e (Some true) g = record {
     column = column_as value g.column;
     registered = registered_as k g.column g.registered;
     alive = g.alive;
     absent = ap (option_map value) g.absent;
     value = value g.value;
+    comes = c g.value g.comes;
     put = becomes_this (slot k) _ _ (put_as g.column (index_of e) g.value) (shown_becomes k _ g.put);
   }
 

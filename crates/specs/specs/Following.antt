@@ -15,6 +15,7 @@ use Rattle.specs.specs.declared.job.Job.TheVariants.{Own}
 use Rattle.specs.specs.Reached.{OnlyLiving}
 use Rattle.specs.specs.State.{State}
 use Rattle.specs.specs.Steps.{WorldState, Run}
+use Rattle.specs.specs.Marks.{Markers}
 
 -- something holds of each of a list
 abbrev pub Each : {X : Type 0} → (X → Type 0) → List X → Type 0
@@ -90,7 +91,7 @@ module _ {S J K V : Type 0} where
   given here n (c ∷ cs) (r ∷ rs) = given_by here n c r ++ given here n cs rs
 
   -- something holds of each state of a run, the first and the last too
-  abbrev pub Throughout : (place : V → K) (allocates marks : K → Bool) (does : J → State K V → List (Job S J K V) → State K V → Type 0) (P : WorldState S J K V → Type 0) (old : WorldState S J K V) (cs : List (Command S J K V)) (rs : List (Reply V)) (new : WorldState S J K V) → Run place allocates marks does old cs rs new → Type 0
+  abbrev pub Throughout : (place : V → K) (allocates : K → Bool) (marks : Markers K V) (does : J → State K V → List (Job S J K V) → State K V → Type 0) (P : WorldState S J K V → Type 0) (old : WorldState S J K V) (cs : List (Command S J K V)) (rs : List (Reply V)) (new : WorldState S J K V) → Run place allocates marks does old cs rs new → Type 0
   Throughout place allocates marks does P old [] [] new run = P old
   Throughout place allocates marks does P old (c ∷ cs) (r ∷ rs) new run = P old × Throughout place allocates marks does P run.0 cs rs new run.2
   Throughout place allocates marks does P old [] (r ∷ rs) new run = ⊥

@@ -1,10 +1,14 @@
 -- How many new ids the markers of each slot can still get.
-use Rattle.std.specs.Prelude.{◌≡◌, ◌≢◌, ℕ, Bool, true, false, Option, Some, None}
+use Rattle.std.specs.Prelude.{◌≡◌, ◌≢◌, ◌^◌, ℕ, Bool, true, false, Option, Some, None}
 use Rattle.saveload.specs.Marking.{TakesOne}
 
 -- for each slot how many new ids are left, and none where that can't be told; a slot without markers has none left
 abbrev pub Ids : Type 0 → Type 0
 Ids K = K → Option ℕ
+
+-- no id of a slot of markers was given; `marks` tells which these are
+abbrev pub AllLeft : {K : Type 0} → (K → Bool) → Ids K → Type 0
+AllLeft {K} marks ids = (slot : K) → marks slot ≡ true → ids slot ≡ Some (2 ^ 64)
 
 -- one id of the slot is taken, and each other slot keeps its own
 pub record TakesId {K : Type 0} (old : Ids K) (slot : K) (new : Ids K) : Type 0 where

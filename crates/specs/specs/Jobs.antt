@@ -11,6 +11,7 @@ use Rattle.saveload.specs.declared.mark_error.MarkError.TheVariants.{OutOfMemory
 use Rattle.specs.specs.State.{State, InsertsAlone, RemovesAlone}
 use Rattle.specs.specs.declared.job.Job.{Job}
 use Rattle.specs.specs.declared.job.Job.TheVariants.{Insert, InsertAll, Remove, Mark, Own}
+use Rattle.specs.specs.Marks.{Markers}
 
 -- how much a refusal counts
 abbrev pub count_of : Bool → ℕ
@@ -53,15 +54,15 @@ RemoveStep {K} {V} old slot e new = MatchOption (old.table slot) (new ≡ old) (
 
 -- A marker where there was none, or one that was there, in a slot that holds markers; or its refusal for another cause than memory, which is counted,
 -- as is an entity that is not alive. `marks` tells which slots hold markers.
-abbrev pub MarkStep : {K V : Type 0} → (K → Bool) → State K V → K → Entity → Bool → State K V → Type 0
-MarkStep marks old slot e false new = (marks slot ≡ true) × (given : Bool) × GivesMarkerIn slot e (Some given) old new
-MarkStep marks old slot e true new = ((marks slot ≡ true) × GivesMarkerIn slot e None old new) ⊎ (((r : MarkError) × GetsNoMarker marks old slot e r × (r ≢ NoMemory)) × (new ≡ old))
+abbrev pub MarkStep : {K V : Type 0} → Markers K V → State K V → K → Entity → Bool → State K V → Type 0
+MarkStep marks old slot e false new = (marks.holds slot ≡ true) × (given : Bool) × GivesMarkerIn marks slot e (Some given) old new
+MarkStep marks old slot e true new = ((marks.holds slot ≡ true) × GivesMarkerIn marks slot e None old new) ⊎ (((r : MarkError) × GetsNoMarker marks old slot e r × (r ≢ NoMemory)) × (new ≡ old))
 
 -- a mark that wants memory
-abbrev pub MarkWantsRoom : {K V : Type 0} → (K → Bool) → State K V → K → Entity → Type 0
+abbrev pub MarkWantsRoom : {K V : Type 0} → Markers K V → State K V → K → Entity → Type 0
 MarkWantsRoom marks s slot e = GetsNoMarker marks s slot e NoMemory
 
-module _ {S J K V : Type 0} (place : V → K) (marks : K → Bool) (does : J → State K V → List (Job S J K V) → State K V → Type 0) where
+module _ {S J K V : Type 0} (place : V → K) (marks : Markers K V) (does : J → State K V → List (Job S J K V) → State K V → Type 0) where
   -- a job, how many refusals it counts, and the further jobs that it queues
   abbrev pub JobStep : State K V → Job S J K V → ℕ → List (Job S J K V) → State K V → Type 0
   JobStep old (Insert e value) refused more new = (more ≡ []) × (counted : Bool) × (refused ≡ count_of counted) × InsertStep place old e value counted new

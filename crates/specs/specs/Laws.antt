@@ -10,8 +10,9 @@ use Rattle.specs.specs.Gone.{IsGone}
 use Rattle.specs.specs.Reached.{IsNew, OnlyLiving}
 use Rattle.specs.specs.State.{State}
 use Rattle.specs.specs.Steps.{WorldState, Run}
+use Rattle.specs.specs.Marks.{Markers}
 
-module _ {S J K V : Type 0} (place : V → K) (allocates marks : K → Bool) (does : J → State K V → List (Job S J K V) → State K V → Type 0) where
+module _ {S J K V : Type 0} (place : V → K) (allocates : K → Bool) (marks : Markers K V) (does : J → State K V → List (Job S J K V) → State K V → Type 0) where
   -- from a state where each index with a value lives, every run leads to such a state
   abbrev pub KeepsOnlyLiving : Type 0
   KeepsOnlyLiving = (old new : WorldState S J K V) (commands : List (Command S J K V)) (replies : List (Reply V)) →

@@ -19,6 +19,7 @@ use Rattle.specs.specs.Readers.{RegistersReader, RegisterReaderIsRefused, ReadsE
 use Rattle.specs.specs.Sets.{SelectIsRefused}
 use Rattle.specs.specs.State.{State, state_of, OnPeople, OnTable, InsertsAlone, RemovesAlone, Deletes, Selects, DeletionWantsMemory, merged}
 use Rattle.specs.specs.Table.{Table, Registers, Inserts, InsertIsRefused, Gets, GetIsRefused, Removes, RemoveIsRefused, Clears, ClearIsRefused, Counts, IsUnregistered}
+use Rattle.specs.specs.Marks.{Markers}
 
 -- entities with their components, and the jobs that wait, the first first
 pub record WorldState (S J K V : Type 0) : Type 0 where
@@ -40,7 +41,7 @@ pub record Queues {S J K V : Type 0} (job : Job S J K V) (old new : WorldState S
   pub jobs : new.jobs ≡ old.jobs ++ job ∷ []
 
 -- pending births are taken up, then the marked die, with all their components, then jobs are done in order while fewer than the limit ran
-pub record Maintains {S J K V : Type 0} (place : V → K) (marks : K → Bool) (does : J → State K V → List (Job S J K V) → State K V → Type 0) (old : WorldState S J K V) (limit : ℕ) (m : Maintained) (new : WorldState S J K V) : Type 0 where
+pub record Maintains {S J K V : Type 0} (place : V → K) (marks : Markers K V) (does : J → State K V → List (Job S J K V) → State K V → Type 0) (old : WorldState S J K V) (limit : ℕ) (m : Maintained) (new : WorldState S J K V) : Type 0 where
   pub deleted : m.deleted.items ≡ the_marked old.core.people
   pub jobs : RunsJobs place marks does m.stopped limit m.ran m.refused (merged old.core) old.jobs new.core new.jobs
   pub left : m.left ≡ length new.jobs
@@ -94,7 +95,7 @@ CoreStep place allocates old (DropReader slot n) Done new = OnTable (λ t t'. Dr
 CoreStep place allocates old (Emit slot on) Done new = OnTable (λ t t'. Switches t slot on t') old new
 CoreStep place allocates old command reply new = ⊥
 
-module _ {S J K V : Type 0} (place : V → K) (allocates marks : K → Bool) (does : J → State K V → List (Job S J K V) → State K V → Type 0) where
+module _ {S J K V : Type 0} (place : V → K) (allocates : K → Bool) (marks : Markers K V) (does : J → State K V → List (Job S J K V) → State K V → Type 0) where
   -- One command, its reply, and the world's state after it, where `does` tells what a job of the user's may do.
   abbrev pub Step : WorldState S J K V → Command S J K V → Reply V → WorldState S J K V → Type 0
   Step old (Queue job) Done new = Queues job old new

@@ -63,7 +63,7 @@ impl<'a, S: Storages> EntityBuilder<'a, S> {
         ensures* rests { sem 𝓛 (RestsMarked S.row S.table S.ids self.entry result) }
         ensures same_reference { IfOk result (λ b. (lent_to b).ghost_name ≡ (lent_to self.entry).ghost_name) }
         ensures entity { IfOk result (λ b. built b ≡ built self.entry) }
-        ensures ok { IfOk result (λ b. HasMarkerThen slot (built self.entry) (shown S.table S.ids self.entry) (shown S.table S.ids b)) }
+        ensures ok { IfOk result (λ b. HasMarkerThen S.marks slot (built self.entry) (shown S.table S.ids self.entry) (shown S.table S.ids b)) }
         ensures refused { IfErr result (GetsNoMarker S.marks (shown S.table S.ids self.entry) slot (built self.entry)) }
     {
         let EntityBuilder { core, entity } = self;
@@ -94,6 +94,7 @@ impl<'a, S: Storages> Builder<S> for EntityBuilder<'a, S> {
         ensures same_reference { IfOk result (λ b. (lent_to b).ghost_name ≡ (lent_to self.entry).ghost_name) }
         ensures entity { IfOk result (λ b. built b ≡ built self.entry) }
         ensures ok { IfOk result (λ b. MaybePuts S.place S.as_value (built self.entry) component (shown S.table S.ids self.entry) (shown S.table S.ids b)) }
+        ensures refused { IfErr result (λ r. FieldInsertIsRefused (shown S.table S.ids self.entry).people (field_column (S.part (lent_to self.entry).now.parts.storages)) (built self.entry) r.0) }
         ensures back { IfErr result (λ r. component ≡ Some r.1) }
     {
         let EntityBuilder { core, entity } = self;

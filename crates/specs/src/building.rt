@@ -76,7 +76,7 @@ impl<S: Storages> Core<S> {
         ensures* rests { sem 𝓛 (RestsMarkedAt S.row S.table S.ids self.entry entity result) }
         ensures same_reference { IfOk result (λ b. (lent_to b).ghost_name ≡ self.entry.ghost_name) }
         ensures entity { IfOk result (λ b. built b ≡ entity) }
-        ensures ok { IfOk result (λ b. HasMarkerThen slot entity (core_state S.table S.ids self.old) (building.shown S.table S.ids b)) }
+        ensures ok { IfOk result (λ b. HasMarkerThen S.marks slot entity (core_state S.table S.ids self.old) (building.shown S.table S.ids b)) }
         ensures refused { IfErr result (GetsNoMarker S.marks (core_state S.table S.ids self.old) slot entity) }
     {
         give_marker(&mut self.parts, entity, slot)?;
@@ -111,7 +111,7 @@ fn give_marker<S: Storages>(
     entity: Entity,
     slot: S::Slot,
 ) -> Result<(), MarkError>
-    ensures ok { OnOk result (HasMarkerThen slot entity (parts_state S.table S.ids parts.old) (parts_state S.table S.ids parts.new)) }
+    ensures ok { OnOk result (HasMarkerThen S.marks slot entity (parts_state S.table S.ids parts.old) (parts_state S.table S.ids parts.new)) }
     ensures err { OnErr result (OnPeople (λ p p'. MarkedIfAlive p entity p') (parts_state S.table S.ids parts.old) (parts_state S.table S.ids parts.new)) }
     ensures refused { IfErr result (GetsNoMarker S.marks (parts_state S.table S.ids parts.old) slot entity) }
 {

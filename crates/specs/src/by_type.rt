@@ -1,5 +1,5 @@
 //! Calls by a component type: neither its slot, nor its place in the struct, nor the type of all values is written.
-ghost use Rattle.std.specs.Prelude.{◌≡◌, ℕ, true, Some, None, IsSome, IfOk, OnOk, OnErr, IfErr};
+ghost use Rattle.std.specs.Prelude.{◌≡◌, ℕ, true, Some, None, IsSome, IfSome, IfOk, OnOk, OnErr, IfErr};
 ghost use Rattle.std.specs.Option.{option_map};
 ghost use Rattle.entities.specs.Census.{population};
 ghost use Rattle.specs.specs.Registering.{RegistersAs, column_with};
@@ -96,6 +96,7 @@ pub fn register_with<T: Component, S: Has<T, I>, I>(
 )
     requires { (q : ℕ) → (T.Storage.meaning storage).is_free q ≡ true }
     ensures registers { RegistersAs (S.table storages.old) S.the_slot (column_with (T.Storage.meaning storage)) (S.table storages.new) }
+    ensures slice { S.part storages.old ≡ None → IfSome (S.part storages.new) (λ w. (w.extent ≡ (T.Storage.meaning storage).extent) × (w.order ≡ (T.Storage.meaning storage).order)) }
     ensures ids { S.ids storages.new ≡ S.ids storages.old }
 {
     if storages.field().is_none() {

@@ -109,12 +109,13 @@ impl<S: Storages> Core<S> {
     }
 
     /// The death at once of a list of entities, with their components. The whole list is tested first. It takes time near linear in the
-    /// list, and memory for events alone. Ports `WorldExt::delete_entities`.
+    /// list, and memory for events alone; the empty list is never refused. Ports `WorldExt::delete_entities`.
     pub fn delete_entities(&mut self, list: &[Entity]) -> Result<(), DeleteError>
         ensures ok { OnOk result (Deletes list.now (core_state S.table S.ids self.old) (core_state S.table S.ids self.new)) }
         ensures gone { OnOk result (All (IsGone (core_state S.table S.ids self.new).people) list.now) }
         ensures refused { IfErr result (DeleteIsRefused (core_state S.table S.ids self.old) list.now) }
         ensures err { OnErr result (core_state S.table S.ids self.new ≡ core_state S.table S.ids self.old) }
+        ensures idle { list.now ≡ [] → IsOk result }
     {
         if self.parts.storages.reserve_drop(list.len()).is_err() {
             return Err(self.no_room(list));

@@ -1,5 +1,5 @@
 //! Components that are let go without their entities.
-ghost use Rattle.std.specs.Prelude.{◌≡◌, IfOk, OnOk, OnErr};
+ghost use Rattle.std.specs.Prelude.{◌≡◌, [], IsOk, IfOk, OnOk, OnErr};
 ghost use Rattle.std.specs.List.{filter};
 ghost use Rattle.storages.specs.Life.{is_alive};
 ghost use Rattle.specs.specs.Dropping.{DropsComponents};
@@ -12,11 +12,12 @@ use std::alloc::AllocError;
 
 impl<S: Storages> Core<S> {
     /// Lets the components of the entities of a list go, and passes over those that are not alive. The entities stay. It takes memory for
-    /// the list of the others, and for events, and a refused call changes nothing. Ports `WorldExt::delete_components`.
+    /// the list of the others, and for events, and a refused call changes nothing; the empty list is never refused. Ports `WorldExt::delete_components`.
     pub fn delete_components(&mut self, list: &[Entity]) -> Result<(), AllocError>
         ensures ok { OnOk result (DropsComponents list.now (core_state S.table S.ids self.old) (core_state S.table S.ids self.new)) }
         ensures entities { self.new.parts.entities ≡ self.old.parts.entities }
         ensures err { OnErr result (core_state S.table S.ids self.new ≡ core_state S.table S.ids self.old) }
+        ensures idle { list.now ≡ [] → IsOk result }
     {
         let living = self.living_of(list)?;
         self.parts.storages.reserve_drop(living.len())?;
@@ -26,7 +27,8 @@ impl<S: Storages> Core<S> {
 
     // Those of a list that are alive.
     fn living_of(&self, list: &[Entity]) -> Result<Vec<Entity>, AllocError>
-        ensures { IfOk result (λ living. living.items ≡ filter (is_alive (core_state S.table S.ids self.now).people) list.now) }
+        ensures items { IfOk result (λ living. living.items ≡ filter (is_alive (core_state S.table S.ids self.now).people) list.now) }
+        ensures idle { list.now ≡ [] → IsOk result }
     {
         let mut living = Vec::new(self.alloc);
         for e in list {

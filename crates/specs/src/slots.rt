@@ -6,7 +6,7 @@ ghost use Rattle.entities.specs.Census.{population};
 ghost use Rattle.storages.specs.Meaning.{HasRoom};
 ghost use Rattle.specs.specs.Column.{Column, WantsNone, without_values};
 ghost use Rattle.specs.specs.Ids.{IdsAfter};
-ghost use Rattle.specs.specs.Marks.{GivesMarker, MarkerIsRefused};
+ghost use Rattle.specs.specs.Marks.{Markers, GivesMarker, MarkerIsRefused};
 ghost use Rattle.specs.specs.Readers.{RegistersReader, RegisterReaderIsRefused, ReadsEvents, DropsReader, ReaderIsRefused, Switches, SwitchIsRefused};
 ghost use Rattle.specs.specs.Table.{Registers, Inserts, InsertIsRefused, Gets, GetIsRefused, Removes, RemoveIsRefused, Clears, ClearIsRefused, IsMask};
 
@@ -38,7 +38,7 @@ pub trait Storages {
     ghost allocates: { Self.Slot → Bool };
 
     /// Whether the slot is of markers.
-    ghost marks: { Self.Slot → Bool };
+    ghost marks: { Markers Self.Slot Self.Value };
 
     /// How many new ids a slot's markers can still get, and none where that can't be told.
     ghost ids: { Self → Self.Slot → Option ℕ };
@@ -112,10 +112,10 @@ pub trait Storages {
         slot: Self::Slot,
         e: Entity,
     ) -> Result<Option<bool>, MarkError>
-        ensures ok { IfOk result (λ given. GivesMarker (population entities.now) (table self.old) slot e given (table self.new)) }
+        ensures ok { IfOk result (λ given. GivesMarker (marks.comes slot (ids self.old slot)) (population entities.now) (table self.old) slot e given (table self.new)) }
         ensures ids { IfOk result (λ given. IdsAfter given (ids self.old) slot (ids self.new)) }
-        ensures marker { OnOk result (marks slot ≡ true) }
-        ensures refused { IfErr result (MarkerIsRefused (marks slot) (ids self.old slot) (population entities.now) (table self.old) slot e) }
+        ensures marker { OnOk result (marks.holds slot ≡ true) }
+        ensures refused { IfErr result (MarkerIsRefused (marks.holds slot) (ids self.old slot) (population entities.now) (table self.old) slot e) }
         ensures err { OnErr result (table self.new ≡ table self.old) }
         ensures err_ids { OnErr result (ids self.new ≡ ids self.old) };
 
@@ -166,5 +166,5 @@ pub trait Storages {
     ghost exact: { (a b : Self.Slot) → Decides (Self.Slot.eq a b) (a ≡ b) };
 
     /// A slot without markers has no id to give.
-    ghost idless: { (s : Self) (k : Self.Slot) → marks k ≡ false → ids s k ≡ Some 0 };
+    ghost idless: { (s : Self) (k : Self.Slot) → marks.holds k ≡ false → ids s k ≡ Some 0 };
 }

@@ -1,5 +1,5 @@
 //! Storages of a core, by their component types.
-ghost use Rattle.std.specs.Prelude.{◌≡◌, ℕ, true, Some, None, IsSome, IfOk, OnOk, OnErr};
+ghost use Rattle.std.specs.Prelude.{◌≡◌, ℕ, true, Some, None, IsSome, IfSome, IfOk, OnOk, OnErr};
 ghost use Rattle.std.specs.Borrow.{sem};
 ghost use Rattle.storages.specs.ReadView as reading;
 ghost use Rattle.specs.specs.Registering.{RegistersAs, column_with};
@@ -34,13 +34,14 @@ impl<S: Storages> Core<S> {
         self.parts.storages.register(self.alloc, S::slot())
     }
 
-    /// Takes an empty storage for a component type where none was, else lets it go and changes nothing. The slot has the readers and the
-    /// emission that the storage has. Ports `WorldExt::register_with_storage`.
+    /// Takes an empty storage for a component type where none was, else lets it go and changes nothing. The slot has the readers, the
+    /// emission and the slice that the storage has. Ports `WorldExt::register_with_storage`.
     pub fn register_with_storage<T: Component, I>(&mut self, storage: T::Storage)
     where
         S: Has<T, I>,
         requires { (q : ℕ) → (T.Storage.meaning storage).is_free q ≡ true }
-        ensures { OnTable (λ t t'. RegistersAs t S.the_slot (column_with (T.Storage.meaning storage)) t') (core_state S.table S.ids self.old) (core_state S.table S.ids self.new) }
+        ensures registers { OnTable (λ t t'. RegistersAs t S.the_slot (column_with (T.Storage.meaning storage)) t') (core_state S.table S.ids self.old) (core_state S.table S.ids self.new) }
+        ensures slice { S.part self.old.parts.storages ≡ None → IfSome (S.part self.new.parts.storages) (λ w. (w.extent ≡ (T.Storage.meaning storage).extent) × (w.order ≡ (T.Storage.meaning storage).order)) }
     {
         by_type::register_with(&mut self.parts.storages, self.alloc, storage);
     }

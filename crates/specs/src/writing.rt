@@ -1,11 +1,12 @@
 //! A storage of a core, to write to.
-ghost use Rattle.std.specs.Prelude.{◌≡◌, ◌↔◌, Some, None, Err, IsSome, IsTrue, IfOk, IfErr, OnOk, OnErr, option_copied};
+ghost use Rattle.std.specs.Prelude.{◌≡◌, ◌↔◌, Some, None, Err, IsSome, IsTrue, IfSome, IfOk, IfErr, OnOk, OnErr, option_copied};
 ghost use Rattle.std.specs.Borrow.{sem};
 ghost use Rattle.std.specs.Option.{option_map};
 ghost use Rattle.std.specs.FinMap as map;
 ghost use Rattle.storages.specs.ReadView as reading;
 ghost use Rattle.storages.specs.Slot as masked;
-ghost use Rattle.specs.specs.Field.{FieldInserts, FieldGets, FieldRemoves, FieldClears, WriteIsRefused, Holds, field_column};
+ghost use Rattle.specs.specs.Field.{FieldInserts, FieldGets, FieldRemoves, FieldClears, WriteIsRefused, Holds, column_of, field_column};
+ghost use Rattle.specs.specs.Column.{wants_memory};
 ghost use Rattle.specs.specs.State.{OnTable, InsertsAlone, RemovesAlone};
 ghost use Rattle.specs.specs.Table.{Inserts, Gets, Removes, RemovalWantsMemory, Clears, ClearingWantsMemory};
 ghost use Rattle.specs.specs.Writing.{lent, storages_of, shown, LendsMasked, LendsHere, LendsValue, LendsComponent};
@@ -121,12 +122,13 @@ impl<'a, S: Has<T, I>, T: Component, I> Writing<'a, S, T, I> {
         }
     }
 
-    /// The component of an entity that is alive, to write to. Ports `Storage::get_mut`.
+    /// The component of an entity that is alive, to write to. It takes memory for an event alone, as a removal does. Ports `Storage::get_mut`.
     pub fn get_mut(&mut self, e: Entity) -> Result<&mut T, NotLent>
         requires { IsSome (S.part (storages_of self.old)) }
         ensures* writes_back { sem 𝓛 (LendsComponent S.row T.row I.row S.part S.with_part self.entry e result) }
         ensures value { IfOk result (λ x. FieldGets (shown S.table S.ids self.old).people (field_column (S.part (storages_of self.old))) e (Some x.now)) }
         ensures absent { (result ≡ Err NotLent.Absent) ↔ FieldGets (shown S.table S.ids self.old).people (field_column (S.part (storages_of self.old))) e None }
+        ensures refused { result ≡ Err NotLent.OutOfMemory → RemovalWantsMemory (shown S.table S.ids self.old).people (field_column (S.part (storages_of self.old))) e }
     {
         if !self.core.parts.entities.is_alive(e) {
             return Err(NotLent::Absent);
@@ -158,8 +160,11 @@ fn component_mut<T: Component, S: Has<T, I>, I>(
     ensures* writes_back { sem 𝓛 (LendsValue S.row T.row S.part S.with_part storages.entry id result) }
     ensures value { IfOk result (λ x. option_map (λ (w : masked.Slot T). map.get w.map id) (S.part storages.old) ≡ Some (Some x.now)) }
     ensures absent { (result ≡ Err NotLent.Absent) ↔ (option_map (λ (w : masked.Slot T). map.get w.map id) (S.part storages.old) ≡ Some None) }
+    ensures refused { result ≡ Err NotLent.OutOfMemory → IfSome (S.part storages.old) (λ w. IsSome (map.get w.map id) × IsTrue (wants_memory (column_of w))) }
 {
-    here(storages).get_mut(id)
+    let storage = here(storages);
+    let _heard = storage.needs_room();
+    storage.get_mut(id)
 }
 
 // The storage of a component type that is registered.

@@ -6,6 +6,9 @@ use Rattle.specs.proofs.Values.{column_is}
 use Rattle.specs.proofs.Shown.{registers_as, no_values_as, others_stay}
 use Rattle.specs.proofs.by_type.register_with.Goals as goal
 
+pub returns-then-is_none-clause-slice : goal.returns-then-is_none-clause-slice
+returns-then-is_none-clause-slice g c = λ none. rw (c.set_field.ensures, g.met.S.Field.puts c.args.storages.now c.new.result) (c.new.ensures.extent, c.new.ensures.order)
+
 pub returns-then-is_none-clause-registers : goal.returns-then-is_none-clause-registers
 returns-then-is_none-clause-registers g c =
     let value = g.S.Has.as_value in

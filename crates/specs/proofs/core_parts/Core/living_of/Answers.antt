@@ -27,5 +27,5 @@ loop-e-preserved g c =
           ∙ ap (λ b. filter p (take k es) ++ cond b (e ∷ []) []) (sym (dead_false (population c.args.self.now.parts.entities) e (λ alive. both_ways _ w.if-is_alive.false (c.is_alive.ensures.alive.1 alive)))) ∙ sym more
     ]
 
-pub returns : goal.returns
-returns g c = c.loop-e.invariant ∙ ap (filter (is_alive (population c.args.self.now.parts.entities))) (take_all c.loop-e.e-index c.args.list.now c.loop-e-test.false)
+pub returns-clause-items : goal.returns-clause-items
+returns-clause-items g c = c.loop-e.invariant ∙ ap (filter (is_alive (population c.args.self.now.parts.entities))) (take_all c.loop-e.e-index c.args.list.now c.loop-e-test.false)
