@@ -1,5 +1,5 @@
 //! The walk of a cursor.
-ghost use Rattle.std.specs.Prelude.{◌≡◌, ℕ, Bool, ◌&&◌, ◌+◌, ◌<◌, ◌≤◌, true, false, IfSome, is_some, not};
+ghost use Rattle.std.specs.Prelude.{◌≡◌, ℕ, Bool, ◌&&◌, ◌+◌, ◌<◌, ◌≤◌, true, false, IfSome, IfNone, [], is_some, not};
 ghost use Rattle.std.specs.Option.{ForSome};
 ghost use Rattle.hibits.specs.Left.{left};
 ghost use Rattle.hibits.specs.WalkOf.{IsWalkOf, position};
@@ -75,6 +75,7 @@ impl<J: Join> Steps<J> {
         ensures below { IfSome result (λ i. i < INDEX_LIMIT) }
         ensures forward { position self.old.walk ≤ position self.new.walk }
         ensures after { IfSome result (λ i. position self.new.walk ≡ i + 1) }
+        ensures ended { IfNone result (left (λ i. M.has own.now 0 i && J.Mask.has self.old.mask 0 i) (position self.new.walk) ≡ []) }
         ensures current { self.new.current ≡ result }
         ensures mask { self.new.mask ≡ self.old.mask }
         ensures values { self.new.values ≡ self.old.values }

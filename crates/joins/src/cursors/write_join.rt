@@ -1,5 +1,5 @@
 //! A cursor that lends components for writing.
-ghost use Rattle.std.specs.Prelude.{◌≡◌, ℕ, Bool, ◌&&◌, not, true, false, Some, None, Err, IfSome, IfOk, IsOk, IsSome, [], ◌∷◌, MatchOption, is_some, ◌↔◌};
+ghost use Rattle.std.specs.Prelude.{◌≡◌, ℕ, Bool, ◌&&◌, not, true, false, Some, None, Err, IfSome, IfNone, IfOk, IsOk, IsSome, [], ◌∷◌, MatchOption, is_some, ◌↔◌};
 ghost use Rattle.std.specs.Borrow.{sem};
 ghost use Rattle.std.specs.FinMap as map;
 ghost use Rattle.std.specs.Option.{ForSome};
@@ -49,6 +49,7 @@ impl<'a, T: Component, J: Join> WriteJoin<'a, T, J> {
         ensures same_reference { storage_name self.new ≡ storage_name self.old }
         ensures slot { slot self.new ≡ slot self.old }
         ensures rest { MatchOption result (rest self.old ≡ []) (λ i. rest self.old ≡ i ∷ rest self.new) }
+        ensures ended { IfNone result (rest self.new ≡ []) }
         ensures here { here self.new ≡ result }
         ensures there { IfSome result (λ i. map.contains_key (slot self.old).map i ≡ true) }
         ensures given { is_given self.new ≡ false }
