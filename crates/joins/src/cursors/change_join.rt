@@ -1,5 +1,5 @@
 //! A cursor that lends the values of a change set for writing.
-ghost use Rattle.std.specs.Prelude.{◌≡◌, ◌↔◌, ℕ, Bool, ◌&&◌, not, true, false, Some, None, IfSome, IfNone, [], ◌∷◌, MatchOption, is_some};
+ghost use Rattle.std.specs.Prelude.{◌≡◌, ◌↔◌, ℕ, Bool, ◌&&◌, ◌||◌, not, true, false, Some, None, IfSome, IfNone, [], ◌∷◌, MatchOption, is_some};
 ghost use Rattle.std.specs.Borrow.{sem};
 ghost use Rattle.std.specs.FinMap as map;
 ghost use Rattle.std.specs.Option.{ForSome};
@@ -75,6 +75,8 @@ impl<'a, T: Combine + Drop, J: Join> ChangeJoin<'a, T, J> {
         ensures here { here self.new ≡ here self.old }
         ensures some { is_some result ≡ (not (is_given self.old) && is_some (here self.old)) }
         ensures given { IfSome result (λ r. IfSome (here self.old) (λ i. gives self.old i r)) }
+        ensures once { is_given self.new ≡ (is_some (here self.old) || is_given self.old) }
+        ensures gives { (i : ℕ) (r : J.Type) → gives self.new i r → gives self.old i r }
     {
         self.steps.beside()
     }

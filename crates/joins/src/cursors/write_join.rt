@@ -1,5 +1,5 @@
 //! A cursor that lends components for writing.
-ghost use Rattle.std.specs.Prelude.{◌≡◌, ℕ, Bool, ◌&&◌, not, true, false, Some, None, Err, IfSome, IfNone, IfOk, IsOk, IsSome, [], ◌∷◌, MatchOption, is_some, ◌↔◌};
+ghost use Rattle.std.specs.Prelude.{◌≡◌, ℕ, Bool, ◌&&◌, ◌||◌, not, true, false, Some, None, Err, IfSome, IfNone, IfOk, IsOk, IsSome, [], ◌∷◌, MatchOption, is_some, ◌↔◌};
 ghost use Rattle.std.specs.Borrow.{sem};
 ghost use Rattle.std.specs.FinMap as map;
 ghost use Rattle.std.specs.Option.{ForSome};
@@ -81,6 +81,8 @@ impl<'a, T: Component, J: Join> WriteJoin<'a, T, J> {
         ensures here { here self.new ≡ here self.old }
         ensures some { is_some result ≡ (not (is_given self.old) && is_some (here self.old)) }
         ensures given { IfSome result (λ r. IfSome (here self.old) (λ i. gives self.old i r)) }
+        ensures once { is_given self.new ≡ (is_some (here self.old) || is_given self.old) }
+        ensures gives { (i : ℕ) (r : J.Type) → gives self.new i r → gives self.old i r }
     {
         self.steps.beside()
     }
