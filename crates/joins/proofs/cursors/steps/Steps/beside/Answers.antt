@@ -1,4 +1,4 @@
-use Rattle.std.proofs.Common.{arith}
+use Rattle.std.proofs.Common.{◌≡◌, false, rules, arith}
 use Rattle.joins.proofs.BesideLemmas.{give_at_most, gives_here, at_some}
 use Rattle.joins.proofs.cursors.steps.Steps.beside.Goals as goal
 
@@ -15,7 +15,8 @@ returns-clause-later g c = λ i r ge v. let at = c.args.self.now.here c.in_ok-id
 
 pub returns-clause-given : goal.returns-clause-given
 returns-clause-given g c =
-    at_some _ _ c.in_ok-id.id c.in_ok-id.was (record { ahead = gives_here _ _ _ _ c.if-self.false c.in_ok-id.was; value = c.get.ensures.given })
+    let fresh : c.args.self.now.given ≡ false = search rules in
+    at_some _ _ c.in_ok-id.id c.in_ok-id.was (record { ahead = gives_here _ _ _ _ fresh c.in_ok-id.was; value = c.get.ensures.given })
 
 pub returns-clause-gives : goal.returns-clause-gives
 returns-clause-gives g c = λ i r e.
