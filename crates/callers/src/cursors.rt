@@ -11,7 +11,7 @@ ghost use Rattle.storages.specs.WriteView.{slot};
 use crate::components::Health;
 use entities::EntitiesRes;
 use hibits::{BitSet, BitSetAll, Index};
-use joins::{Drain, EntryJoin, JoinMut, RestrictedStorageMut, WriteJoin2};
+use joins::{Drain, EntryJoin, Join, JoinMut, RestrictedStorageMut, WriteJoin2};
 use std::alloc::AllocError;
 use storages::{Component, MaskedStorage, VecStorage, WriteStorage};
 
@@ -71,6 +71,24 @@ pub fn all_have(storage: &mut MaskedStorage<Health>, other: &BitSet, health: Hea
             *place = health;
         }
     }
+}
+
+/// What a join has at the first two indices that it shares with a storage, each after its index.
+pub fn first_two_beside<J: Join>(
+    storage: &mut MaskedStorage<Health>,
+    join: J,
+) -> Option<((Index, J::Type), (Index, J::Type))>
+where
+    J::Type: Drop,
+    ensures first { IfSome result (λ r. J.gives join r.0.0 r.0.1) }
+    ensures second { IfSome result (λ r. J.gives join r.1.0 r.1.1) }
+{
+    let mut cursor = storage.join_mut(join);
+    let first = cursor.next()?;
+    let beside_first = cursor.beside()?;
+    let second = cursor.next()?;
+    let beside_second = cursor.beside()?;
+    Some(((first, beside_first), (second, beside_second)))
 }
 
 /// The component of the first index of both is taken out, and no other.

@@ -27,7 +27,7 @@ pub use components::{
 };
 pub use cursors::{
     Shield, all_have, all_taken, first_has, first_in_view_has, first_living_has, first_low_healed,
-    first_taken, next_pair_has,
+    first_taken, first_two_beside, next_pair_has,
 };
 pub use entries::{ninety_at, taken, three_and_found};
 pub use jobs::{Again, Late, Spread, queue};

@@ -1,3 +1,4 @@
+pub mod BesideLemmas
 pub mod CursorLemmas
 pub mod Holding
 pub mod PassedLemmas

@@ -7,6 +7,7 @@ use mir.Syntax.{named}
 use Rattle.hibits.specs.Left.{left}
 use Rattle.hibits.specs.WalkOf.{position}
 use Rattle.hibits.specs.declared.layers.Layers as layers
+use Rattle.joins.specs.Beside.{Gives}
 use Rattle.joins.specs.declared.join.Join as join
 use Rattle.joins.specs.declared.cursors.change_join.ChangeJoin.{ChangeJoin}
 use Rattle.joins.specs.contracts.cursors.change_join.ChangeJoin.{the_row}
@@ -31,9 +32,9 @@ module _ {T J X V M : Type 0} {j : join.Ghosts J X V M} {l : layers.Ghosts M} wh
   abbrev pub rest : ChangeJoin T J X V M j l → List ℕ
   rest c = left (λ i. map.contains_key (values c) i && l.has c.steps.mask 0 i) (position c.steps.walk)
 
-  -- r is what stands beside the index
+  -- r is what stands beside the index, which was neither passed nor given
   abbrev pub gives : ChangeJoin T J X V M j l → ℕ → X → Type 0
-  gives c i r = j.value_gives c.steps.values i r
+  gives c i r = Gives c.steps i r
 
   -- the cursor stands where it stood, with the same before it and beside it
   pub record Stays (c c' : ChangeJoin T J X V M j l) : Type 0 where

@@ -10,6 +10,7 @@ use Rattle.storages.specs.declared.unprotected.UnprotectedStorage as unprotected
 use Rattle.storages.specs.declared.unprotected.TryDefault as default
 use Rattle.storages.specs.declared.event.ComponentEvent.TheVariants.{Modified}
 use Rattle.storages.specs.Slot.{Slot, IsSame, Becomes}
+use Rattle.joins.specs.Beside.{Gives}
 use Rattle.joins.specs.declared.join.Join as join
 use Rattle.joins.specs.declared.cursors.write_join.WriteJoin.{WriteJoin}
 use Rattle.joins.specs.contracts.cursors.write_join.WriteJoin.{the_row}
@@ -34,9 +35,9 @@ module _ {T J S X V M : Type 0} {u : unprotected.Ghosts S T} {d : default.Ghosts
   abbrev pub rest : WriteJoin T J S X V M u d j l → List ℕ
   rest c = left (λ i. map.contains_key (slot c).map i && l.has c.steps.mask 0 i) (position c.steps.walk)
 
-  -- r is what stands beside the index
+  -- r is what stands beside the index, which was neither passed nor given
   abbrev pub gives : WriteJoin T J S X V M u d j l → ℕ → X → Type 0
-  gives c i r = j.value_gives c.steps.values i r
+  gives c i r = Gives c.steps i r
 
   -- the cursor stands where it stood, with the same before it and beside it
   pub record Stays (c c' : WriteJoin T J S X V M u d j l) : Type 0 where

@@ -10,6 +10,7 @@ use Rattle.storages.specs.declared.unprotected.UnprotectedStorage as unprotected
 use Rattle.storages.specs.declared.unprotected.TryDefault as default
 use Rattle.storages.specs.declared.event.ComponentEvent.TheVariants.{Modified}
 use Rattle.storages.specs.Slot.{Slot, IsSame, Becomes}
+use Rattle.joins.specs.Beside.{Gives}
 use Rattle.joins.specs.declared.join.Join as join
 use Rattle.joins.specs.declared.cursors.write_join2.WriteJoin2.{WriteJoin2}
 use Rattle.joins.specs.contracts.cursors.write_join2.WriteJoin2.{the_row}
@@ -40,9 +41,9 @@ module _ {A B J AS BS X V M : Type 0} {ua : unprotected.Ghosts AS A} {da : defau
   abbrev pub rest : WriteJoin2 A B J AS BS X V M ua da ub db j l → List ℕ
   rest c = left (λ i. (map.contains_key (first_slot c).map i && map.contains_key (second_slot c).map i) && l.has c.steps.mask 0 i) (position c.steps.walk)
 
-  -- r is what stands beside the index
+  -- r is what stands beside the index, which was neither passed nor given
   abbrev pub gives : WriteJoin2 A B J AS BS X V M ua da ub db j l → ℕ → X → Type 0
-  gives c i r = j.value_gives c.steps.values i r
+  gives c i r = Gives c.steps i r
 
   -- the cursor stands where it stood, with the same before it and beside it
   pub record Stays (c c' : WriteJoin2 A B J AS BS X V M ua da ub db j l) : Type 0 where

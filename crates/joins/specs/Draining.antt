@@ -14,6 +14,7 @@ use Rattle.storages.specs.contracts.write_storage.WriteStorage as view
 use Rattle.storages.specs.contracts.masked.MaskedStorage as masked
 use Rattle.storages.specs.WriteView.{with_slot}
 use Rattle.storages.specs.Slot.{Slot}
+use Rattle.joins.specs.Beside.{Gives}
 use Rattle.joins.specs.declared.join.Join as join
 use Rattle.joins.specs.declared.cursors.drain.Drain.{Drain}
 
@@ -40,9 +41,9 @@ module _ {T J S X V M : Type 0} {u : unprotected.Ghosts S T} {d : default.Ghosts
   abbrev pub rest : Drain T J S X V M u d j l → List ℕ
   rest c = left (λ i. map.contains_key (slot c).map i && l.has c.steps.mask 0 i) (position c.steps.walk)
 
-  -- r is what stands beside the index
+  -- r is what stands beside the index, which was neither passed nor given
   abbrev pub gives : Drain T J S X V M u d j l → ℕ → X → Type 0
-  gives c i r = j.value_gives c.steps.values i r
+  gives c i r = Gives c.steps i r
 
 module _ (T S : RattleType) {u : unprotected.Ghosts S.Denot T.Denot} {d : default.Ghosts S.Denot} {J X V M : Type 0} {j : join.Ghosts J X V M} {l : layers.Ghosts M} where
   -- once the cursor ends, the view has the slot that it left

@@ -11,6 +11,7 @@ use Rattle.storages.specs.declared.unprotected.UnprotectedStorage as unprotected
 use Rattle.storages.specs.declared.unprotected.TryDefault as default
 use Rattle.storages.specs.contracts.masked.MaskedStorage as masked
 use Rattle.storages.specs.Slot.{Slot}
+use Rattle.joins.specs.Beside.{Gives}
 use Rattle.joins.specs.declared.join.Join as join
 use Rattle.joins.specs.declared.cursors.entry_join.EntryJoin.{EntryJoin}
 use Rattle.joins.specs.contracts.cursors.entry_join.EntryJoin.{the_row}
@@ -38,9 +39,9 @@ module _ {T J S X V M : Type 0} {u : unprotected.Ghosts S T} {d : default.Ghosts
   abbrev pub rest : EntryJoin T J S X V M u d j l → List ℕ
   rest c = left (λ i. lives (population (entities_of c)) i && l.has c.steps.mask 0 i) (position c.steps.walk)
 
-  -- r is what stands beside the index
+  -- r is what stands beside the index, which was neither passed nor given
   abbrev pub gives : EntryJoin T J S X V M u d j l → ℕ → X → Type 0
-  gives c i r = j.value_gives c.steps.values i r
+  gives c i r = Gives c.steps i r
 
   -- the cursor stands where it stood, over the same entities, and its storage is s
   pub record Has (c c' : EntryJoin T J S X V M u d j l) (s : Slot T) : Type 0 where

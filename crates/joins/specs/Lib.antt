@@ -1,3 +1,4 @@
+pub mod Beside
 pub mod Both
 pub mod ChangeCursor
 pub mod ChangeLends

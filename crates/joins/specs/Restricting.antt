@@ -14,6 +14,7 @@ use Rattle.storages.specs.declared.unprotected.TryDefault as default
 use Rattle.storages.specs.declared.event.ComponentEvent.TheVariants.{Modified}
 use Rattle.storages.specs.Found.{found_in}
 use Rattle.storages.specs.Slot.{Slot, IsSame, Becomes}
+use Rattle.joins.specs.Beside.{Gives}
 use Rattle.joins.specs.declared.join.Join as join
 use Rattle.joins.specs.declared.cursors.restricted_mut.RestrictedStorageMut.{RestrictedStorageMut}
 use Rattle.joins.specs.contracts.cursors.restricted_mut.RestrictedStorageMut.{the_row}
@@ -50,9 +51,9 @@ module _ {T J S X V M : Type 0} {u : unprotected.Ghosts S T} {d : default.Ghosts
   abbrev pub rest : RestrictedStorageMut T J S X V M u d j l → List ℕ
   rest c = left (λ i. map.contains_key (slot c).map i && l.has c.steps.mask 0 i) (position c.steps.walk)
 
-  -- r is what stands beside the index
+  -- r is what stands beside the index, which was neither passed nor given
   abbrev pub gives : RestrictedStorageMut T J S X V M u d j l → ℕ → X → Type 0
-  gives c i r = j.value_gives c.steps.values i r
+  gives c i r = Gives c.steps i r
 
   -- the cursor stands where it stood, with the same before it and beside it
   pub record Stays (c c' : RestrictedStorageMut T J S X V M u d j l) : Type 0 where

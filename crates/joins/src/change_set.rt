@@ -120,7 +120,7 @@ impl<T: Combine + Drop> ChangeSet<T> {
     /// Adds the values of a list, in its order, until one is refused. What came before it stays added.
     pub fn extend(&mut self, list: Vec<(Entity, T)>) -> Result<(), ChangeError>
         ensures ok { OnOk result (self.new ≡ all_changed T.combined list.items self.old) }
-        ensures err { OnErr result (StopsIn T.combined list.items self.old self.new) }
+        ensures err { IfErr result (StopsIn T.combined T.may_refuse list.items self.old self.new) }
     {
         for (entity, value) in list {
             self.add(entity, value)?;
@@ -130,7 +130,8 @@ impl<T: Combine + Drop> ChangeSet<T> {
 
     /// A change set with the values of a list, added in its order. Where one is refused there is no change set.
     pub fn from_list(alloc: Global, list: Vec<(Entity, T)>) -> Result<Self, ChangeError>
-        ensures { IfOk result (λ s. s ≡ all_changed T.combined list.items map.empty) }
+        ensures ok { IfOk result (λ s. s ≡ all_changed T.combined list.items map.empty) }
+        ensures err { IfErr result (λ e. (m : _) × StopsIn T.combined T.may_refuse list.items map.empty m e) }
     {
         let mut changes = ChangeSet::new(alloc);
         changes.extend(list)?;

@@ -1,5 +1,5 @@
 //! The values of a join.
-ghost use Rattle.std.specs.Prelude.{◌≡◌, ℕ, ◌+◌, ◌-◌, ◌*◌, ◌≤◌, ◌<◌, true, false, MatchOption, IfSome, IfNone, ⊤};
+ghost use Rattle.std.specs.Prelude.{◌≡◌, ℕ, ◌+◌, ◌-◌, ◌*◌, ◌≤◌, ◌<◌, true, false, MatchOption, IfSome, IfNone, [], ⊤};
 ghost use Rattle.std.specs.Iterator.{item_count, MakesProgress};
 ghost use Rattle.hibits.specs.Left.{left};
 ghost use Rattle.entities.specs.Census.{population};
@@ -56,6 +56,7 @@ impl<J: Join> JoinIter<J> {
         ensures mask { self.new.keys.mask ≡ self.old.keys.mask }
         ensures items { GivesNext (J.Mask.has self.old.keys.mask 0) (J.value_gives self.old.values) self.old.keys.position self.new.keys.position result }
         ensures forward { IfSome result (λ _. (self.old.keys.position < self.new.keys.position) × (self.new.keys.position ≤ INDEX_LIMIT)) }
+        ensures ended { IfNone result (left (J.Mask.has self.new.keys.mask 0) self.new.keys.position ≡ []) }
         ensures later_gives { (i : ℕ) (r : J.Type) → self.new.keys.position ≤ i → J.value_gives self.new.values i r → J.value_gives self.old.values i r }
         ensures again_gives { J.repeats ≡ true → (i : ℕ) (r : J.Type) → J.value_gives self.new.values i r → J.value_gives self.old.values i r }
     {

@@ -1,5 +1,5 @@
 //! A cursor that lends the values of a change set for writing.
-ghost use Rattle.std.specs.Prelude.{◌≡◌, ◌↔◌, ℕ, Bool, ◌&&◌, not, true, false, Some, None, IfSome, [], ◌∷◌, MatchOption, is_some};
+ghost use Rattle.std.specs.Prelude.{◌≡◌, ◌↔◌, ℕ, Bool, ◌&&◌, ◌||◌, not, true, false, Some, None, IfSome, IfNone, [], ◌∷◌, MatchOption, is_some};
 ghost use Rattle.std.specs.Borrow.{sem};
 ghost use Rattle.std.specs.FinMap as map;
 ghost use Rattle.std.specs.Option.{ForSome};
@@ -46,6 +46,7 @@ impl<'a, T: Combine + Drop, J: Join> ChangeJoin<'a, T, J> {
         ensures same_reference { changes_name self.new ≡ changes_name self.old }
         ensures values { values self.new ≡ values self.old }
         ensures rest { MatchOption result (rest self.old ≡ []) (λ i. rest self.old ≡ i ∷ rest self.new) }
+        ensures ended { IfNone result (rest self.new ≡ []) }
         ensures here { here self.new ≡ result }
         ensures there { IfSome result (λ i. map.contains_key (values self.old) i ≡ true) }
         ensures given { is_given self.new ≡ false }
@@ -74,6 +75,8 @@ impl<'a, T: Combine + Drop, J: Join> ChangeJoin<'a, T, J> {
         ensures here { here self.new ≡ here self.old }
         ensures some { is_some result ≡ (not (is_given self.old) && is_some (here self.old)) }
         ensures given { IfSome result (λ r. IfSome (here self.old) (λ i. gives self.old i r)) }
+        ensures once { is_given self.new ≡ (is_some (here self.old) || is_given self.old) }
+        ensures gives { (i : ℕ) (r : J.Type) → gives self.new i r → gives self.old i r }
     {
         self.steps.beside()
     }

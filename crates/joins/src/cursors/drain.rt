@@ -1,5 +1,5 @@
 //! A cursor that takes components out.
-ghost use Rattle.std.specs.Prelude.{◌≡◌, ℕ, ◌&&◌, not, true, false, None, Ok, IfSome, IfOk, IsOk, OnOk, OnErr, IsSome, [], ◌∷◌, MatchOption, is_some};
+ghost use Rattle.std.specs.Prelude.{◌≡◌, ℕ, ◌&&◌, ◌||◌, not, true, false, None, Ok, IfSome, IfNone, IfOk, IsOk, OnOk, OnErr, IsSome, [], ◌∷◌, MatchOption, is_some};
 ghost use Rattle.std.specs.FinMap as map;
 ghost use Rattle.hibits.specs.Sets.{has_part};
 ghost use Rattle.hibits.specs.WalkOf.{IsWalkOf};
@@ -62,6 +62,7 @@ impl<'a, T: Component, J: Join> Drain<'a, T, J> {
         ensures same_reference { storage_name self.new ≡ storage_name self.old }
         ensures slot { slot self.new ≡ slot self.old }
         ensures rest { MatchOption result (rest self.old ≡ []) (λ i. rest self.old ≡ i ∷ rest self.new) }
+        ensures ended { IfNone result (rest self.new ≡ []) }
         ensures here { here self.new ≡ result }
         ensures there { IfSome result (λ i. map.contains_key (slot self.old).map i ≡ true) }
         ensures given { is_given self.new ≡ false }
@@ -99,6 +100,8 @@ impl<'a, T: Component, J: Join> Drain<'a, T, J> {
         ensures here { here self.new ≡ here self.old }
         ensures some { is_some result ≡ (not (is_given self.old) && is_some (here self.old)) }
         ensures given { IfSome result (λ r. IfSome (here self.old) (λ i. gives self.old i r)) }
+        ensures once { is_given self.new ≡ (is_some (here self.old) || is_given self.old) }
+        ensures gives { (i : ℕ) (r : J.Type) → gives self.new i r → gives self.old i r }
     {
         self.steps.beside()
     }

@@ -1,5 +1,5 @@
 //! A cursor of a restricted storage.
-ghost use Rattle.std.specs.Prelude.{◌≡◌, ℕ, Bool, ◌&&◌, not, true, false, Some, None, Err, IfSome, IfOk, IsOk, IsSome, [], ◌∷◌, MatchOption, is_some, option_copied, ◌↔◌};
+ghost use Rattle.std.specs.Prelude.{◌≡◌, ℕ, Bool, ◌&&◌, ◌||◌, not, true, false, Some, None, Err, IfSome, IfNone, IfOk, IsOk, IsSome, [], ◌∷◌, MatchOption, is_some, option_copied, ◌↔◌};
 ghost use Rattle.std.specs.Borrow.{sem};
 ghost use Rattle.std.specs.FinMap as map;
 ghost use Rattle.std.specs.Option.{ForSome};
@@ -96,6 +96,7 @@ impl<'a, 'b, T: Component, J: Join> RestrictedStorageMut<'a, 'b, T, J> {
         ensures slot { slot self.new ≡ slot self.old }
         ensures entities { entities_of self.new ≡ entities_of self.old }
         ensures rest { MatchOption result (rest self.old ≡ []) (λ i. rest self.old ≡ i ∷ rest self.new) }
+        ensures ended { IfNone result (rest self.new ≡ []) }
         ensures here { here self.new ≡ result }
         ensures there { IfSome result (λ i. map.contains_key (slot self.old).map i ≡ true) }
         ensures given { is_given self.new ≡ false }
@@ -163,6 +164,8 @@ impl<'a, 'b, T: Component, J: Join> RestrictedStorageMut<'a, 'b, T, J> {
         ensures here { here self.new ≡ here self.old }
         ensures some { is_some result ≡ (not (is_given self.old) && is_some (here self.old)) }
         ensures given { IfSome result (λ r. IfSome (here self.old) (λ i. gives self.old i r)) }
+        ensures once { is_given self.new ≡ (is_some (here self.old) || is_given self.old) }
+        ensures gives { (i : ℕ) (r : J.Type) → gives self.new i r → gives self.old i r }
     {
         self.steps.beside()
     }

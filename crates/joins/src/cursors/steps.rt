@@ -1,5 +1,5 @@
 //! The walk of a cursor.
-ghost use Rattle.std.specs.Prelude.{◌≡◌, ℕ, Bool, ◌&&◌, ◌+◌, ◌<◌, ◌≤◌, true, false, IfSome, is_some, not};
+ghost use Rattle.std.specs.Prelude.{◌≡◌, ℕ, Bool, ◌&&◌, ◌||◌, ◌+◌, ◌<◌, ◌≤◌, true, false, IfSome, IfNone, [], is_some, not};
 ghost use Rattle.std.specs.Option.{ForSome};
 ghost use Rattle.hibits.specs.Left.{left};
 ghost use Rattle.hibits.specs.WalkOf.{IsWalkOf, position};
@@ -45,6 +45,8 @@ pub(crate) struct Steps<J: Join> {
 }
 
 impl<J: Join> Steps<J> {
+    ghost use Rattle.joins.specs.Beside.{Gives};
+
     // Before the first index.
     #[inline(always)]
     pub(crate) fn new<M: Layers>(own: &M, join: J) -> Self
@@ -52,7 +54,8 @@ impl<J: Join> Steps<J> {
         ensures position { position result.walk ≡ 0 }
         ensures current { is_some result.current ≡ false }
         ensures mask { (i : ℕ) → J.Mask.has result.mask 0 i ≡ J.has join i }
-        ensures gives { (i : ℕ) (r : J.Type) → J.value_gives result.values i r → J.gives join i r }
+        ensures values { (i : ℕ) (r : J.Type) → J.value_gives result.values i r → J.gives join i r }
+        ensures gives { (i : ℕ) (r : J.Type) → Gives result i r → J.gives join i r }
     {
         let (mask, values) = join.open();
         let walk = Walk::new(&Uncounted(BitSetAnd(own, &mask)));
@@ -75,10 +78,12 @@ impl<J: Join> Steps<J> {
         ensures below { IfSome result (λ i. i < INDEX_LIMIT) }
         ensures forward { position self.old.walk ≤ position self.new.walk }
         ensures after { IfSome result (λ i. position self.new.walk ≡ i + 1) }
+        ensures ended { IfNone result (left (λ i. M.has own.now 0 i && J.Mask.has self.old.mask 0 i) (position self.new.walk) ≡ []) }
         ensures current { self.new.current ≡ result }
         ensures mask { self.new.mask ≡ self.old.mask }
         ensures values { self.new.values ≡ self.old.values }
         ensures given { self.new.given ≡ false }
+        ensures gives { (i : ℕ) (r : J.Type) → Gives self.new i r → Gives self.old i r }
     {
         let found = self.walk.next(&Uncounted(BitSetAnd(own, &self.mask)));
         self.current = found;
@@ -92,8 +97,10 @@ impl<J: Join> Steps<J> {
         ensures walk { self.new.walk ≡ self.old.walk }
         ensures current { self.new.current ≡ self.old.current }
         ensures mask { self.new.mask ≡ self.old.mask }
-        ensures given { IfSome result (λ r. IfSome self.old.current (λ i. J.value_gives self.old.values i r)) }
+        ensures given { IfSome result (λ r. IfSome self.old.current (λ i. Gives self.old i r)) }
         ensures some { is_some result ≡ (not self.old.given && is_some self.old.current) }
+        ensures once { self.new.given ≡ (is_some self.old.current || self.old.given) }
+        ensures gives { (i : ℕ) (r : J.Type) → Gives self.new i r → Gives self.old i r }
         ensures later { (i : ℕ) (r : J.Type) → position self.new.walk ≤ i → J.value_gives self.new.values i r → J.value_gives self.old.values i r }
     {
         let id = self.current?;

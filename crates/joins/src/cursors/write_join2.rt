@@ -1,5 +1,5 @@
 //! A cursor that lends the components of two storages for writing.
-ghost use Rattle.std.specs.Prelude.{◌≡◌, ℕ, Bool, ◌&&◌, not, true, false, Some, None, Err, IfSome, IfOk, IsOk, IsSome, [], ◌∷◌, MatchOption, is_some, ◌↔◌};
+ghost use Rattle.std.specs.Prelude.{◌≡◌, ℕ, Bool, ◌&&◌, ◌||◌, not, true, false, Some, None, Err, IfSome, IfNone, IfOk, IsOk, IsSome, [], ◌∷◌, MatchOption, is_some, ◌↔◌};
 ghost use Rattle.std.specs.Borrow.{sem};
 ghost use Rattle.std.specs.FinMap as map;
 ghost use Rattle.std.specs.Option.{ForSome};
@@ -60,6 +60,7 @@ impl<'a, 'b, A: Component, B: Component, J: Join> WriteJoin2<'a, 'b, A, B, J> {
         ensures first_slot { first_slot self.new ≡ first_slot self.old }
         ensures second_slot { second_slot self.new ≡ second_slot self.old }
         ensures rest { MatchOption result (rest self.old ≡ []) (λ i. rest self.old ≡ i ∷ rest self.new) }
+        ensures ended { IfNone result (rest self.new ≡ []) }
         ensures here { here self.new ≡ result }
         ensures given { is_given self.new ≡ false }
         ensures gives { (i : ℕ) (r : J.Type) → gives self.new i r → gives self.old i r }
@@ -107,6 +108,8 @@ impl<'a, 'b, A: Component, B: Component, J: Join> WriteJoin2<'a, 'b, A, B, J> {
         ensures here { here self.new ≡ here self.old }
         ensures some { is_some result ≡ (not (is_given self.old) && is_some (here self.old)) }
         ensures given { IfSome result (λ r. IfSome (here self.old) (λ i. gives self.old i r)) }
+        ensures once { is_given self.new ≡ (is_some (here self.old) || is_given self.old) }
+        ensures gives { (i : ℕ) (r : J.Type) → gives self.new i r → gives self.old i r }
     {
         self.steps.beside()
     }

@@ -12,5 +12,8 @@ invariant_of-self g c = record {
 pub returns-clause-rest : goal.returns-clause-rest
 returns-clause-rest g c = rw (c.next.ensures.mask) (rw (parts_are_keys _ _ c.mask.ensures) at c.next.ensures.items)
 
+pub returns-clause-ended : goal.returns-clause-ended
+returns-clause-ended g c = rw (c.next.ensures.mask) (rw (parts_are_keys _ _ c.mask.ensures) at c.next.ensures.ended)
+
 pub returns-clause-there : goal.returns-clause-there
 returns-clause-there g c = rw (parts_are_keys _ _ c.mask.ensures) at c.next.ensures.member

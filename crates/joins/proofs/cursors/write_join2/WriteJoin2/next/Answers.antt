@@ -15,3 +15,6 @@ invariant_of-self g c =
 
 pub returns-clause-rest : goal.returns-clause-rest
 returns-clause-rest g c = rw (c.next.ensures.mask) (rw (parts_are_keys _ _ c.mask.ensures, parts_are_keys _ _ c.mask-2.ensures) at c.next.ensures.items)
+
+pub returns-clause-ended : goal.returns-clause-ended
+returns-clause-ended g c = rw (c.next.ensures.mask) (rw (parts_are_keys _ _ c.mask.ensures, parts_are_keys _ _ c.mask-2.ensures) at c.next.ensures.ended)
