@@ -14,6 +14,7 @@ use std::alloc::Global;
 use std::marker::Model;
 use std::test::Fail;
 use storages::{Component, MaskedStorage, TryDefault, WriteStorage};
+use uuid::Uuid;
 
 /// A generator that gives one word again and again.
 #[derive(Drop)]
@@ -81,17 +82,27 @@ fn label(world: &mut Labelled, index: u32) -> Result<Option<bool>, MarkError> {
     world.allocator.mark(entity, &mut labels)
 }
 
+// The identifier at an index.
+fn uuid_at(world: &Labelled, index: u32) -> Option<Uuid> {
+    match world.labels.get(index) {
+        Some(label) => Some(label.uuid()),
+        None => None,
+    }
+}
+
 // The second draw gives the same bytes as the first.
 fn drawn_twice(world: &mut Labelled) -> Result<bool, Fail> {
     let first = label(world, 0) == Ok(Some(true));
+    let id = uuid_at(world, 0).ok_or("no label")?;
     let taken = label(world, 1) == Err(MarkError::IdTaken);
+    let kept = uuid_at(world, 0) == Some(id) && world.labels.count() == 1;
     let old = label(world, 0) == Ok(Some(false));
-    let id = world.labels.get(0).ok_or("no label")?.uuid();
     Ok(
         first
             && taken
+            && kept
             && old
-            && world.labels.get(1).is_none()
+            && uuid_at(world, 1) == None
             && world.allocator.retrieve_entity_internal(id) == Some(world.entities.entity(0)),
     )
 }
