@@ -1,7 +1,13 @@
 //! Tests of specs on lazy updates, by their names there.
+ghost use Rattle.std.specs.Prelude.{◌≡◌};
+ghost use Rattle.specs.specs.State.{core_state};
+ghost use Rattle.conformance.specs.Puts.{Given};
+
+use crate::jobs::done;
+use crate::listed::Listed;
 use crate::stories::{self, Sample, told};
 use slots::{Position, Tag};
-use specs::{Command, Core, Entity, LazyUpdate, Reply, Storages, World, WorldJob, value};
+use specs::{Command, Core, Entity, LazyUpdate, Parts, Reply, Storages, World, WorldJob, value};
 use specs_run::ScriptJob;
 use std::alloc::{AllocError, Global};
 use std::process::Abort;
@@ -9,55 +15,50 @@ use std::test::Fail;
 
 type Busy<S> = World<S, ScriptJob>;
 
-/// A job that queues itself for a later turn, and then an insertion.
+/// Puts a value at an entity, at once or by a further job. One that queues a further job then looks whether the value is there, and puts the answer
+/// to the list beside the storages.
 #[derive(Drop)]
-struct Later<S: Storages> {
-    turns: u32,
+struct Put<S: Storages> {
+    later: bool,
     entity: Entity,
     value: S::Value,
 }
 
-impl<S: Storages> WorldJob<S> for Later<S> {
-    ghost use Rattle.std.specs.Prelude.{◌≡◌};
-    ghost use Rattle.specs.specs.Lawful.{still_grows, still_lives};
+impl<S: Storages> WorldJob<Listed<S>> for Put<S> {
+    ghost use Rattle.conformance.specs.Puts.{MayPut, puts_grows, puts_lives};
 
-    ghost does = { λ j old more new. new ≡ old };
+    ghost does = { λ j old more new. MayPut S.place j.entity j.value old more new };
 
     ghost spares = { λ j slot n. ⊥ };
 
     fn update(
         self,
-        _core: &mut Core<S>,
-        queue: &mut LazyUpdate<S, Self>,
+        core: &mut Core<Listed<S>>,
+        queue: &mut LazyUpdate<Listed<S>, Self>,
     ) -> Result<(), (Self, AllocError)> {
-        let Later {
-            turns,
+        let Put {
+            later,
             entity,
             value,
         } = self;
-        if turns > 0 {
-            let later = Later {
-                turns: turns - 1,
-                entity,
-                value,
-            };
-            return match queue.exec(later) {
-                Ok(()) => Ok(()),
-                Err((Later { value, .. }, refused)) => Err((
-                    Later {
-                        turns,
-                        entity,
-                        value,
-                    },
-                    refused,
-                )),
-            };
+        if !later {
+            give(core, entity, value);
+            return Ok(());
         }
-        match queue.insert(entity, value) {
-            Ok(()) => Ok(()),
-            Err((value, refused)) => Err((
-                Later {
-                    turns,
+        let slot = S::slot_of(&value);
+        let further = Put {
+            later: false,
+            entity,
+            value,
+        };
+        match queue.exec(further) {
+            Ok(()) => {
+                look(core, slot, entity);
+                Ok(())
+            }
+            Err((Put { value, .. }, refused)) => Err((
+                Put {
+                    later,
                     entity,
                     value,
                 },
@@ -66,11 +67,31 @@ impl<S: Storages> WorldJob<S> for Later<S> {
         }
     }
 
-    ghost grows = { λ j old new more s. still_grows old new s };
+    ghost grows = { λ j old new more s. puts_grows S.place j.entity j.value old new more s };
 
-    ghost lives = { λ j old new more s w. still_lives old new s w };
+    ghost lives = { λ j old new more s w. puts_lives S.place j.entity j.value old new more s w };
 
     ghost tells = { λ j slot n old new more s spared l. absurd spared };
+}
+
+/// An insertion, which may be refused.
+fn give<S: Storages>(core: &mut Core<S>, e: Entity, value: S::Value)
+    ensures { Given S.place e value (core_state S.table S.ids core.old) (core_state S.table S.ids core.new) }
+{
+    let Parts { entities, storages } = core.parts();
+    match storages.insert(entities, e, value) {
+        Ok(_) => {}
+        Err(_) => {}
+    }
+}
+
+/// Puts to the list whether an entity has a value.
+fn look<S: Storages>(core: &mut Core<Listed<S>>, slot: S::Slot, e: Entity)
+    ensures { core_state (⟦<Listed<S> as Storages>⟧.table) (⟦<Listed<S> as Storages>⟧.ids) core.new ≡ core_state (⟦<Listed<S> as Storages>⟧.table) (⟦<Listed<S> as Storages>⟧.ids) core.old }
+{
+    let Parts { entities, storages } = core.parts();
+    let there = matches!(storages.get(entities, slot, e), Ok(Some(_)));
+    let _ = storages.numbers.push(if there { 1 } else { 0 });
 }
 
 /// Storages for both component types, and two entities whose births are pending.
@@ -143,30 +164,48 @@ fn executes<P, T, S: Sample<P, T>>(world: &mut Busy<S>) -> Option<bool> {
     Some(queued && !before && ran(world) == Some(1) && world.entities().is_alive(next))
 }
 
-/// A job that queues a job that queues an insertion: three turns.
-fn executes_late<P, T, S: Sample<P, T>>(world: &mut World<S, Later<S>>) -> Option<bool> {
-    world.register::<Position, _>().ok()?;
-    let e = match world.apply(Command::CreatePending) {
+type Putting<S> = World<Listed<S>, Put<S>>;
+
+/// An entity whose birth is pending, and a job that puts a position at it, by a further job or not.
+fn queue_put<P, T, S: Sample<P, T>>(world: &mut Putting<S>, later: bool) -> Option<Entity> {
+    if !matches!(world.apply(Command::Register(S::pos())), Reply::Done) {
+        return None;
+    }
+    let entity = match world.apply(Command::CreatePending) {
         Reply::Entity(e) => e,
         _ => return None,
     };
-    let late = Later {
-        turns: 1,
-        entity: e,
-        value: value::<_, S, _>(Position(1)),
+    let value = value::<_, S, _>(Position(1));
+    let put = Put {
+        later,
+        entity,
+        value,
     };
-    let queued = world.parts().lazy.exec(late).is_ok();
-    let first = world.maintain(1).ok()?.left;
-    let early = matches!(
+    world.parts().lazy.exec(put).ok()?;
+    Some(entity)
+}
+
+/// Whether an entity has a position.
+fn is_there<P, T, S: Sample<P, T>>(world: &mut Putting<S>, e: Entity) -> bool {
+    matches!(
         world.apply(Command::Get(S::pos(), e)),
         Reply::Value(Some(_))
-    );
-    let rest = world.maintain(u64::MAX).ok()?.ran;
-    let found = matches!(
-        world.apply(Command::Get(S::pos(), e)),
-        Reply::Value(Some(_))
-    );
-    Some(queued && first == 1 && !early && rest == 2 && found)
+    )
+}
+
+/// A job that puts a position at an entity.
+fn puts<P, T, S: Sample<P, T>>(world: &mut Putting<S>) -> Option<bool> {
+    let e = queue_put(world, false)?;
+    let before = is_there(world, e);
+    Some(!before && done(world, 9) == Some((1, 0, 0)) && is_there(world, e))
+}
+
+/// A job that queues the one that puts it, and looks: both run at one maintain, the second after the look of the first.
+fn puts_late<P, T, S: Sample<P, T>>(world: &mut Putting<S>) -> Option<bool> {
+    let e = queue_put(world, true)?;
+    let both = done(world, 9) == Some((2, 0, 0)) && is_there(world, e);
+    let seen = world.parts().core.parts().storages.numbers.as_slice() == [0].as_slice();
+    Some(both && seen)
 }
 
 /// An entity that is built with a component, which comes with the next maintain.
@@ -200,20 +239,36 @@ pub enum Story {
     Inserts,
     Removes,
     Executes,
-    ExecutesLate,
+    Puts,
+    PutsLate,
     Builds,
     Drops,
 }
 
+/// The same of a world with a list beside its storages.
+fn told_of_puts<P, T, S: Sample<P, T> + Drop>(alloc: Global, story: Story) -> Option<bool> {
+    let mut world = World::new(
+        alloc,
+        Listed {
+            storages: S::empty(alloc),
+            numbers: Vec::new(alloc),
+        },
+    );
+    match story {
+        Story::PutsLate => puts_late(&mut world),
+        _ => puts(&mut world),
+    }
+}
+
 fn told_of<P, T, S: Sample<P, T> + Drop>(alloc: Global, story: Story) -> Option<bool> {
-    if let Story::ExecutesLate = story {
-        return executes_late(&mut World::new(alloc, S::empty(alloc)));
+    if let Story::Puts | Story::PutsLate = story {
+        return told_of_puts::<P, T, S>(alloc, story);
     }
     let mut world = World::new(alloc, S::empty(alloc));
     match story {
         Story::Inserts => inserts(alloc, &mut world),
         Story::Removes => removes(&mut world),
-        Story::Executes | Story::ExecutesLate => executes(&mut world),
+        Story::Executes | Story::Puts | Story::PutsLate => executes(&mut world),
         Story::Builds => builds(&mut world),
         Story::Drops => drops(&mut world),
     }
@@ -236,6 +291,11 @@ fn lazy_removal(rt: HostRuntime) -> Result<(), Fail> {
 
 #[test]
 fn lazy_execution(rt: HostRuntime) -> Result<(), Fail> {
+    told(&rt, rt.alloc(), stories::Story::Lazy(Story::Puts))
+}
+
+#[test]
+fn a_job_that_creates_an_entity_waits_for_the_next_maintain(rt: HostRuntime) -> Result<(), Fail> {
     told(&rt, rt.alloc(), stories::Story::Lazy(Story::Executes))
 }
 
@@ -251,5 +311,5 @@ fn a_lazy_builder_that_is_dropped_marks_its_entity(rt: HostRuntime) -> Result<()
 
 #[test]
 fn super_lazy_execution(rt: HostRuntime) -> Result<(), Fail> {
-    told(&rt, rt.alloc(), stories::Story::Lazy(Story::ExecutesLate))
+    told(&rt, rt.alloc(), stories::Story::Lazy(Story::PutsLate))
 }
