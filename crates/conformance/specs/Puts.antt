@@ -1,5 +1,5 @@
--- What a job does that puts a value at an entity, at once or by a further job.
-use Rattle.std.specs.Prelude.{◌≡◌, ℕ, true, List, [], ◌⊎◌, Option}
+-- What a job does that puts a value at an entity.
+use Rattle.std.specs.Prelude.{◌≡◌, ℕ, true, ◌⊎◌, Option}
 use Rattle.std.proofs.Common.{inl, inr}
 use Rattle.entities.specs.declared.entity.Entity.{Entity}
 use Rattle.specs.specs.declared.command.Command.TheVariants.{Insert}
@@ -16,22 +16,10 @@ module _ {K V : Type 0} where
   abbrev pub Given : (V → K) → Entity → V → State K V → State K V → Type 0
   Given place e value old new = ((before : Option V) × OnTable (λ t t'. Inserts place old.people t e value before t') old new) ⊎ (new ≡ old)
 
-  -- no job is queued, and the entity gets the value, or not; or another job is queued and nothing happens
-  abbrev pub MayPut : {J : Type 0} → (V → K) → Entity → V → State K V → List J → State K V → Type 0
-  MayPut place e value old more new = ((more ≡ []) × Given place e value old new) ⊎ (new ≡ old)
-
-  given_grows : (place : V → K) (e : Entity) (value : V) (old new : State K V) → Given place e value old new → Evolves old.people new.people
+  pub given_grows : (place : V → K) (e : Entity) (value : V) (old new : State K V) → Given place e value old new → Evolves old.people new.people
   given_grows place e value old new (inl s) = record { count = 0; steps = s.1.people }
   given_grows place e value old new (inr same) = still_grows old new same
 
-  pub puts_grows : {J : Type 0} (place : V → K) (e : Entity) (value : V) (old new : State K V) (more : List J) → MayPut place e value old more new → Evolves old.people new.people
-  puts_grows place e value old new more (inl s) = given_grows place e value old new s.1
-  puts_grows place e value old new more (inr same) = still_grows old new same
-
-  given_lives : (place : V → K) (e : Entity) (value : V) (old new : State K V) → Given place e value old new → OnlyLiving old → ValuesLive new
+  pub given_lives : (place : V → K) (e : Entity) (value : V) (old new : State K V) → Given place e value old new → OnlyLiving old → ValuesLive new
   given_lives place e value old new (inl s) w = (keeps_step {S = ℕ} {J = ℕ} place (λ _. true) old (Insert e value) (Value s.0) new s.1 w).values
   given_lives place e value old new (inr same) w = still_lives old new same w
-
-  pub puts_lives : {J : Type 0} (place : V → K) (e : Entity) (value : V) (old new : State K V) (more : List J) → MayPut place e value old more new → OnlyLiving old → ValuesLive new
-  puts_lives place e value old new more (inl s) w = given_lives place e value old new s.1 w
-  puts_lives place e value old new more (inr same) w = still_lives old new same w

@@ -6,8 +6,11 @@ ghost use Rattle.conformance.specs.Puts.{Given};
 use crate::jobs::done;
 use crate::listed::Listed;
 use crate::stories::{self, Sample, told};
+use composed::Empty;
 use slots::{Position, Tag};
-use specs::{Command, Core, Entity, LazyUpdate, Parts, Reply, Storages, World, WorldJob, value};
+use specs::{
+    Command, Core, Entity, LazyUpdate, Parts, Refusal, Reply, Storages, World, WorldJob, value,
+};
 use specs_run::ScriptJob;
 use std::alloc::{AllocError, Global};
 use std::process::Abort;
@@ -15,61 +18,33 @@ use std::test::Fail;
 
 type Busy<S> = World<S, ScriptJob>;
 
-/// Puts a value at an entity, at once or by a further job. One that queues a further job then looks whether the value is there, and puts the answer
-/// to the list beside the storages.
+/// Puts a value at an entity by itself, or nothing where the insertion is refused.
 #[derive(Drop)]
 struct Put<S: Storages> {
-    later: bool,
     entity: Entity,
     value: S::Value,
 }
 
-impl<S: Storages> WorldJob<Listed<S>> for Put<S> {
-    ghost use Rattle.conformance.specs.Puts.{MayPut, puts_grows, puts_lives};
+impl<S: Storages> WorldJob<S> for Put<S> {
+    ghost use Rattle.std.specs.Prelude.{◌≡◌, []};
+    ghost use Rattle.conformance.specs.Puts.{Given, given_grows, given_lives};
 
-    ghost does = { λ j old more new. MayPut S.place j.entity j.value old more new };
+    ghost does = { λ j old more new. (more ≡ []) × Given S.place j.entity j.value old new };
 
     ghost spares = { λ j slot n. ⊥ };
 
     fn update(
         self,
-        core: &mut Core<Listed<S>>,
-        queue: &mut LazyUpdate<Listed<S>, Self>,
+        core: &mut Core<S>,
+        _queue: &mut LazyUpdate<S, Self>,
     ) -> Result<(), (Self, AllocError)> {
-        let Put {
-            later,
-            entity,
-            value,
-        } = self;
-        if !later {
-            give(core, entity, value);
-            return Ok(());
-        }
-        let slot = S::slot_of(&value);
-        let further = Put {
-            later: false,
-            entity,
-            value,
-        };
-        match queue.exec(further) {
-            Ok(()) => {
-                look(core, slot, entity);
-                Ok(())
-            }
-            Err((Put { value, .. }, refused)) => Err((
-                Put {
-                    later,
-                    entity,
-                    value,
-                },
-                refused,
-            )),
-        }
+        give(core, self.entity, self.value);
+        Ok(())
     }
 
-    ghost grows = { λ j old new more s. puts_grows S.place j.entity j.value old new more s };
+    ghost grows = { λ j old new more s. given_grows S.place j.entity j.value old new s.1 };
 
-    ghost lives = { λ j old new more s w. puts_lives S.place j.entity j.value old new more s w };
+    ghost lives = { λ j old new more s w. given_lives S.place j.entity j.value old new s.1 w };
 
     ghost tells = { λ j slot n old new more s spared l. absurd spared };
 }
@@ -85,13 +60,50 @@ fn give<S: Storages>(core: &mut Core<S>, e: Entity, value: S::Value)
     }
 }
 
-/// Puts to the list whether an entity has a value.
-fn look<S: Storages>(core: &mut Core<Listed<S>>, slot: S::Slot, e: Entity)
-    ensures { core_state (⟦<Listed<S> as Storages>⟧.table) (⟦<Listed<S> as Storages>⟧.ids) core.new ≡ core_state (⟦<Listed<S> as Storages>⟧.table) (⟦<Listed<S> as Storages>⟧.ids) core.old }
-{
-    let Parts { entities, storages } = core.parts();
-    let there = matches!(storages.get(entities, slot, e), Ok(Some(_)));
-    let _ = storages.numbers.push(if there { 1 } else { 0 });
+/// Queues a job that puts a value at an entity. Then it looks whether the value is there, and puts 1 or 0 to the list beside the storages.
+#[derive(Drop)]
+struct PutLater<S: Storages> {
+    entity: Entity,
+    value: S::Value,
+}
+
+impl<S: Storages> WorldJob<Listed<S>> for PutLater<S> {
+    ghost use Rattle.std.specs.Prelude.{◌≡◌};
+    ghost use Rattle.specs.specs.Lawful.{still_grows, still_lives};
+
+    ghost does = { λ j old more new. new ≡ old };
+
+    ghost spares = { λ j slot n. ⊥ };
+
+    fn update(
+        self,
+        core: &mut Core<Listed<S>>,
+        queue: &mut LazyUpdate<Listed<S>, Self>,
+    ) -> Result<(), (Self, AllocError)> {
+        let PutLater { entity, value } = self;
+        let slot = S::slot_of(&value);
+        if let Err((value, refused)) = queue.insert(entity, value) {
+            return Err((PutLater { entity, value }, refused));
+        }
+        let Parts { entities, storages } = core.parts();
+        let found = storages.get(entities, slot, entity);
+        let _ = storages.numbers.push(counted(&found));
+        Ok(())
+    }
+
+    ghost grows = { λ j old new more s. still_grows old new s };
+
+    ghost lives = { λ j old new more s w. still_lives old new s w };
+
+    ghost tells = { λ j slot n old new more s spared l. absurd spared };
+}
+
+/// How many values were found.
+fn counted<V>(found: &Result<Option<V>, Refusal>) -> u32 {
+    match found {
+        Ok(Some(_)) => 1,
+        _ => 0,
+    }
 }
 
 /// Storages for both component types, and two entities whose births are pending.
@@ -102,14 +114,14 @@ fn begin<P, T, S: Sample<P, T>>(world: &mut Busy<S>) -> Option<(Entity, Entity)>
 }
 
 /// An entity whose birth is pending.
-fn raised<S: Storages>(world: &mut Busy<S>) -> Option<Entity> {
+fn raised<S: Storages, J: WorldJob<S>>(world: &mut World<S, J>) -> Option<Entity> {
     match world.apply(Command::CreatePending) {
         Reply::Entity(e) => Some(e),
         _ => None,
     }
 }
 
-fn has<S: Storages>(world: &mut Busy<S>, slot: S::Slot, e: Entity) -> bool {
+fn has<S: Storages, J: WorldJob<S>>(world: &mut World<S, J>, slot: S::Slot, e: Entity) -> bool {
     matches!(world.apply(Command::Get(slot, e)), Reply::Value(Some(_)))
 }
 
@@ -164,46 +176,32 @@ fn executes<P, T, S: Sample<P, T>>(world: &mut Busy<S>) -> Option<bool> {
     Some(queued && !before && ran(world) == Some(1) && world.entities().is_alive(next))
 }
 
-type Putting<S> = World<Listed<S>, Put<S>>;
-
-/// An entity whose birth is pending, and a job that puts a position at it, by a further job or not.
-fn queue_put<P, T, S: Sample<P, T>>(world: &mut Putting<S>, later: bool) -> Option<Entity> {
-    if !matches!(world.apply(Command::Register(S::pos())), Reply::Done) {
-        return None;
+/// An entity whose birth is pending, where a slot was registered.
+fn raised_beside<S: Storages, J: WorldJob<S>>(
+    world: &mut World<S, J>,
+    slot: S::Slot,
+) -> Option<Entity> {
+    match world.apply(Command::Register(slot)) {
+        Reply::Done => raised(world),
+        _ => None,
     }
-    let entity = match world.apply(Command::CreatePending) {
-        Reply::Entity(e) => e,
-        _ => return None,
-    };
+}
+
+/// A job that puts a position at an entity by itself.
+fn puts<P, T, S: Sample<P, T>>(world: &mut World<S, Put<S>>) -> Option<bool> {
+    let entity = raised_beside(world, S::pos())?;
     let value = value::<_, S, _>(Position(1));
-    let put = Put {
-        later,
-        entity,
-        value,
-    };
-    world.parts().lazy.exec(put).ok()?;
-    Some(entity)
+    world.parts().lazy.exec(Put { entity, value }).ok()?;
+    let before = has(world, S::pos(), entity);
+    Some(!before && done(world, 9) == Some((1, 0, 0)) && has(world, S::pos(), entity))
 }
 
-/// Whether an entity has a position.
-fn is_there<P, T, S: Sample<P, T>>(world: &mut Putting<S>, e: Entity) -> bool {
-    matches!(
-        world.apply(Command::Get(S::pos(), e)),
-        Reply::Value(Some(_))
-    )
-}
-
-/// A job that puts a position at an entity.
-fn puts<P, T, S: Sample<P, T>>(world: &mut Putting<S>) -> Option<bool> {
-    let e = queue_put(world, false)?;
-    let before = is_there(world, e);
-    Some(!before && done(world, 9) == Some((1, 0, 0)) && is_there(world, e))
-}
-
-/// A job that queues the one that puts it, and looks: both run at one maintain, the second after the look of the first.
-fn puts_late<P, T, S: Sample<P, T>>(world: &mut Putting<S>) -> Option<bool> {
-    let e = queue_put(world, true)?;
-    let both = done(world, 9) == Some((2, 0, 0)) && is_there(world, e);
+/// A job that queues the one that puts it, and sees no position then: both run at one maintain.
+fn puts_later<P, T, S: Sample<P, T>>(world: &mut World<Listed<S>, PutLater<S>>) -> Option<bool> {
+    let entity = raised_beside(world, S::pos())?;
+    let value = value::<_, S, _>(Position(1));
+    world.parts().lazy.exec(PutLater { entity, value }).ok()?;
+    let both = done(world, 9) == Some((2, 0, 0)) && has(world, S::pos(), entity);
     let seen = world.parts().core.parts().storages.numbers.as_slice() == [0].as_slice();
     Some(both && seen)
 }
@@ -240,37 +238,33 @@ pub enum Story {
     Removes,
     Executes,
     Puts,
-    PutsLate,
+    PutsLater,
     Builds,
     Drops,
 }
 
-/// The same of a world with a list beside its storages.
-fn told_of_puts<P, T, S: Sample<P, T> + Drop>(alloc: Global, story: Story) -> Option<bool> {
-    let mut world = World::new(
-        alloc,
-        Listed {
-            storages: S::empty(alloc),
-            numbers: Vec::new(alloc),
-        },
-    );
-    match story {
-        Story::PutsLate => puts_late(&mut world),
-        _ => puts(&mut world),
+/// Empty storages, with an empty list beside them.
+fn listed<S: Empty>(alloc: Global) -> Listed<S> {
+    Listed {
+        storages: S::empty(alloc),
+        numbers: Vec::new(alloc),
     }
 }
 
 fn told_of<P, T, S: Sample<P, T> + Drop>(alloc: Global, story: Story) -> Option<bool> {
-    if let Story::Puts | Story::PutsLate = story {
-        return told_of_puts::<P, T, S>(alloc, story);
+    if let Story::Puts = story {
+        return puts(&mut World::new(alloc, S::empty(alloc)));
+    }
+    if let Story::PutsLater = story {
+        return puts_later(&mut World::new(alloc, listed::<S>(alloc)));
     }
     let mut world = World::new(alloc, S::empty(alloc));
     match story {
         Story::Inserts => inserts(alloc, &mut world),
         Story::Removes => removes(&mut world),
-        Story::Executes | Story::Puts | Story::PutsLate => executes(&mut world),
         Story::Builds => builds(&mut world),
         Story::Drops => drops(&mut world),
+        _ => executes(&mut world),
     }
 }
 
@@ -311,5 +305,5 @@ fn a_lazy_builder_that_is_dropped_marks_its_entity(rt: HostRuntime) -> Result<()
 
 #[test]
 fn super_lazy_execution(rt: HostRuntime) -> Result<(), Fail> {
-    told(&rt, rt.alloc(), stories::Story::Lazy(Story::PutsLate))
+    told(&rt, rt.alloc(), stories::Story::Lazy(Story::PutsLater))
 }
