@@ -296,7 +296,9 @@ fn bumps_index_after_reload(rt: HostRuntime) -> Result<(), Fail> {
         insert pos 5:1 1024 -> none
         label 5:1 -> 3
         count id -> 4
-        maintain 9 -> deleted [] ran 4 refused 0 left 0
+        label 0:1 -> 0
+        label 1:1 -> 1
+        maintain 100 -> deleted [] ran 4 refused 0 left 0
         count id -> 6
         label 0:1 -> 0
         label 1:1 -> 1

@@ -200,6 +200,18 @@ fn refused_commands_name_their_cause(rt: HostRuntime) {
 }
 
 #[test]
+fn replies_stand_before_a_line_that_cannot_be_read(rt: HostRuntime) {
+    assert_runs(
+        &rt,
+        rt.alloc(),
+        "register pos\ncreate\ninsert pos 0:1 5\ninsert pos 0:1 -7\ndelete 0:1\ncreate\nget pos 0:1\nget vel 0:2\nselect pos\nmaintain 0\nfrob\n",
+        2,
+        "ok\n0:1\nnone\n5\nok\n0:2\nnone\nerror: unregistered\n[]\ndeleted [] ran 0 refused 0 left 0\n",
+        "line 11: cannot read\n",
+    );
+}
+
+#[test]
 fn everyone_dies_at_once(rt: HostRuntime) -> Result<(), Fail> {
     assert_tale(
         &rt,

@@ -5,6 +5,7 @@ use specs::{Builder, Entity, Has, Storages, Unregistered, World};
 use std::alloc::Global;
 use std::process::Abort;
 use std::test::Fail;
+use storages::{Component, TryDefault};
 
 /// Registers both component types.
 fn register_both<P, H, S: Has<Position, P> + Has<Health, H>>(
@@ -92,12 +93,72 @@ fn are_built_and_written<R: Abort, P, H, S: Has<Position, P> + Has<Health, H>>(
     register_both(world)?;
     let a = build(world, 1, 10).ok_or("a building")?;
     let b = build(world, 3, 30).ok_or("a building")?;
+    let c = build(world, 5, 50).ok_or("a building")?;
     let empty = world.create_entity().ok().ok_or("a birth")?.build();
     assert_eq!(rt; position(world, b), Some(Position(3)));
     assert_eq!(rt; health(world, a), Some(Health(10)));
+    assert_eq!(rt; health(world, c), Some(Health(50)));
     assert_eq!(rt; position(world, empty), None);
     assert!(rt; place(world, empty, 4));
     assert_eq!(rt; position(world, empty), Some(Position(4)));
+    Ok(())
+}
+
+/// An entity whose builder is given a position and no health.
+fn built_in_part<P, H, S: Has<Position, P> + Has<Health, H>>(
+    world: &mut World<S>,
+) -> Option<Entity> {
+    let builder = world.create_entity().ok()?;
+    let builder = builder.maybe_with(Some(Position(6))).ok()?;
+    let builder = builder.maybe_with::<Health, _>(None).ok()?;
+    Some(builder.build())
+}
+
+fn may_lack_a_component<R: Abort, P, H, S: Has<Position, P> + Has<Health, H>>(
+    rt: &R,
+    world: &mut World<S>,
+) -> Result<(), Fail> {
+    register_both(world)?;
+    let e = built_in_part(world).ok_or("a building")?;
+    assert_eq!(rt;
+        (position(world, e), health(world, e)),
+        (Some(Position(6)), None)
+    );
+    assert!(rt; world.maintain(0)?.deleted.is_empty());
+    Ok(())
+}
+
+/// Registers an empty storage of a component type.
+fn register_empty<T: Component, I, S: Has<T, I>>(
+    alloc: Global,
+    world: &mut World<S>,
+) -> Result<(), Fail> {
+    world.register_with_storage::<T, I>(T::Storage::try_default(alloc)?);
+    Ok(())
+}
+
+/// Puts a health at an entity, by a view, and answers the one before.
+fn heal<H, S: Has<Health, H>>(world: &mut World<S>, e: Entity, points: i64) -> Option<Health> {
+    match world.write_component::<Health, _>() {
+        Ok(mut healths) => healths.insert(e, Health(points)).ok()?,
+        Err(_) => None,
+    }
+}
+
+fn takes_storages<R: Abort, P, H, S: Has<Position, P> + Has<Health, H>>(
+    rt: &R,
+    alloc: Global,
+    world: &mut World<S>,
+) -> Result<(), Fail> {
+    register_empty::<Position, _, S>(alloc, world)?;
+    register_empty::<Health, _, S>(alloc, world)?;
+    let e = build(world, 7, 70).ok_or("a building")?;
+    register_empty::<Health, _, S>(alloc, world)?;
+    assert_eq!(rt; heal(world, e, 71), Some(Health(70)));
+    assert_eq!(rt;
+        (position(world, e), health(world, e)),
+        (Some(Position(7)), Some(Health(71)))
+    );
     Ok(())
 }
 
@@ -174,6 +235,8 @@ fn lose_components<R: Abort, P, H, S: Has<Position, P> + Has<Health, H>>(
 enum Story {
     AreFive,
     AreBuiltAndWritten,
+    MayLackAComponent,
+    TakesStorages,
     MarksTheDropped,
     MarksTheRefused,
     HasNoPositions,
@@ -189,6 +252,8 @@ fn tell<R: Abort, P, H, S: Has<Position, P> + Has<Health, H>>(
     match story {
         Story::AreFive => are_five(rt, alloc, world),
         Story::AreBuiltAndWritten => are_built_and_written(rt, world),
+        Story::MayLackAComponent => may_lack_a_component(rt, world),
+        Story::TakesStorages => takes_storages(rt, alloc, world),
         Story::MarksTheDropped => marks_the_dropped(rt, world),
         Story::MarksTheRefused => marks_the_refused(rt, world),
         Story::HasNoPositions => {
@@ -222,6 +287,16 @@ fn five_are_born_one_after_another(rt: HostRuntime) -> Result<(), Fail> {
 #[test]
 fn entities_are_built_read_and_written(rt: HostRuntime) -> Result<(), Fail> {
     told(&rt, rt.alloc(), Story::AreBuiltAndWritten)
+}
+
+#[test]
+fn a_component_that_may_lack_is_built_in_if_it_is_there(rt: HostRuntime) -> Result<(), Fail> {
+    told(&rt, rt.alloc(), Story::MayLackAComponent)
+}
+
+#[test]
+fn an_empty_storage_is_registered_where_none_was(rt: HostRuntime) -> Result<(), Fail> {
+    told(&rt, rt.alloc(), Story::TakesStorages)
 }
 
 #[test]

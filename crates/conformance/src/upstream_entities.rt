@@ -69,18 +69,23 @@ fn delete_twice(rt: HostRuntime) -> Result<(), Fail> {
     Ok(())
 }
 
-/// Pending births of new indices, each of which is marked if so wanted.
+/// Pending births of new indices, each of which is marked at once if so wanted.
 fn pending_births(alloc: Global, count: u32, marked: bool) -> Result<Tale, AllocError> {
     let mut tale = Tale::new(alloc);
     for index in 0..count {
         let entity = format!(in alloc; "{index}:1")?;
         tale.line("create pending", entity.as_str())?;
         if marked {
-            let mark = format!(in alloc; "mark {entity}")?;
-            tale.line(mark.as_str(), "ok")?;
+            mark(alloc, &mut tale, index)?;
         }
     }
     Ok(tale)
+}
+
+/// One index is marked.
+fn mark(alloc: Global, tale: &mut Tale, index: u32) -> Result<(), AllocError> {
+    let mark = format!(in alloc; "mark {index}:1")?;
+    tale.line(mark.as_str(), "ok")
 }
 
 #[test]
@@ -99,7 +104,10 @@ fn dynamic_deletion(rt: HostRuntime) -> Result<(), Fail> {
 
 #[test]
 fn dynamic_create_and_delete(rt: HostRuntime) -> Result<(), Fail> {
-    let mut tale = pending_births(rt.alloc(), 5, true)?;
+    let mut tale = pending_births(rt.alloc(), 5, false)?;
+    for index in 0..5u32 {
+        mark(rt.alloc(), &mut tale, index)?;
+    }
     tale.line(
         "maintain 0",
         "deleted [0:1, 1:1, 2:1, 3:1, 4:1] ran 0 refused 0 left 0",
@@ -127,9 +135,11 @@ fn maintain_entity_deletion(rt: HostRuntime) -> Result<(), Fail> {
         insert tag 2:1 tag -> none
         maintain 0 -> deleted [] ran 0 refused 0 left 0
         select and pos tag -> [0, 1, 2]
+        select and living and pos tag -> [0, 1, 2]
         mark 1:1 -> ok
         maintain 0 -> deleted [1:1] ran 0 refused 0 left 0
         select and pos tag -> [0, 2]
+        select and living and pos tag -> [0, 2]
         select pos -> [0, 2]
         ",
     )?;

@@ -1,7 +1,16 @@
 //! Tests of specs on lazy updates, by their names there.
+ghost use Rattle.std.specs.Prelude.{◌≡◌};
+ghost use Rattle.specs.specs.State.{core_state};
+ghost use Rattle.conformance.specs.Puts.{Given};
+
+use crate::jobs::done;
+use crate::listed::Listed;
 use crate::stories::{self, Sample, told};
+use composed::Empty;
 use slots::{Position, Tag};
-use specs::{Command, Core, Entity, LazyUpdate, Reply, Storages, World, WorldJob, value};
+use specs::{
+    Command, Core, Entity, LazyUpdate, Parts, Refusal, Reply, Storages, World, WorldJob, value,
+};
 use specs_run::ScriptJob;
 use std::alloc::{AllocError, Global};
 use std::process::Abort;
@@ -9,15 +18,56 @@ use std::test::Fail;
 
 type Busy<S> = World<S, ScriptJob>;
 
-/// A job that queues itself for a later turn, and then an insertion.
+/// Puts a value at an entity by itself, or nothing where the insertion is refused.
 #[derive(Drop)]
-struct Later<S: Storages> {
-    turns: u32,
+struct Put<S: Storages> {
     entity: Entity,
     value: S::Value,
 }
 
-impl<S: Storages> WorldJob<S> for Later<S> {
+impl<S: Storages> WorldJob<S> for Put<S> {
+    ghost use Rattle.std.specs.Prelude.{◌≡◌, []};
+    ghost use Rattle.conformance.specs.Puts.{Given, given_grows, given_lives};
+
+    ghost does = { λ j old more new. (more ≡ []) × Given S.place j.entity j.value old new };
+
+    ghost spares = { λ j slot n. ⊥ };
+
+    fn update(
+        self,
+        core: &mut Core<S>,
+        _queue: &mut LazyUpdate<S, Self>,
+    ) -> Result<(), (Self, AllocError)> {
+        give(core, self.entity, self.value);
+        Ok(())
+    }
+
+    ghost grows = { λ j old new more s. given_grows S.place j.entity j.value old new s.1 };
+
+    ghost lives = { λ j old new more s w. given_lives S.place j.entity j.value old new s.1 w };
+
+    ghost tells = { λ j slot n old new more s spared l. absurd spared };
+}
+
+/// An insertion, which may be refused.
+fn give<S: Storages>(core: &mut Core<S>, e: Entity, value: S::Value)
+    ensures { Given S.place e value (core_state S.table S.ids core.old) (core_state S.table S.ids core.new) }
+{
+    let Parts { entities, storages } = core.parts();
+    match storages.insert(entities, e, value) {
+        Ok(_) => {}
+        Err(_) => {}
+    }
+}
+
+/// Queues a job that puts a value at an entity. Then it looks whether the value is there, and puts 1 or 0 to the list beside the storages.
+#[derive(Drop)]
+struct PutLater<S: Storages> {
+    entity: Entity,
+    value: S::Value,
+}
+
+impl<S: Storages> WorldJob<Listed<S>> for PutLater<S> {
     ghost use Rattle.std.specs.Prelude.{◌≡◌};
     ghost use Rattle.specs.specs.Lawful.{still_grows, still_lives};
 
@@ -27,43 +77,18 @@ impl<S: Storages> WorldJob<S> for Later<S> {
 
     fn update(
         self,
-        _core: &mut Core<S>,
-        queue: &mut LazyUpdate<S, Self>,
+        core: &mut Core<Listed<S>>,
+        queue: &mut LazyUpdate<Listed<S>, Self>,
     ) -> Result<(), (Self, AllocError)> {
-        let Later {
-            turns,
-            entity,
-            value,
-        } = self;
-        if turns > 0 {
-            let later = Later {
-                turns: turns - 1,
-                entity,
-                value,
-            };
-            return match queue.exec(later) {
-                Ok(()) => Ok(()),
-                Err((Later { value, .. }, refused)) => Err((
-                    Later {
-                        turns,
-                        entity,
-                        value,
-                    },
-                    refused,
-                )),
-            };
+        let PutLater { entity, value } = self;
+        let slot = S::slot_of(&value);
+        if let Err((value, refused)) = queue.insert(entity, value) {
+            return Err((PutLater { entity, value }, refused));
         }
-        match queue.insert(entity, value) {
-            Ok(()) => Ok(()),
-            Err((value, refused)) => Err((
-                Later {
-                    turns,
-                    entity,
-                    value,
-                },
-                refused,
-            )),
-        }
+        let Parts { entities, storages } = core.parts();
+        let found = storages.get(entities, slot, entity);
+        let _ = storages.numbers.push(counted(&found));
+        Ok(())
     }
 
     ghost grows = { λ j old new more s. still_grows old new s };
@@ -71,6 +96,14 @@ impl<S: Storages> WorldJob<S> for Later<S> {
     ghost lives = { λ j old new more s w. still_lives old new s w };
 
     ghost tells = { λ j slot n old new more s spared l. absurd spared };
+}
+
+/// How many values were found.
+fn counted<V>(found: &Result<Option<V>, Refusal>) -> u32 {
+    match found {
+        Ok(Some(_)) => 1,
+        _ => 0,
+    }
 }
 
 /// Storages for both component types, and two entities whose births are pending.
@@ -81,14 +114,14 @@ fn begin<P, T, S: Sample<P, T>>(world: &mut Busy<S>) -> Option<(Entity, Entity)>
 }
 
 /// An entity whose birth is pending.
-fn raised<S: Storages>(world: &mut Busy<S>) -> Option<Entity> {
+fn raised<S: Storages, J: WorldJob<S>>(world: &mut World<S, J>) -> Option<Entity> {
     match world.apply(Command::CreatePending) {
         Reply::Entity(e) => Some(e),
         _ => None,
     }
 }
 
-fn has<S: Storages>(world: &mut Busy<S>, slot: S::Slot, e: Entity) -> bool {
+fn has<S: Storages, J: WorldJob<S>>(world: &mut World<S, J>, slot: S::Slot, e: Entity) -> bool {
     matches!(world.apply(Command::Get(slot, e)), Reply::Value(Some(_)))
 }
 
@@ -143,30 +176,34 @@ fn executes<P, T, S: Sample<P, T>>(world: &mut Busy<S>) -> Option<bool> {
     Some(queued && !before && ran(world) == Some(1) && world.entities().is_alive(next))
 }
 
-/// A job that queues a job that queues an insertion: three turns.
-fn executes_late<P, T, S: Sample<P, T>>(world: &mut World<S, Later<S>>) -> Option<bool> {
-    world.register::<Position, _>().ok()?;
-    let e = match world.apply(Command::CreatePending) {
-        Reply::Entity(e) => e,
-        _ => return None,
-    };
-    let late = Later {
-        turns: 1,
-        entity: e,
-        value: value::<_, S, _>(Position(1)),
-    };
-    let queued = world.parts().lazy.exec(late).is_ok();
-    let first = world.maintain(1).ok()?.left;
-    let early = matches!(
-        world.apply(Command::Get(S::pos(), e)),
-        Reply::Value(Some(_))
-    );
-    let rest = world.maintain(u64::MAX).ok()?.ran;
-    let found = matches!(
-        world.apply(Command::Get(S::pos(), e)),
-        Reply::Value(Some(_))
-    );
-    Some(queued && first == 1 && !early && rest == 2 && found)
+/// An entity whose birth is pending, where a slot was registered.
+fn raised_beside<S: Storages, J: WorldJob<S>>(
+    world: &mut World<S, J>,
+    slot: S::Slot,
+) -> Option<Entity> {
+    match world.apply(Command::Register(slot)) {
+        Reply::Done => raised(world),
+        _ => None,
+    }
+}
+
+/// A job that puts a position at an entity by itself.
+fn puts<P, T, S: Sample<P, T>>(world: &mut World<S, Put<S>>) -> Option<bool> {
+    let entity = raised_beside(world, S::pos())?;
+    let value = value::<_, S, _>(Position(1));
+    world.parts().lazy.exec(Put { entity, value }).ok()?;
+    let before = has(world, S::pos(), entity);
+    Some(!before && done(world, 9) == Some((1, 0, 0)) && has(world, S::pos(), entity))
+}
+
+/// A job that queues the one that puts it, and sees no position then: both run at one maintain.
+fn puts_later<P, T, S: Sample<P, T>>(world: &mut World<Listed<S>, PutLater<S>>) -> Option<bool> {
+    let entity = raised_beside(world, S::pos())?;
+    let value = value::<_, S, _>(Position(1));
+    world.parts().lazy.exec(PutLater { entity, value }).ok()?;
+    let both = done(world, 9) == Some((2, 0, 0)) && has(world, S::pos(), entity);
+    let seen = world.parts().core.parts().storages.numbers.as_slice() == [0].as_slice();
+    Some(both && seen)
 }
 
 /// An entity that is built with a component, which comes with the next maintain.
@@ -200,22 +237,34 @@ pub enum Story {
     Inserts,
     Removes,
     Executes,
-    ExecutesLate,
+    Puts,
+    PutsLater,
     Builds,
     Drops,
 }
 
+/// Empty storages, with an empty list beside them.
+fn listed<S: Empty>(alloc: Global) -> Listed<S> {
+    Listed {
+        storages: S::empty(alloc),
+        numbers: Vec::new(alloc),
+    }
+}
+
 fn told_of<P, T, S: Sample<P, T> + Drop>(alloc: Global, story: Story) -> Option<bool> {
-    if let Story::ExecutesLate = story {
-        return executes_late(&mut World::new(alloc, S::empty(alloc)));
+    if let Story::Puts = story {
+        return puts(&mut World::new(alloc, S::empty(alloc)));
+    }
+    if let Story::PutsLater = story {
+        return puts_later(&mut World::new(alloc, listed::<S>(alloc)));
     }
     let mut world = World::new(alloc, S::empty(alloc));
     match story {
         Story::Inserts => inserts(alloc, &mut world),
         Story::Removes => removes(&mut world),
-        Story::Executes | Story::ExecutesLate => executes(&mut world),
         Story::Builds => builds(&mut world),
         Story::Drops => drops(&mut world),
+        _ => executes(&mut world),
     }
 }
 
@@ -236,6 +285,11 @@ fn lazy_removal(rt: HostRuntime) -> Result<(), Fail> {
 
 #[test]
 fn lazy_execution(rt: HostRuntime) -> Result<(), Fail> {
+    told(&rt, rt.alloc(), stories::Story::Lazy(Story::Puts))
+}
+
+#[test]
+fn a_job_that_creates_an_entity_waits_for_the_next_maintain(rt: HostRuntime) -> Result<(), Fail> {
     told(&rt, rt.alloc(), stories::Story::Lazy(Story::Executes))
 }
 
@@ -251,5 +305,5 @@ fn a_lazy_builder_that_is_dropped_marks_its_entity(rt: HostRuntime) -> Result<()
 
 #[test]
 fn super_lazy_execution(rt: HostRuntime) -> Result<(), Fail> {
-    told(&rt, rt.alloc(), stories::Story::Lazy(Story::ExecutesLate))
+    told(&rt, rt.alloc(), stories::Story::Lazy(Story::PutsLater))
 }

@@ -17,6 +17,13 @@ fn built<S: Storages>(world: &mut World<S>, slot: S::Slot) -> Option<(Entity, Op
     }
 }
 
+/// An entity whose birth is pending, and whose marker is queued.
+fn built_lazily<S: Storages>(world: &mut World<S>, slot: S::Slot) -> Option<Entity> {
+    let builder = world.parts().create_entity().ok()?;
+    let builder = builder.marked(slot).ok()?;
+    Some(builder.build())
+}
+
 /// The marker of an entity.
 fn marker_of<S: Storages>(world: &mut World<S>, slot: S::Slot, e: Entity) -> Option<S::Value> {
     match world.apply(Command::Get(slot, e)) {
@@ -25,7 +32,45 @@ fn marker_of<S: Storages>(world: &mut World<S>, slot: S::Slot, e: Entity) -> Opt
     }
 }
 
-/// A birth before the slot is registered is refused its marker, and dies next. Then two are born with markers of the first two ids.
+/// The ids of two entities.
+fn ids<S: Storages<Value = SimpleMarker<Saved>>>(
+    world: &mut World<S>,
+    slot: S::Slot,
+    first: Entity,
+    second: Entity,
+) -> (Option<u64>, Option<u64>) {
+    (
+        marker_of(world, slot, first).map(|m| m.id()),
+        marker_of(world, slot, second).map(|m| m.id()),
+    )
+}
+
+/// Two are built lazily, and then two at once, which get the first two ids. The lazy ones have none before the next maintain, and the next two after it.
+fn are_marked_later<R: Abort, S: Storages<Value = SimpleMarker<Saved>>>(
+    rt: &R,
+    world: &mut World<S>,
+    slot: S::Slot,
+) -> Result<(), Fail> {
+    let late = built_lazily(world, slot).ok_or("a birth")?;
+    let later = built_lazily(world, slot).ok_or("a birth")?;
+    let (first, refusal) = built(world, slot).ok_or("a birth")?;
+    assert_eq!(rt; refusal, None);
+    let (second, refusal) = built(world, slot).ok_or("a birth")?;
+    assert_eq!(rt; refusal, None);
+    assert_eq!(rt; ids(world, slot, first, second), (Some(0), Some(1)));
+    assert_eq!(rt; ids(world, slot, late, later), (None, None));
+    let maintained = world.maintain(100)?;
+    assert_eq!(rt;
+        (maintained.ran, maintained.refused, maintained.left),
+        (2, 0, 0)
+    );
+    assert!(rt; maintained.deleted.is_empty());
+    assert_eq!(rt; ids(world, slot, first, second), (Some(0), Some(1)));
+    assert_eq!(rt; ids(world, slot, late, later), (Some(2), Some(3)));
+    Ok(())
+}
+
+/// A birth before the slot is registered is refused its marker, and dies next. Those after it are given theirs.
 fn are_marked<R: Abort, S: Storages<Value = SimpleMarker<Saved>>>(
     rt: &R,
     world: &mut World<S>,
@@ -36,17 +81,7 @@ fn are_marked<R: Abort, S: Storages<Value = SimpleMarker<Saved>>>(
     let maintained = world.maintain(0)?;
     assert_eq!(rt; maintained.deleted.as_slice(), [early].as_slice());
     assert!(rt; matches!(world.apply(Command::Register(slot)), Reply::Done));
-    let (first, refusal) = built(world, slot).ok_or("a birth")?;
-    assert_eq!(rt; refusal, None);
-    let (second, refusal) = built(world, slot).ok_or("a birth")?;
-    assert_eq!(rt; refusal, None);
-    let ids = (
-        marker_of(world, slot, first).map(|m| m.id()),
-        marker_of(world, slot, second).map(|m| m.id()),
-    );
-    assert_eq!(rt; ids, (Some(0), Some(1)));
-    assert!(rt; world.maintain(0)?.deleted.is_empty());
-    Ok(())
+    are_marked_later(rt, world, slot)
 }
 
 /// The world is of these storages here alone.

@@ -16,6 +16,7 @@ enum Step {
     GenerationAt(u32),
     IsAlive(u32, i32),
     IsMerged(u32, i32),
+    IsMarked(u32),
 }
 
 fn entity(index: u32, generation: i32) -> Option<Entity> {
@@ -107,6 +108,10 @@ fn text_of(alloc: Global, entities: &mut EntitiesRes, step: &Step) -> Result<Str
             };
             format!(in alloc; "{merged}")
         }
+        Step::IsMarked(index) => {
+            let marked = entities.marked().contains(*index);
+            format!(in alloc; "{marked}")
+        }
     }
 }
 
@@ -124,7 +129,9 @@ const STORIES: &[(&str, &[(Step, &str)])] = &[
             (Step::Delete(0, 1), "ok"),
             (Step::Delete(0, 1), "ok"),
             (Step::Allocate, "Entity(1, Generation(1))"),
+            (Step::IsMarked(0), "true"),
             (Step::Merge, "Entity(0, Generation(1));"),
+            (Step::IsMarked(0), "false"),
         ],
     ),
     (
@@ -133,8 +140,11 @@ const STORIES: &[(&str, &[(Step, &str)])] = &[
             (Step::Allocate, FIRST),
             (Step::Delete(0, 1), "ok"),
             (Step::Allocate, "Entity(1, Generation(1))"),
+            (Step::IsMarked(0), "true"),
             (Step::Kill(&[(0, 1)]), "ok"),
+            (Step::IsMarked(0), "false"),
             (Step::Allocate, "Entity(0, Generation(2))"),
+            (Step::IsMarked(0), "false"),
             (Step::Merge, ""),
             (Step::Delete(0, 1), FIRST_REFUSED),
             (Step::Kill(&[(1, 1), (0, 1)]), FIRST_REFUSED),

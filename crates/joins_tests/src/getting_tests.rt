@@ -123,6 +123,21 @@ fn reads_of<A: Numbered, B: Numbered, C: Component>(values: &World<A, B, C>) -> 
     walk.reads()
 }
 
+// What a walk over both gives, if it gives two and ends.
+fn two_of_both<A: Numbered, B: Numbered, C: Component>(
+    values: &World<A, B, C>,
+) -> Option<((i32, i32), (i32, i32))> {
+    let mut walk = (&values.first, &values.second).join();
+    let (a, b) = walk.next()?;
+    let one = (a.number(), b.number());
+    let (a, b) = walk.next()?;
+    let other = (a.number(), b.number());
+    if walk.next().is_some() {
+        return None;
+    }
+    Some((one, other))
+}
+
 /// Three entities, of which the third has a number alone.
 pub fn two_have_both<A: Numbered, B: Numbered, C: Component>(
     values: &mut World<A, B, C>,
@@ -133,6 +148,7 @@ pub fn two_have_both<A: Numbered, B: Numbered, C: Component>(
     let taken = values.second.remove(third.id()).is_ok();
     Ok(
         taken
+            && two_of_both(values) == Some(((1, 0), (2, 1)))
             && at_index(values, 0) == Some((1, 0))
             && at_index(values, 1) == Some((2, 1))
             && at_index(values, 2).is_none()

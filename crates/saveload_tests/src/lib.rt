@@ -10,6 +10,8 @@ mod marker_tests;
 #[cfg(test)]
 mod saving_tests;
 #[cfg(test)]
+mod single_tests;
+#[cfg(test)]
 mod stopped_tests;
 #[cfg(test)]
 mod uuid_tests;

@@ -2,8 +2,8 @@
 use crate::components::Position;
 use crate::worlds::{
     NetMarker, Record, SavedPair, World, Worlds, built, comes_true, id_at, ids_are, is_linked,
-    is_marked_now, is_placed, link_of, links_are, load, marker_of, place_of, records_are, save,
-    save_all,
+    is_marked_now, is_placed, links_are, load, marker_of, place_of, records_are, save, save_all,
+    target_of,
 };
 use entities::Entity;
 use saveload::{DeserializeComponents, EntityData, Marker, SaveError, SerializeComponents};
@@ -157,25 +157,26 @@ fn the_later_of_two_records_of_one_id_stays(rt: HostRuntime) -> Result<(), Fail>
     Ok(())
 }
 
-// The place and the id of the link that are saved of index 0, or the index that is refused.
+// The place and the id of the link that are saved of index 0, where this entity alone has a marker; or the entity that is refused.
 fn saved_with(
     world: &World,
-    marker: Option<NetMarker>,
-) -> Result<(Option<i64>, Option<u64>), Option<u32>> {
+    marked: Entity,
+    marker: NetMarker,
+) -> Result<(Option<i64>, Option<u64>), Option<Entity>> {
     let places = (
         ReadStorage::new(&world.entities, &world.positions),
         ReadStorage::new(&world.entities, &world.links),
     );
-    match places.serialize_entity(world.alloc, world.entities.entity(0), |_e: Entity| marker) {
+    let ids = |e: Entity| { if e == marked { Some(marker) } else { None } };
+    match places.serialize_entity(world.alloc, world.entities.entity(0), ids) {
         Ok((position, link)) => Ok((position.map(|p| p.0), link.map(|m: NetMarker| m.id()))),
-        Err(SaveError::Unmarked(entity)) => Err(Some(entity.id())),
+        Err(SaveError::Unmarked(entity)) => Err(Some(entity)),
         Err(_) => Err(None),
     }
 }
 
-// Whether this was stored at index 1, where each marker names the entity of index 3.
-fn is_stored(world: &mut World, saved: SavedPair) -> bool {
-    let target = world.entities.entity(3);
+// Whether this was stored at index 1, where each marker names this entity.
+fn is_stored(world: &mut World, saved: SavedPair, target: Entity) -> bool {
     let entity = world.entities.entity(1);
     let mut lent = (&mut world.positions, &mut world.links);
     lent.deserialize_entity(
@@ -188,23 +189,26 @@ fn is_stored(world: &mut World, saved: SavedPair) -> bool {
     .is_ok()
 }
 
-// One entity is saved by an id, or by none.
+// One entity is saved where its target has an id, and refused where another has it.
 fn saved_alone(world: &mut World) -> Result<bool, Fail> {
-    let seven = marker_of(world.alloc, 7, world.entities.entity(3))?;
+    let target = Entity::from_parts(3, 1).ok_or("no entity")?;
+    let other = Entity::from_parts(2, 1).ok_or("no entity")?;
+    let seven = marker_of(world.alloc, 7, target)?;
     Ok(
         is_linked(world, 0, 3)
-            && saved_with(world, Some(seven)) == Ok((None, Some(7)))
-            && saved_with(world, None) == Err(Some(3)),
+            && saved_with(world, target, seven) == Ok((None, Some(7)))
+            && saved_with(world, other, seven) == Err(Some(target)),
     )
 }
 
 // One is stored, and then nothing in its place.
 fn stored_alone(world: &mut World) -> Result<bool, Fail> {
-    let seven = marker_of(world.alloc, 7, world.entities.entity(3))?;
-    let stored = is_stored(world, (Some(Position(4)), Some(seven)));
-    let there = place_of(world, 1) == Some(4) && link_of(world, 1) == Some(3);
-    let emptied = is_stored(world, (None, None));
-    let gone = place_of(world, 1) == None && link_of(world, 1) == None;
+    let target = Entity::from_parts(3, 1).ok_or("no entity")?;
+    let seven = marker_of(world.alloc, 7, target)?;
+    let stored = is_stored(world, (Some(Position(4)), Some(seven)), target);
+    let there = place_of(world, 1) == Some(4) && target_of(world, 1) == Some(target);
+    let emptied = is_stored(world, (None, None), target);
+    let gone = place_of(world, 1) == None && target_of(world, 1) == None;
     Ok(stored && there && emptied && gone && id_at(world, 1) == None)
 }
 

@@ -1,40 +1,41 @@
 //! Markers that are identifiers of sixteen bytes.
-ghost use Rattle.std.specs.Prelude.{◌≡◌, ℕ};
+ghost use Rattle.std.specs.Prelude.{◌≡◌, ℕ, ◌+◌, ◌%◌, ◌^◌};
 ghost use Rattle.rand_core.specs.Steps.{stream_of, steps_u32};
 
-use crate::worlds::Told;
-use entities::EntitiesRes;
+use crate::components::Position;
+use crate::worlds::{Told, comes_true, empty};
+use entities::{EntitiesRes, Entity};
 use rand_core::utils::NextWord;
 use rand_core::{Rng, utils};
 use saveload::{
-    EntityData, LoadError, MarkError, MarkerAllocator, UuidMarker, UuidMarkerAllocator, from_json,
-    to_json,
+    EntityData, LoadError, MarkError, MarkerAllocator, UuidMarker, UuidMarkerAllocator, WithMarker,
+    deserialize, from_json, serialize, to_json,
 };
 use std::alloc::Global;
-use std::marker::Model;
 use std::test::Fail;
-use storages::{Component, MaskedStorage, TryDefault, WriteStorage};
+use storages::{MaskedStorage, ReadStorage, WriteStorage};
+use uuid::Uuid;
 
-/// A generator that gives one word again and again.
+/// A generator of words, each of which is the one before and as much more, past the greatest from 0 on. One that adds 0 gives one word again and
+/// again.
 #[derive(Drop)]
-pub struct Again(u32);
-
-impl Model for Again {
-    ghost Value = { ℕ };
-
-    ghost view = { λ a. a.0 };
+pub struct Adding {
+    word: u32,
+    more: u32,
 }
 
-impl NextWord<u32> for Again {
-    ghost step = { λ s. (s, s) };
+impl NextWord<u32> for Adding {
+    ghost step = { λ s. (s.word, record { word = (s.word + s.more) % 2 ^ 32; more = s.more }) };
 
     fn next_word(&mut self) -> u32 {
-        self.0
+        let word = self.word;
+        self.word = word.wrapping_add(self.more);
+        word
     }
 }
 
-impl Rng for Again {
-    ghost stream = { stream_of (steps_u32 (λ s. (s, s))) };
+impl Rng for Adding {
+    ghost stream = { stream_of (steps_u32 (λ s. (s.word, record { word = (s.word + s.more) % 2 ^ 32; more = s.more }))) };
 
     fn next_u32(&mut self) -> u32 {
         self.next_word()
@@ -49,16 +50,25 @@ impl Rng for Again {
     }
 }
 
-type Label = UuidMarker<Again>;
+type Label = UuidMarker<Adding>;
 
 type Saved = EntityData<Label, (Option<u64>,)>;
 
-/// Entities, and their labels.
+type Placed = EntityData<Label, (Option<Position>,)>;
+
+/// Entities, with their positions and labels.
 #[derive(Drop)]
 struct Labelled {
+    alloc: Global,
     entities: EntitiesRes,
+    positions: MaskedStorage<Position>,
     labels: MaskedStorage<Label>,
-    allocator: UuidMarkerAllocator<Again>,
+    allocator: UuidMarkerAllocator<Adding>,
+}
+
+// A generator, from a word on.
+fn generator(word: u32, more: u32) -> Adding {
+    Adding { word, more }
 }
 
 impl Told for Labelled {
@@ -68,9 +78,28 @@ impl Told for Labelled {
             entities.create().ok().ok_or("no entity")?;
         }
         Ok(Labelled {
+            alloc,
             entities,
-            labels: MaskedStorage::new(alloc, <Label as Component>::Storage::try_default(alloc)?),
-            allocator: UuidMarkerAllocator::new(alloc, Again(0x1234_5678)),
+            positions: empty(alloc)?,
+            labels: empty(alloc)?,
+            allocator: UuidMarkerAllocator::new(alloc, generator(0x1234_5678, 0)),
+        })
+    }
+}
+
+/// Entities from which some are saved, and those to which they are loaded.
+#[derive(Drop)]
+struct Reloaded {
+    old: Labelled,
+    new: Labelled,
+}
+
+impl Told for Reloaded {
+    /// The entities are those of the first; nobody lives in the other.
+    fn with_entities(alloc: Global, count: u32) -> Result<Self, Fail> {
+        Ok(Reloaded {
+            old: Labelled::with_entities(alloc, count)?,
+            new: Labelled::with_entities(alloc, 0)?,
         })
     }
 }
@@ -81,24 +110,129 @@ fn label(world: &mut Labelled, index: u32) -> Result<Option<bool>, MarkError> {
     world.allocator.mark(entity, &mut labels)
 }
 
+// The identifier at an index.
+fn uuid_at(world: &Labelled, index: u32) -> Option<Uuid> {
+    match world.labels.get(index) {
+        Some(label) => Some(label.uuid()),
+        None => None,
+    }
+}
+
 // The second draw gives the same bytes as the first.
 fn drawn_twice(world: &mut Labelled) -> Result<bool, Fail> {
     let first = label(world, 0) == Ok(Some(true));
+    let id = uuid_at(world, 0).ok_or("no label")?;
     let taken = label(world, 1) == Err(MarkError::IdTaken);
+    let kept = uuid_at(world, 0) == Some(id) && world.labels.count() == 1;
     let old = label(world, 0) == Ok(Some(false));
-    let id = world.labels.get(0).ok_or("no label")?.uuid();
     Ok(
         first
             && taken
+            && kept
             && old
-            && world.labels.get(1).is_none()
+            && uuid_at(world, 1) == None
             && world.allocator.retrieve_entity_internal(id) == Some(world.entities.entity(0)),
     )
 }
 
 #[test]
 fn a_drawn_identifier_that_is_held_is_refused(rt: HostRuntime) -> Result<(), Fail> {
-    assert!(rt; crate::worlds::comes_true(rt.alloc(), 2, drawn_twice)?);
+    assert!(rt; comes_true(rt.alloc(), 2, drawn_twice)?);
+    Ok(())
+}
+
+// Whether an index could be given a position and a label.
+fn is_placed_and_labelled(world: &mut Labelled, index: u32, place: i64) -> bool {
+    let entity = world.entities.entity(index);
+    let placed = WriteStorage::new(&world.entities, &mut world.positions)
+        .insert(entity, Position(place))
+        .is_ok();
+    placed && label(world, index) == Ok(Some(true))
+}
+
+// The place of an index.
+fn place_of(world: &Labelled, index: u32) -> Option<i64> {
+    match world.positions.get(index) {
+        Some(position) => Some(position.0),
+        None => None,
+    }
+}
+
+// The positions of those that have labels.
+fn save(world: &Labelled) -> Result<Vec<Placed>, Fail> {
+    let places = (ReadStorage::new(&world.entities, &world.positions),);
+    let labels = ReadStorage::new(&world.entities, &world.labels);
+    Ok(
+        serialize(world.alloc, &places, &labels)
+            .ok()
+            .ok_or("not saved")?,
+    )
+}
+
+// Loads them.
+fn load(world: &mut Labelled, list: Vec<Placed>) -> Result<(), LoadError> {
+    deserialize(
+        world.alloc,
+        &mut (&mut world.positions,),
+        &mut world.entities,
+        &mut world.labels,
+        &mut world.allocator,
+        list,
+    )
+}
+
+// A new entity with a label.
+fn built(world: &mut Labelled) -> Result<Entity, Fail> {
+    let builder = world.entities.build_entity().ok().ok_or("no entity")?;
+    let builder = builder.marked(&mut world.labels, &mut world.allocator);
+    Ok(builder.ok().ok_or("refused")?.build())
+}
+
+// Whether the first four have labels, no two of which are alike.
+fn four_differ(world: &Labelled) -> bool {
+    for index in 0..4u32 {
+        if uuid_at(world, index) == None {
+            return false;
+        }
+        for earlier in 0..index {
+            if uuid_at(world, earlier) == uuid_at(world, index) {
+                return false;
+            }
+        }
+    }
+    true
+}
+
+// Two are saved and loaded with their identifiers.
+fn two_reloaded(worlds: &mut Reloaded) -> Result<bool, Fail> {
+    let placed = is_placed_and_labelled(&mut worlds.old, 0, 32)
+        && is_placed_and_labelled(&mut worlds.old, 1, 64);
+    let list = save(&worlds.old)?;
+    let loaded = load(&mut worlds.new, list).is_ok() && worlds.new.labels.count() == 2;
+    let same = uuid_at(&worlds.new, 0) == uuid_at(&worlds.old, 0)
+        && uuid_at(&worlds.new, 1) == uuid_at(&worlds.old, 1);
+    let there = place_of(&worlds.new, 0) == Some(32) && place_of(&worlds.new, 1) == Some(64);
+    Ok(placed && loaded && same && there)
+}
+
+// Two more are built beside the two that were loaded.
+fn go_on_from_two(world: &mut Labelled) -> Result<bool, Fail> {
+    let third = built(world)?;
+    let fourth = built(world)?;
+    let counted = world.labels.count() == 4;
+    Ok(third.id() == 2 && fourth.id() == 3 && counted && four_differ(world))
+}
+
+// The draws differ each time.
+fn reloaded_and_built(worlds: &mut Reloaded) -> Result<bool, Fail> {
+    worlds.old.allocator = UuidMarkerAllocator::new(worlds.old.alloc, generator(0, 1));
+    worlds.new.allocator = UuidMarkerAllocator::new(worlds.new.alloc, generator(100, 1));
+    Ok(two_reloaded(worlds)? && go_on_from_two(&mut worlds.new)?)
+}
+
+#[test]
+fn bumps_index_after_reload(rt: HostRuntime) -> Result<(), Fail> {
+    assert!(rt; comes_true(rt.alloc(), 2, reloaded_and_built)?);
     Ok(())
 }
 

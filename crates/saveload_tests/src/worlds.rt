@@ -160,6 +160,14 @@ pub fn link_of(world: &World, index: u32) -> Option<u32> {
     }
 }
 
+/// The entity that an index is linked to.
+pub fn target_of(world: &World, index: u32) -> Option<Entity> {
+    match world.links.get(index) {
+        Some(link) => Some(link.0),
+        None => None,
+    }
+}
+
 /// Whether the indices from 0 on have these ids.
 pub fn ids_are(world: &World, ids: &[Option<u64>]) -> bool {
     let mut index = 0u32;

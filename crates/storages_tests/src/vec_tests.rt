@@ -100,15 +100,45 @@ fn shares_are_given_up<T: Drop>(
     Ok(all && one_less && Rc::strong_count(first) == 1)
 }
 
+// A component whose value no other thread may share is put and read.
+fn is_put_and_read<T: Drop + PartialEq>(
+    masked: &mut MaskedStorage<Shared<T>>,
+    first: &Rc<T>,
+) -> Result<bool, AllocError> {
+    if masked.put(0, Shared(first.clone()?)).is_err() {
+        return Ok(false);
+    }
+    match masked.get(0) {
+        Some(found) => Ok(*found.0 == **first),
+        None => Ok(false),
+    }
+}
+
+// What is told of a storage whose components share a value.
+#[derive(Clone, Copy)]
+enum Sharing {
+    IsGivenUp,
+    IsPutAndRead,
+}
+
 // A value that the components of a new storage share.
-fn is_shared<T: Drop>(alloc: Global, value: T) -> Result<bool, Fail> {
+fn is_shared<T: Drop + PartialEq>(alloc: Global, value: T, story: Sharing) -> Result<bool, Fail> {
     let first = Rc::new(alloc, value)?;
     let mut masked = empty::<Shared<T>>(alloc)?;
-    Ok(shares_are_given_up(&mut masked, &first)?)
+    match story {
+        Sharing::IsGivenUp => Ok(shares_are_given_up(&mut masked, &first)?),
+        Sharing::IsPutAndRead => Ok(is_put_and_read(&mut masked, &first)?),
+    }
 }
 
 #[test]
 fn vec_arc(rt: HostRuntime) -> Result<(), Fail> {
-    assert!(rt; is_shared(rt.alloc(), 7u32)?);
+    assert!(rt; is_shared(rt.alloc(), 7u32, Sharing::IsGivenUp)?);
+    Ok(())
+}
+
+#[test]
+fn non_send_component_is_accepted(rt: HostRuntime) -> Result<(), Fail> {
+    assert!(rt; is_shared(rt.alloc(), 7u32, Sharing::IsPutAndRead)?);
     Ok(())
 }
