@@ -7,7 +7,7 @@ use Rattle.specs.specs.declared.job.Job.{Job}
 use Rattle.specs.specs.declared.job.Job.TheVariants.{Insert, InsertAll, Remove, Mark, Own}
 use Rattle.specs.specs.Column.{Column}
 use Rattle.specs.specs.Following.{Each}
-use Rattle.specs.specs.Jobs.{InsertStep, InsertsAll, RemoveStep, MarkStep, JobStep, JobStops, Ran, RunsJobs}
+use Rattle.specs.specs.Jobs.{InsertStep, InsertsAll, MarkStep, JobStep, JobStops, Ran, RunsJobs}
 use Rattle.specs.specs.Ids.{Ids}
 use Rattle.specs.specs.State.{State, OnTable}
 use Rattle.specs.specs.Marking.{GivesMarkerIn}

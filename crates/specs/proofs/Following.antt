@@ -1,11 +1,11 @@
 -- A reader who follows a slot gets what leads from its values before a run to those after.
-use Rattle.std.proofs.Common.{◌≡◌, ◌≢◌, ◌<◌, ℕ, Bool, true, false, ◌&&◌, ◌||◌, eqb, cond, List, [], ◌∷◌, ◌++◌, refl, sym, ap, ◌∙◌, subst, Option, Some, None, is_some, inl, inr, append_assoc, pos}
+use Rattle.std.proofs.Common.{◌≡◌, ◌≢◌, ◌<◌, ℕ, Bool, true, false, eqb, List, [], ◌∷◌, ◌++◌, refl, sym, ap, ◌∙◌, subst, Option, Some, None, is_some, inl, inr, append_assoc, pos}
 use Rattle.std.specs.Prelude.{IsSome, MatchOption, ◌⊎◌}
 use Rattle.std.specs.Cmp.{signed_Decides}
 use Rattle.std.specs.Option.{option_map}
 use Rattle.std.specs.Ordering.{int_eq}
 use mathlib.Core.Path.{fun_ext}
-use Rattle.std.proofs.lemmas.Bool.{false≢true, cases_Bool, cases_eq, both_ways}
+use Rattle.std.proofs.lemmas.Bool.{false≢true, cases_Bool, both_ways}
 use Rattle.std.proofs.lemmas.List.Folds.{list_any-append}
 use Rattle.hibits.specs.declared.limits.TheConstants.{INDEX_LIMIT}
 use Rattle.entities.specs.declared.entity.Entity.{Entity}
@@ -20,8 +20,8 @@ use Rattle.specs.specs.declared.command.Command.TheVariants.{Register, Create, C
 use Rattle.specs.specs.declared.command.Reply.{Reply}
 use Rattle.specs.specs.declared.command.Reply.TheVariants.{Done, Entity as Told, Bool as Yes, Value, Count, Indices, Maintained as Kept, Reader as NewReader, Events as Given, Refused, InsertRefused}
 use Rattle.specs.specs.Column.{Column, without_values}
-use Rattle.specs.specs.Table.{Table, Becomes, Begins, Registers, Removes}
-use Rattle.specs.specs.Readers.{Rechannels, with_channel}
+use Rattle.specs.specs.Table.{Table, Becomes, Begins, Removes}
+use Rattle.specs.specs.Readers.{with_channel}
 use Rattle.specs.specs.People.{the_living}
 use Rattle.specs.specs.Reached.{OnlyLiving}
 use Rattle.specs.specs.State.{State, OnTable, merged}
@@ -29,14 +29,13 @@ use Rattle.specs.specs.Steps.{WorldState, CoreStep, Maintains, Step, Run}
 use Rattle.specs.specs.Table.{Inserts}
 use Rattle.specs.specs.declared.command.Maintained.{Maintained}
 use Rattle.specs.specs.declared.job.Job.{Job}
-use Rattle.specs.specs.declared.job.Job.TheVariants.{InsertAll, Own}
 use Rattle.specs.specs.Evolving.{Evolves, ValuesLive}
 use Rattle.specs.specs.Jobs.{RunsJobs}
 use Rattle.specs.proofs.Carrying.{carried, each_more}
 use Rattle.specs.specs.Ids.{Ids}
 use Rattle.specs.proofs.Lasting.{living_whatever_ids, grown, merged_kept, inserted_living, removed_living, living_step}
 use Rattle.specs.specs.Leading.{index_at, replay, is_named}
-use Rattle.specs.specs.Following.{values, unread, IsListening, IsFollowed, Advances, Follows, Replays, given_by, given, Each, Throughout, JobSpares, AllSpare, Spared, IsWatched, IsQuiet, AreQuiet, Tells}
+use Rattle.specs.specs.Following.{values, unread, IsListening, IsFollowed, Follows, Replays, given_by, given, Throughout, JobSpares, AllSpare, Spared, IsWatched, IsQuiet, AreQuiet, Tells}
 use Rattle.specs.specs.Marks.{Markers}
 use Rattle.specs.proofs.Leading.{leads_more, replay-append, or_false}
 use Rattle.specs.proofs.Telling.{unread_gone}

@@ -1,5 +1,5 @@
 -- One job more.
-use Rattle.std.proofs.Common.{◌≡◌, ℕ, zero, suc, ◌+◌, Bool, List, [], ◌∷◌, ◌++◌, refl, sym, ap, ◌∙◌, subst, arith, add-one}
+use Rattle.std.proofs.Common.{◌≡◌, ℕ, zero, suc, ◌+◌, List, [], ◌∷◌, ◌++◌, refl, sym, ap, ◌∙◌, subst, arith, add-one}
 use Rattle.specs.specs.State.{State}
 use Rattle.specs.specs.declared.job.Job.{Job}
 use Rattle.specs.specs.Jobs.{Ran, JobStep}

@@ -1,5 +1,5 @@
 -- What holds of a state and is kept by runs: each index with a value lives, and what died stays dead.
-use Rattle.std.proofs.Common.{◌≡◌, ℕ, zero, suc, Bool, false, inl, inr, List, [], ◌∷◌, refl, sym, subst, Option, None}
+use Rattle.std.proofs.Common.{ℕ, zero, suc, Bool, false, inl, inr, List, [], ◌∷◌, refl, sym, subst, Option, None}
 use Rattle.std.proofs.lemmas.Option.{none-some}
 use Rattle.entities.specs.declared.entity.Entity.{Entity}
 use Rattle.entities.specs.Population.{Population}

@@ -1,5 +1,5 @@
 -- More lemmas by which a job of a user's meets its laws, beside those of `specs/Lawful`.
-use Rattle.std.proofs.Common.{◌≡◌, ℕ, Bool, Option, List}
+use Rattle.std.proofs.Common.{ℕ, Bool, Option, List}
 use Rattle.entities.specs.declared.entity.Entity.{Entity}
 use Rattle.specs.specs.declared.job.Job.{Job}
 use Rattle.specs.specs.Following.{IsFollowed, AllSpare, Spared, Tells}

@@ -23,7 +23,7 @@ use Rattle.entities.specs.Deaths.{has_index}
 use Rattle.std.proofs.lemmas.Bool.{false≢true}
 use Rattle.specs.specs.Field.{FieldInserts, FieldRemoves, FieldClears}
 use Rattle.specs.specs.Shows.{each_as, column_as, Shows}
-use Rattle.specs.specs.Marks.{GivesMarker, MarkerIsRefused, LacksMarker, HasMarker}
+use Rattle.specs.specs.Marks.{GivesMarker, MarkerIsRefused, LacksMarker}
 use Rattle.saveload.specs.declared.mark_error.MarkError.{MarkError}
 use Rattle.saveload.specs.declared.mark_error.MarkError.TheVariants as failure
 

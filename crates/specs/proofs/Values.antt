@@ -1,7 +1,7 @@
 -- What a storage is as a slot, after its calls.
 use Rattle.std.proofs.Common.{◌≡◌, ℕ, Bool, true, false, cond, ◌==◌, List, [], ◌∷◌, length, refl, sym, ap, ◌∙◌, inl, inr, Option, Some, None, arith, ◌&&◌, ◌||◌}
 use mathlib.Core.Path.{fun_ext}
-use Rattle.std.specs.Prelude.{option_map, IsSome, is_some, ◌⊎◌, ◌↔◌}
+use Rattle.std.specs.Prelude.{option_map, IsSome, IfSome, IsTrue, is_some, Result, Err, IsOk, ◌⊎◌, ◌↔◌}
 use Rattle.std.specs.Ordering.{nat_cmp}
 use Rattle.std.specs.Cmp.{nat_cmp_total, unsigned_tied}
 use Rattle.std.specs.FinMap as map
@@ -19,6 +19,8 @@ use Rattle.storages.specs.declared.event.ComponentEvent.{ComponentEvent}
 use Rattle.specs.specs.Readers.{with_channel}
 use Rattle.storages.specs.declared.event.ComponentEvent.TheVariants.{Inserted, Modified, Removed}
 use Rattle.storages.specs.Slot as masked
+use Rattle.storages.specs.declared.masked.NotLent.{NotLent}
+use Rattle.storages.specs.declared.masked.NotLent.TheVariants.{Absent, OutOfMemory as NoMemory}
 use Rattle.storages.specs.Life.{is_alive}
 use Rattle.storages.specs.Found.{found_in}
 use Rattle.specs.specs.Maps.{Map, put, without_one, no_value}
@@ -28,6 +30,7 @@ use Rattle.std.proofs.lemmas.List.Elements.{All-contains_itself}
 use Rattle.hibits.specs.Left.{left, contains-left}
 use Rattle.specs.specs.Field.{values_of, column_of, field_column, FieldInserts, FieldGets, FieldRemoves, FieldClears, FieldRechannels}
 use Rattle.std.proofs.lemmas.Option.{same_Some}
+use Rattle.specs.specs.Table.{RemovalWantsMemory}
 
 turned : (a b : ℕ) → (a == b) ≡ (b == a)
 turned a b = grind (arith, nat_tests)
@@ -222,3 +225,23 @@ lacks_at p e alive (Some s) = (
 pub lacks_dead : {T : Type 0} (p : Population) (e : Entity) → (IsAlive p e → ⊥) → (o : Option (masked.Slot T)) → IsSome o → FieldGets p (field_column o) e None
 lacks_dead p e dead None there = absurd (false≢true there)
 lacks_dead p e dead (Some s) there = record { column = column_of s; registered = refl; alive = λ a. absurd (dead a); dead = λ _. refl }
+
+-- a loan that is refused for memory is of a component that is there, where somebody may hear of the write
+loan_there : {T B : Type 0} (o : Option T) (r : Result B NotLent) → (o ≡ None → r ≡ Err Absent) → r ≡ Err NoMemory → IsSome o
+loan_there (Some x) r f e = refl
+loan_there None r f e = let absent = f refl in absurd (cc)
+
+loan_needs : {B : Type 0} (room : Option ℕ) (r : Result B NotLent) → (HasRoom room 1 → IsOk r) → r ≡ Err NoMemory → is_some room ≡ true
+loan_needs (Some n) r f e = refl
+loan_needs None r f e = let ok = f tt in absurd (false≢true (rw e at ok))
+
+pub loan_refused : {T B : Type 0} (s : masked.Slot T) (i : ℕ) (r : Result B NotLent) (heard : Bool) → ((r ≡ Err Absent) ↔ (map.get s.map i ≡ None)) → (IsSome (map.get s.map i) → HasRoom s.room 1 → IsOk r)
+    → heard ≡ is_some s.room → heard ≡ (is_some s.inner_room || is_heard s.channel) → r ≡ Err NoMemory → IsSome (map.get s.map i) × IsTrue (wants_memory (column_of s))
+loan_refused s i r heard absent succeeds told wanted e =
+    let there = loan_there (map.get s.map i) r absent.1 e in
+    (there, sym wanted ∙ told ∙ loan_needs s.room r (succeeds there) e)
+
+pub loan_wants : {T : Type 0} (p : Population) (e : Entity) → IsAlive p e → (part : Option (masked.Slot T)) → IsSome part → IfSome part (λ w. IsSome (map.get w.map (index_of e)) × IsTrue (wants_memory (column_of w)))
+    → RemovalWantsMemory p (field_column part) e
+loan_wants p e alive (Some w) there h = record { column = column_of w; registered = refl; alive = alive; present = h.0; wanted = h.1 }
+loan_wants p e alive None there h = absurd (false≢true there)

@@ -4,7 +4,7 @@ use Rattle.std.specs.Global.{Vec}
 use Rattle.entities.specs.declared.entity.Entity.{Entity}
 use Rattle.specs.specs.declared.command.Refusal.{Refusal}
 use Rattle.specs.specs.declared.command.Refusal.TheVariants.{OutOfMemory}
-use Rattle.specs.specs.Table.{Inserts, InsertIsRefused, Removes, RemovalWantsMemory}
+use Rattle.specs.specs.Table.{InsertIsRefused, RemovalWantsMemory}
 use Rattle.specs.specs.Marking.{GivesMarkerIn, GetsNoMarker}
 use Rattle.saveload.specs.declared.mark_error.MarkError.{MarkError}
 use Rattle.saveload.specs.declared.mark_error.MarkError.TheVariants.{OutOfMemory as NoMemory}

@@ -1,7 +1,7 @@
 -- Lemmas by which a job of a user's meets its laws.
 use Rattle.std.proofs.Common.{◌≡◌, ℕ, true, List, [], refl, sym, ap, subst, inl, inr, append-nil}
 use Rattle.entities.specs.declared.entity.Entity.{Entity}
-use Rattle.entities.specs.Population.{Population, born, born_pending}
+use Rattle.entities.specs.Population.{born, born_pending}
 use Rattle.specs.specs.declared.command.Command.TheVariants.{Create, CreatePending}
 use Rattle.specs.specs.declared.command.Reply.TheVariants.{Entity as Told}
 use Rattle.specs.specs.declared.job.Job.{Job}

@@ -1,5 +1,5 @@
 -- A step keeps it that each index with a value lives.
-use Rattle.std.proofs.Common.{◌≡◌, ℕ, ◌+◌, ◌<◌, Bool, true, false, not, zero, suc, ◌≤◌, ◌^◌, ◌&&◌, ◌||◌, cond, eqb, List, [], ◌∷◌, refl, sym, ap, ◌∙◌, subst, inl, inr, Option, Some, None, arith}
+use Rattle.std.proofs.Common.{◌≡◌, ℕ, ◌+◌, ◌<◌, Bool, true, false, not, zero, suc, ◌≤◌, ◌^◌, ◌&&◌, ◌||◌, cond, eqb, List, ◌∷◌, refl, sym, ap, ◌∙◌, subst, inl, inr, Option, Some, None, arith}
 use Rattle.std.specs.Prelude.{IsSome, is_some, MatchOption, ◌⊎◌}
 use Rattle.std.specs.Option.{option_map}
 use Rattle.std.proofs.lemmas.Bool.{false≢true, both_ways, cases_Bool, cases_eq, eq-eqb, ne_eqb}
@@ -18,11 +18,11 @@ use Rattle.specs.specs.declared.command.Command.{Command}
 use Rattle.specs.specs.declared.command.Command.TheVariants.{Register, Create, CreatePending, Delete, DeleteAll, MarkDead, IsAlive as AskAlive, IsLiving as AskLiving, EntityAt, Insert, Get, Remove, Clear, Count as AskCount, Select, Reader, Events, DropReader, Emit}
 use Rattle.specs.specs.declared.command.Reply.{Reply}
 use Rattle.specs.specs.declared.command.Reply.TheVariants.{Done, Entity as Told, Bool as Yes, Value, Count, Indices, Reader as NewReader, Events as Given, Refused, InsertRefused}
-use Rattle.specs.specs.Table.{Table, Becomes, Begins, Registers, Inserts, Removes, Clears}
+use Rattle.specs.specs.Table.{Table, Becomes, Begins, Removes}
 use Rattle.storages.specs.Channel.{Channel}
 use Rattle.specs.specs.Readers.{Rechannels}
-use Rattle.specs.specs.People.{Births, Deaths, Marks, the_living}
-use Rattle.specs.specs.State.{State, OnPeople, OnTable, Deletes}
+use Rattle.specs.specs.People.{Births, Marks, the_living}
+use Rattle.specs.specs.State.{State, OnPeople, Deletes}
 use Rattle.specs.specs.Steps.{CoreStep}
 use Rattle.specs.specs.Reached.{IsNew, OnlyLiving}
 

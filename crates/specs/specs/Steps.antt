@@ -18,7 +18,7 @@ use Rattle.specs.specs.Queue.{to_come}
 use Rattle.specs.specs.Readers.{RegistersReader, RegisterReaderIsRefused, ReadsEvents, DropsReader, ReaderIsRefused, Switches, SwitchIsRefused}
 use Rattle.specs.specs.Sets.{SelectIsRefused}
 use Rattle.specs.specs.State.{State, state_of, OnPeople, OnTable, InsertsAlone, RemovesAlone, Deletes, Selects, DeletionWantsMemory, merged}
-use Rattle.specs.specs.Table.{Table, Registers, Inserts, InsertIsRefused, Gets, GetIsRefused, Removes, RemoveIsRefused, Clears, ClearIsRefused, Counts, IsUnregistered}
+use Rattle.specs.specs.Table.{Table, Registers, InsertIsRefused, Gets, GetIsRefused, RemoveIsRefused, Clears, ClearIsRefused, Counts, IsUnregistered}
 use Rattle.specs.specs.Marks.{Markers}
 
 -- entities with their components, and the jobs that wait, the first first
