@@ -1,4 +1,4 @@
-use Rattle.std.proofs.Common.{rules, ◌≡◌, Bool, true, false, refl, ap, ◌∙◌, Option, Some}
+use Rattle.std.proofs.Common.{rules, ◌≡◌, subst, Bool, true, false, refl, ap, ◌∙◌, Option, Some}
 use Rattle.std.specs.Prelude.{IsTrue, Ok, IfOk}
 use Rattle.std.specs.Option.{option_map}
 use Rattle.std.proofs.lemmas.Bool.{false≢true, eq-eqb}
@@ -20,5 +20,7 @@ has_one_that_comes {K} {V} Comes p old new slot e true g t =
 
 pub returns-in-Ok-Some : goal.returns-in-Ok-Some
 returns-in-Ok-Some g c =
-    let gives : GivesMarker (g.S.Storages.marks.comes c.args.slot (g.S.Storages.ids c.args.storages.now c.args.slot)) (population c.args.entities.now) (g.S.Storages.table c.args.storages.now) c.args.slot c.args.e (Some c.in-Ok-Some.given) (g.S.Storages.table c.mark.new.self) = c.in-Ok-Some.ensures.ok in
-    has_one_that_comes _ (population c.args.entities.now) (g.S.Storages.table c.args.storages.now) (g.S.Storages.table c.mark.new.self) c.args.slot c.args.e c.in-Ok-Some.given gives
+    let same : c.in-Ok-Some.field-0 ≡ Some c.in-Ok-Some.given = search rules in
+    let Comes = g.S.Storages.marks.comes c.args.slot (g.S.Storages.ids c.args.storages.now c.args.slot) in
+    let gives = subst (λ o. GivesMarker Comes (population c.args.entities.now) (g.S.Storages.table c.args.storages.now) c.args.slot c.args.e o (g.S.Storages.table c.mark.new.self)) same c.in-Ok-Some.ensures.ok in
+    has_one_that_comes Comes (population c.args.entities.now) (g.S.Storages.table c.args.storages.now) (g.S.Storages.table c.mark.new.self) c.args.slot c.args.e c.in-Ok-Some.given gives
