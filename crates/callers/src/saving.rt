@@ -13,8 +13,9 @@ ghost use Rattle.storages.specs.WriteView.{entities_of, found};
 
 use saveload::{
     ConvertSaveload, DeserializeComponents, EntityData, JsonData, JsonPlaces, LoadError, Marker,
-    MarkerAllocator, SaveError, SerializeComponents, SimpleMarker, SimpleMarkerAllocator, deserialize,
-    from_json, next_number_is_new, one_renaming, serialize_recursive, serialize_to_json,
+    MarkerAllocator, SaveError, SerializeComponents, SimpleMarker, SimpleMarkerAllocator,
+    deserialize, from_json, next_number_is_new, one_renaming, serialize_recursive,
+    serialize_to_json,
 };
 use specs::{EntitiesRes, Entity};
 use std::alloc::Global;
