@@ -8,6 +8,8 @@ mod json_tests;
 #[cfg(test)]
 mod marker_tests;
 #[cfg(test)]
+mod own_marker_tests;
+#[cfg(test)]
 mod saving_tests;
 #[cfg(test)]
 mod single_tests;
