@@ -1,8 +1,7 @@
 //! What is saved and loaded elsewhere is renamed, one to one; what marking says of the ids.
 ghost use Rattle.std.specs.Prelude.{◌≡◌, ◌<◌, ◌^◌, ℕ, None, Some, IsTrue, IfSome, OnSome, OnOk, true};
 ghost use Rattle.entities.specs.Census.{population};
-ghost use Rattle.saveload.specs.Law.{RenamesSaved};
-ghost use Rattle.saveload.specs.Loads.{loading};
+ghost use Rattle.saveload.specs.Law.{RenamesInto};
 ghost use Rattle.saveload.specs.Naming.{once_given};
 ghost use Rattle.saveload.specs.Saved.{IsSavedList, marked_read};
 ghost use Rattle.saveload.specs.Simple.{given};
@@ -33,9 +32,8 @@ pub fn taken_up<M: Marker, P: DeserializeComponents<M>>(
 where
     M::Allocator: MarkerAllocator<M>,
     requires { (m n : M) → M.is_clone m n → m ≡ n }
-    ensures { OnOk result (RenamesSaved M.id_of P.conversion list.items
-        (loading M.id_of M.Allocator.mapping M.Allocator.ids_past P.rows entities.old allocator.old markers.old masked.old)
-        (loading M.id_of M.Allocator.mapping M.Allocator.ids_past P.rows entities.new allocator.new markers.new masked.new)) }
+    ensures { OnOk result (RenamesInto M.id_of P.conversion M.Allocator.mapping M.Allocator.ids_past P.rows
+        entities.old allocator.old markers.old masked.old list.items entities.new allocator.new markers.new masked.new) }
 {
     one_renaming::<M, P>();
     deserialize(alloc, masked, entities, markers, allocator, list)

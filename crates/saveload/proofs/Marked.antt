@@ -14,9 +14,9 @@ use Rattle.storages.specs.Found.{found_in}
 use Rattle.storages.specs.Life.{is_alive}
 use Rattle.saveload.specs.declared.error.SaveError.{SaveError}
 use Rattle.saveload.specs.declared.error.SaveError.TheVariants.{Unmarked, Custom, OutOfMemory, IdsExhausted, IdTaken}
-use Rattle.saveload.specs.Conversion.{Has, AllNamed, IsFirstUnnamed, Refuses}
+use Rattle.saveload.specs.Conversion.{Conversion, Has, AllNamed, IsFirstUnnamed, Refuses}
 use Rattle.saveload.specs.Saved.{entity_at, all_marked, RefusesSave}
-use Rattle.saveload.specs.Closing.{one_more, add_new, new_in, marked_in, HasMarked, LeadsTo, RefusesMarking, MarksSome, MarksAll, MarksBefore, MarksUpTo, RefusesAll}
+use Rattle.saveload.specs.Closing.{one_more, add_new, new_in, marked_in, HasMarked, LeadsTo, RefusesMarking, MarksSome, MarksThese, MarksBefore, MarksUpTo, RefusesAll}
 use Rattle.saveload.specs.Closing.LeadsTo.{next}
 use Rattle.saveload.specs.Places.{has_either}
 use Rattle.std.specs.Ordering.{nat_cmp}
@@ -52,12 +52,13 @@ module _ {M : Type 0} (c : Census) (s : Slot M) where
       subst (λ e. IsSome (found_in c s e)) k.2 (named_at k.0 t.0 t.1)
 
 -- one of a list is refused
-pub list_refused : {M : Type 0} (g : Entity → Option M) (refs : Entity → List Entity) (es : List Entity) (e : Entity) (x : SaveError) → Has es e → Refuses g (refs e) x → RefusesSave g refs es x
-list_refused g refs es e (Unmarked x) h r = (e, h, r)
-list_refused g refs es e (Custom t) h r = tt
-list_refused g refs es e OutOfMemory h r = tt
-list_refused g refs es e IdsExhausted h r = absurd r
-list_refused g refs es e IdTaken h r = absurd r
+pub list_refused : {M V D : Type 0} (c : Conversion M V D) (g : Entity → Option M) (values : Entity → V) (es : List Entity) (e : Entity) (x : SaveError) → Has es e
+    → Refuses (c.unsaved (values e)) g (c.references (values e)) x → RefusesSave c g values es x
+list_refused c g values es e (Unmarked x) h r = (e, h, r)
+list_refused c g values es e (Custom t) h r = (e, h, r)
+list_refused c g values es e OutOfMemory h r = tt
+list_refused c g values es e IdsExhausted h r = absurd r
+list_refused c g values es e IdTaken h r = absurd r
 
 or_false : (b : Bool) → (b || false) ≡ b
 or_false true = refl
@@ -214,16 +215,19 @@ first_none g (y ∷ xs) x (inl h) a = false≢true (sym (ap is_some h.1) ∙ a y
 first_none g (y ∷ xs) x (inr h) a = first_none g xs x h.1 (λ z k. a z (inr k))
 
 -- a save of which each reference has a marker is refused for another cause
-pub save_refused : {M : Type 0} (g : Entity → Option M) (refs : Entity → List Entity) (es start : List Entity) (people : Population) (s s' : Slot M) → ((e : Entity) → Has es e → AllNamed g (refs e)) → MarksAll refs start s s' → (e : SaveError) → RefusesSave g refs es e → RefusesAll people refs start s s' e
-save_refused g refs es start people s s' a m (Unmarked x) h = absurd (first_none g (refs h.0) x h.2 (a h.0 h.1))
-save_refused g refs es start people s s' a m (Custom t) h = m
-save_refused g refs es start people s s' a m OutOfMemory h = inr (inr m)
-save_refused g refs es start people s s' a m IdsExhausted h = absurd h
-save_refused g refs es start people s s' a m IdTaken h = absurd h
+pub save_refused : {M V D : Type 0} (c : Conversion M V D) (g : Entity → Option M) (values : Entity → V) (es start : List Entity) (people : Population) (s s' : Slot M)
+    → ((e : Entity) → Has es e → AllNamed g (c.references (values e))) → MarksThese (λ e. c.references (values e)) start s s' es
+    → (e : SaveError) → RefusesSave c g values es e → RefusesAll c people values start s s' e
+save_refused c g values es start people s s' a m (Unmarked x) h = absurd (first_none g (c.references (values h.0)) x h.2 (a h.0 h.1))
+save_refused c g values es start people s s' a m (Custom t) h = (es, m, h)
+save_refused c g values es start people s s' a m OutOfMemory h = inr (inr (es, m))
+save_refused c g values es start people s s' a m IdsExhausted h = absurd h
+save_refused c g values es start people s s' a m IdTaken h = absurd h
 
-pub marking_refused : {M : Type 0} (refs : Entity → List Entity) (start : List Entity) (people : Population) (s s' : Slot M) (e : SaveError) → RefusesMarking people (MarksUpTo refs start s s') e → RefusesAll people refs start s s' e
-marking_refused refs start people s s' (Unmarked x) h = h
-marking_refused refs start people s s' (Custom t) h = absurd h
-marking_refused refs start people s s' OutOfMemory h = inr (inl h)
-marking_refused refs start people s s' IdsExhausted h = h
-marking_refused refs start people s s' IdTaken h = h
+pub marking_refused : {M V D : Type 0} (c : Conversion M V D) (values : Entity → V) (start : List Entity) (people : Population) (s s' : Slot M) (e : SaveError)
+    → RefusesMarking people (MarksUpTo (λ x. c.references (values x)) start s s') e → RefusesAll c people values start s s' e
+marking_refused c values start people s s' (Unmarked x) h = h
+marking_refused c values start people s s' (Custom t) h = absurd h
+marking_refused c values start people s s' OutOfMemory h = inr (inl h)
+marking_refused c values start people s s' IdsExhausted h = h
+marking_refused c values start people s s' IdTaken h = h

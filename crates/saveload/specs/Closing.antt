@@ -2,6 +2,7 @@
 use Rattle.std.specs.Prelude.{◌≡◌, ◌⊎◌, ℕ, ◌<◌, Bool, true, false, ◌||◌, List, [], ◌∷◌, ◌++◌, length, take, if◌then◌else◌, is_some, Option}
 use Rattle.std.specs.List.{flat_map}
 use Rattle.std.specs.FinMap as map
+use Rattle.std.specs.String.{string_bytes}
 use Rattle.entities.specs.declared.entity.Entity.{Entity}
 use Rattle.entities.specs.Population.{Population, index_of}
 use Rattle.entities.specs.Deaths.{has_index}
@@ -11,7 +12,10 @@ use Rattle.saveload.specs.declared.entity_data.EntityData.{EntityData}
 use Rattle.saveload.specs.declared.error.SaveError.{SaveError}
 use Rattle.saveload.specs.declared.error.SaveError.TheVariants.{Unmarked, Custom, OutOfMemory, IdsExhausted, IdTaken}
 use Rattle.saveload.specs.Conversion.{Conversion, Has}
-use Rattle.saveload.specs.Saved.{IsSavedList}
+use Rattle.storages.specs.declared.write_storage.WriteStorage.{WriteStorage}
+use Rattle.storages.specs.WriteView.{slot, found}
+use Rattle.saveload.specs.Marking.{MarksInTurn}
+use Rattle.saveload.specs.Saved.{IsSavedList, marked_by}
 
 -- those of a list that have no mark, each once, in the order of first mention, after those there already
 abbrev pub one_more : (ℕ → Bool) → List Entity → Entity → List Entity
@@ -77,25 +81,32 @@ pub record MarksSome {M : Type 0} (people : Population) (Mentioned : Entity → 
   pub marked : HasMarked s s' added
   pub each : (x : Entity) → Has added x → Mentioned x × (is_alive people x ≡ true)
 
--- just those that a list leads to, and that had no mark, have got one
-pub record MarksAll {M : Type 0} (refs : Entity → List Entity) (start : List Entity) (s s' : Slot M) : Type 0 where
-  pub all : List Entity
+-- just those that a list leads to, and that had no mark, have got one, so that all of these have a mark
+pub record MarksThese {M : Type 0} (refs : Entity → List Entity) (start : List Entity) (s s' : Slot M) (all : List Entity) : Type 0 where
   pub added : List Entity
   pub parts : all ≡ start ++ added
   pub closed : IsClosed (marked_in s) refs start all
   pub marked : HasMarked s s' added
 
+abbrev pub MarksAll : {M : Type 0} → (Entity → List Entity) → List Entity → Slot M → Slot M → Type 0
+MarksAll refs start s s' = (all : List Entity) × MarksThese refs start s s' all
+
 -- there was no memory: before anything was marked, on the way, or once all were marked
 abbrev pub MarksFirst : {M : Type 0} → (Entity → List Entity) → List Entity → Slot M → Slot M → Type 0
 MarksFirst refs start s s' = HasMarked s s' [] ⊎ (((after : List Entity) × MarksUpTo refs start s s' after) ⊎ MarksAll refs start s s')
 
--- why what a list leads to was not saved, and who has a mark: marking stopped, or there was a conversion's own cause once all were marked, or no memory
-abbrev pub RefusesAll : {M : Type 0} → Population → (Entity → List Entity) → List Entity → Slot M → Slot M → SaveError → Type 0
-RefusesAll people refs start s s' (Unmarked x) = RefusesMarking people (MarksUpTo refs start s s') (Unmarked x)
-RefusesAll people refs start s s' (Custom t) = MarksAll refs start s s'
-RefusesAll people refs start s s' OutOfMemory = MarksFirst refs start s s'
-RefusesAll people refs start s s' IdsExhausted = RefusesMarking people (MarksUpTo refs start s s') IdsExhausted
-RefusesAll people refs start s s' IdTaken = RefusesMarking people (MarksUpTo refs start s s') IdTaken
+-- once all were marked, one of them may be refused for this cause
+abbrev pub MarksAndRefuses : {M V D : Type 0} → Conversion M V D → (Entity → V) → List Entity → Slot M → Slot M → List ℕ → Type 0
+MarksAndRefuses c values start s s' text =
+    (all : List Entity) × MarksThese (λ e. c.references (values e)) start s s' all × ((e : Entity) × Has all e × c.unsaved (values e) text)
+
+-- why what a list leads to was not saved, and who has a mark: marking stopped, or one was refused for a cause of its own once all were marked, or there was no memory
+abbrev pub RefusesAll : {M V D : Type 0} → Conversion M V D → Population → (Entity → V) → List Entity → Slot M → Slot M → SaveError → Type 0
+RefusesAll c people values start s s' (Unmarked x) = RefusesMarking people (MarksUpTo (λ e. c.references (values e)) start s s') (Unmarked x)
+RefusesAll c people values start s s' (Custom t) = MarksAndRefuses c values start s s' (string_bytes t)
+RefusesAll c people values start s s' OutOfMemory = MarksFirst (λ e. c.references (values e)) start s s'
+RefusesAll c people values start s s' IdsExhausted = RefusesMarking people (MarksUpTo (λ e. c.references (values e)) start s s') IdsExhausted
+RefusesAll c people values start s s' IdTaken = RefusesMarking people (MarksUpTo (λ e. c.references (values e)) start s s') IdTaken
 
 -- those of a list and what they lead to are saved, and just these last got markers, as `Gives` says
 pub record SavesAll {M V D : Type 0} (c : Conversion M V D) (marker_of : Entity → Option M) (values : Entity → V) (s s' : Slot M) (Gives : List Entity → Type 0)
@@ -107,3 +118,9 @@ pub record SavesAll {M V D : Type 0} (c : Conversion M V D) (marker_of : Entity 
   pub marked : HasMarked s s' added
   pub given : Gives added
   pub saved : IsSavedList c marker_of values all rs
+
+-- those that have markers and what they lead to are saved, and just these last got markers, in turn, by the views of the markers before and after
+abbrev pub SavesWhole : {M I V D A S : Type 0} → Conversion M V D → (Entity → V) → (M → I) → (I → I → Bool) → (A → I → Type 0) → (A → I → Option Entity) → (A → Option ℕ)
+    → A → WriteStorage M S → A → WriteStorage M S → List (EntityData M D) → Type 0
+SavesWhole c values id_of eq MayBeNew mapping ids a markers a' markers' rs = SavesAll c (λ e. found markers' e) values (slot markers) (slot markers')
+    (λ added. MarksInTurn id_of eq MayBeNew mapping ids a (slot markers) added a' (slot markers')) (marked_by markers) rs

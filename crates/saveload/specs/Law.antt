@@ -5,7 +5,9 @@ use Rattle.entities.specs.Population.{Population, IsAlive, lives, index_of}
 use Rattle.saveload.specs.declared.entity_data.EntityData.{EntityData}
 use Rattle.saveload.specs.Conversion.{Conversion, Has}
 use Rattle.saveload.specs.Saved.{IsSavedList}
-use Rattle.saveload.specs.Loads.{Loading, Loads}
+use Rattle.entities.specs.Census.{Census}
+use Rattle.storages.specs.Slot.{Slot}
+use Rattle.saveload.specs.Loads.{Loading, loading, Loads}
 
 -- one-to-one from the entities of a list onto those that live, merged or pending
 pub record IsOneToOne (es : List Entity) (people : Population) (r : Entity → Entity) : Type 0 where
@@ -42,3 +44,9 @@ abbrev pub OneRenaming : {M I V D : Type 0} → (M → I) → (I → I → Bool)
 OneRenaming {M} {I} {V} {D} id_of eq c = (marker_of : Entity → Option M) (values : Entity → V) (es : List Entity) (rs : List (EntityData M D)) (old new : Loading I V) →
     IsSavedList c marker_of values es rs → DistinctIds id_of rs → HoldsReferences c values es → IsEmpty old → Loads id_of eq c old rs new →
     (r : Entity → Entity) × IsOneToOne es new.naming.people r × IsRenamed id_of c marker_of values es r new
+
+-- the same, by what is lent to a load
+abbrev pub RenamesInto : {M I V D A P : Type 0} → (M → I) → Conversion M V D → (A → I → Option Entity) → (A → List I → Option ℕ) → (P → ℕ → V)
+    → Census → A → Slot M → P → List (EntityData M D) → Census → A → Slot M → P → Type 0
+RenamesInto id_of c mapping left rows entities a markers p rs entities' a' markers' p' =
+    RenamesSaved id_of c rs (loading id_of mapping left rows entities a markers p) (loading id_of mapping left rows entities' a' markers' p')

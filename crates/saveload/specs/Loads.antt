@@ -7,6 +7,7 @@ use Rattle.entities.specs.Population.{index_of}
 use Rattle.storages.specs.Slot.{Slot}
 use Rattle.saveload.specs.declared.entity_data.EntityData.{EntityData}
 use Rattle.saveload.specs.Conversion.{Conversion, GivesEach}
+use Rattle.saveload.specs.Places.{place, both}
 use Rattle.saveload.specs.Naming.{Naming, naming, Names, NamesAll}
 
 -- the entity that an id is mapped to
@@ -53,3 +54,18 @@ module _ {M I V D : Type 0} (id_of : M → I) (eq : I → I → Bool) (c : Conve
   abbrev pub Loads : Loading I V → List (EntityData M D) → Loading I V → Type 0
   Loads old [] new = new ≡ old
   Loads old (r ∷ rs) new = (mid : Loading I V) × LoadsRecord old r mid × Loads mid rs new
+
+-- one record of a load, and a list, by what is lent to it
+module _ {M I V D A P : Type 0} (id_of : M → I) (eq : I → I → Bool) (c : Conversion M V D) (mapping : A → I → Option Entity) (left : A → List I → Option ℕ) (rows : P → ℕ → V) where
+  abbrev pub LoadsOneInto : Census → A → Slot M → P → EntityData M D → Census → A → Slot M → P → Type 0
+  LoadsOneInto entities a markers p r entities' a' markers' p' =
+      LoadsRecord id_of eq c (loading id_of mapping left rows entities a markers p) r (loading id_of mapping left rows entities' a' markers' p')
+
+  abbrev pub LoadsInto : Census → A → Slot M → P → List (EntityData M D) → Census → A → Slot M → P → Type 0
+  LoadsInto entities a markers p rs entities' a' markers' p' =
+      Loads id_of eq c (loading id_of mapping left rows entities a markers p) rs (loading id_of mapping left rows entities' a' markers' p')
+
+-- a first place is stored, and the rest of a row
+abbrev pub PutsWithRest : {M T D W E : Type 0} → Conversion M T D → Conversion M W E → (M → Option Entity → Type 0) → Option D × E → Entity
+    → Slot T → (ℕ → W) → Slot T → (ℕ → W) → Type 0
+PutsWithRest a r post d e first rest first' rest' = PutsSaved (both (place a) r) post d e (beside first rest) (beside first' rest')

@@ -1,5 +1,5 @@
 -- What `mark` makes of a storage and of the ids.
-use Rattle.std.specs.Prelude.{◌≡◌, ◌⊎◌, ◌+◌, ℕ, Bool, true, List, [], ◌∷◌, Option, None, option_map, is_some}
+use Rattle.std.specs.Prelude.{◌≡◌, ◌⊎◌, ◌+◌, ℕ, Bool, true, List, [], ◌∷◌, ◌++◌, Option, None, option_map, is_some}
 use Rattle.std.specs.FinMap as map
 use Rattle.entities.specs.declared.entity.Entity.{Entity}
 use Rattle.entities.specs.Population.{index_of}
@@ -50,3 +50,7 @@ module _ {M I A : Type 0} (id_of : M → I) (eq : I → I → Bool) (MayBeNew : 
     pub same : IsSame there s'
     pub ids_left : ids a' ≡ ids mid
     pub mapped : (mapping a' ≡ mapping mid) ⊎ ((e : Entity) × MayHaveGiven eq (MayBeNew mid) e (mapping mid) (mapping a'))
+
+  -- each of those that came to a list got a marker in turn
+  abbrev pub AddsInTurn : A → Slot M → List Entity → A → Slot M → List Entity → Type 0
+  AddsInTurn a s es a' s' es' = (added : List Entity) × (es' ≡ es ++ added) × MarksInTurn a s added a' s'

@@ -1,5 +1,5 @@
 -- Naming: which entity each id names, made where there is none.
-use Rattle.std.specs.Prelude.{◌≡◌, ℕ, ◌+◌, pos, Bool, List, [], ◌∷◌, Option, Some, ◌⊎◌, option_map, ◌==◌, if◌then◌else◌}
+use Rattle.std.specs.Prelude.{◌≡◌, ℕ, ◌+◌, pos, Bool, List, [], ◌∷◌, Option, Some, ◌⊎◌, map as list_map, option_map, ◌==◌, if◌then◌else◌}
 use Rattle.std.specs.FinMap as map
 use Rattle.entities.specs.declared.entity.Entity.{Entity}
 use Rattle.entities.specs.Population.{Population, IsAlive, MayBeBorn, born_pending, mark, index_of, generation_of}
@@ -71,3 +71,8 @@ NamesNone eq old id new = (new ≡ old) ⊎ MakesMarked eq old id new
 abbrev pub NamesAll : {I : Type 0} → (I → I → Bool) → Naming I → List I → Naming I → Type 0
 NamesAll eq old [] new = new ≡ old
 NamesAll {I} eq old (id ∷ ids) new = (e : Entity) × (mid : Naming I) × Names eq old id e mid × NamesAll eq mid ids new
+
+-- the ids of some markers are named in order, by what is lent to a load
+abbrev pub NamesAllOf : {M I A : Type 0} → (M → I) → (I → I → Bool) → (A → I → Option Entity) → (A → List I → Option ℕ) → Census → A → Slot M → List M → Census → A → Slot M → Type 0
+NamesAllOf id_of eq mapping left entities a markers ms entities' a' markers' =
+    NamesAll eq (naming id_of mapping left entities a markers) (list_map id_of ms) (naming id_of mapping left entities' a' markers')

@@ -1,13 +1,20 @@
 -- Places of a tuple, each of which may be empty.
-use Rattle.std.specs.Prelude.{◌≡◌, List, [], ◌∷◌, ◌++◌, map, Option, Some, None, option_map, refl, ◌⊎◌}
+use Rattle.std.specs.Prelude.{◌≡◌, ℕ, List, [], ◌∷◌, ◌++◌, map, Option, Some, None, option_map, refl, ◌⊎◌}
 use Rattle.std.proofs.Common.{ap, sym, inl, inr, ◌∙◌}
 use Rattle.std.proofs.lemmas.List.{map-append}
 use Rattle.entities.specs.declared.entity.Entity.{Entity}
-use Rattle.saveload.specs.Conversion.{Conversion, IsFaithful, Has}
+use Rattle.saveload.specs.Conversion.{Conversion, IsFaithful, Has, NoCause}
 
 abbrev pub if_some : {X Y : Type 0} → (X → List Y) → Option X → List Y
 if_some f None = []
 if_some f (Some x) = f x
+
+abbrev pub if_cause : {X : Type 0} → (X → List ℕ → Type 0) → Option X → List ℕ → Type 0
+if_cause causes None = NoCause
+if_cause causes (Some x) = causes x
+
+abbrev pub either_cause : (List ℕ → Type 0) → (List ℕ → Type 0) → List ℕ → Type 0
+either_cause causes others text = causes text ⊎ others text
 
 -- a place of a row
 abbrev pub place : {M V D : Type 0} → Conversion M V D → Conversion M (Option V) (Option D)
@@ -17,6 +24,8 @@ place c = record {
   saved = λ f v. option_map (c.saved f) v;
   loaded = λ g d. option_map (c.loaded g) d;
   renamed = λ r v. option_map (c.renamed r) v;
+  unsaved = if_cause c.unsaved;
+  unloaded = if_cause c.unloaded;
 }
 
 pub place_faithful : {M V D : Type 0} (c : Conversion M V D) → IsFaithful c → IsFaithful (place c)
@@ -50,6 +59,8 @@ both a b = record {
   saved = λ f v. (a.saved f v.0, b.saved f v.1);
   loaded = λ g d. (a.loaded g d.0, b.loaded g d.1);
   renamed = λ r v. (a.renamed r v.0, b.renamed r v.1);
+  unsaved = λ v. either_cause (a.unsaved v.0) (b.unsaved v.1);
+  unloaded = λ d. either_cause (a.unloaded d.0) (b.unloaded d.1);
 }
 
 pub has_left : {X : Type 0} (xs ys : List X) (x : X) → Has xs x → Has (xs ++ ys) x
@@ -83,6 +94,8 @@ alone c = record {
   saved = λ f v. record { 0 = c.saved f v.0 };
   loaded = λ g d. record { 0 = c.loaded g d.0 };
   renamed = λ r v. record { 0 = c.renamed r v.0 };
+  unsaved = λ v. c.unsaved v.0;
+  unloaded = λ d. c.unloaded d.0;
 }
 
 pub alone_faithful : {M V D : Type 0} (c : Conversion M V D) → IsFaithful c → IsFaithful (alone c)
@@ -109,6 +122,8 @@ along s t c = record {
   saved = λ f v. t.flat (c.saved f (s.nest v));
   loaded = λ g d. s.flat (c.loaded g (t.nest d));
   renamed = λ r v. s.flat (c.renamed r (s.nest v));
+  unsaved = λ v. c.unsaved (s.nest v);
+  unloaded = λ d. c.unloaded (t.nest d);
 }
 
 pub along_faithful : {M V W D E : Type 0} (s : Shape W V) (t : Shape E D) (c : Conversion M V D) → IsFaithful c → IsFaithful (along s t c)

@@ -1,6 +1,7 @@
 -- The saved list of a list of entities.
 use Rattle.std.specs.Prelude.{◌≡◌, ℕ, ◌&&◌, map, List, [], ◌∷◌, Option, Some}
 use Rattle.std.specs.FinMap as finmap
+use Rattle.std.specs.String.{string_bytes}
 use Rattle.hibits.specs.Left.{left}
 use Rattle.entities.specs.Population.{Population, lives, generation_now}
 use Rattle.entities.specs.Census.{population}
@@ -27,13 +28,13 @@ module _ {M V D : Type 0} (c : Conversion M V D) (marker_of : Entity → Option 
   IsSavedList (e ∷ es) [] = ⊥
   IsSavedList (e ∷ es) (r ∷ rs) = IsRecord e r × IsSavedList es rs
 
--- why a list was not saved: one of it refers to an entity for which there is no marker, or a conversion's own cause, or want of memory
-abbrev pub RefusesSave : {M : Type 0} → (Entity → Option M) → (Entity → List Entity) → List Entity → SaveError → Type 0
-RefusesSave marker_of refs es (Unmarked x) = (e : Entity) × Has es e × IsFirstUnnamed marker_of (refs e) x
-RefusesSave marker_of refs es (Custom t) = Unit {0}
-RefusesSave marker_of refs es OutOfMemory = Unit {0}
-RefusesSave marker_of refs es IdsExhausted = ⊥
-RefusesSave marker_of refs es IdTaken = ⊥
+-- why a list was not saved: one of it refers to an entity for which there is no marker, or may be refused for this cause, or there is no memory
+abbrev pub RefusesSave : {M V D : Type 0} → Conversion M V D → (Entity → Option M) → (Entity → V) → List Entity → SaveError → Type 0
+RefusesSave c marker_of values es (Unmarked x) = (e : Entity) × Has es e × IsFirstUnnamed marker_of (c.references (values e)) x
+RefusesSave c marker_of values es (Custom t) = (e : Entity) × Has es e × c.unsaved (values e) (string_bytes t)
+RefusesSave c marker_of values es OutOfMemory = Unit {0}
+RefusesSave c marker_of values es IdsExhausted = ⊥
+RefusesSave c marker_of values es IdTaken = ⊥
 
 -- the entity of an index, as it lives
 abbrev pub entity_at : Population → ℕ → Entity

@@ -1,15 +1,19 @@
 -- Why a load stopped, and what it keeps.
 use Rattle.std.specs.Prelude.{◌≡◌, ℕ, List, ◌∷◌, ◌++◌, map, Bool, ◌⊎◌, Option}
+use Rattle.std.specs.String.{string_bytes}
 use Rattle.entities.specs.declared.allocator.births.CreateError.{CreateError}
 use Rattle.entities.specs.declared.allocator.births.CreateError.TheVariants as creating
 use Rattle.entities.specs.declared.entity.Entity.{Entity}
+use Rattle.entities.specs.Census.{Census}
+use Rattle.storages.specs.Slot.{Slot}
 use Rattle.entities.specs.Population.{Population, NoneFree, NoneUnused, index_of}
 use Rattle.saveload.specs.declared.entity_data.EntityData.{EntityData}
 use Rattle.saveload.specs.declared.error.LoadError.{LoadError}
 use Rattle.saveload.specs.declared.error.LoadError.TheVariants.{NotTheForm, IndexLimit, Custom, OutOfMemory}
 use Rattle.saveload.specs.Conversion.{Conversion, GivesEach}
-use Rattle.saveload.specs.Naming.{Naming, Names, NamesNone, NamesAll}
-use Rattle.saveload.specs.Loads.{Loading, Loads, named, row_put}
+use Rattle.saveload.specs.Naming.{Naming, naming, Names, NamesNone, NamesAll}
+use Rattle.saveload.specs.Places.{place, both}
+use Rattle.saveload.specs.Loads.{Loading, loading, Loads, named, row_put, beside}
 use Rattle.saveload.specs.Tuples.{three, four, five, six}
 
 -- what a load says where no entity could be made
@@ -17,12 +21,12 @@ abbrev pub of_creating : CreateError → LoadError
 of_creating creating.IndexLimit = IndexLimit
 of_creating creating.OutOfMemory = OutOfMemory
 
--- a conversion's own cause, or want of memory
-abbrev pub IsOfStoring : LoadError → Type 0
-IsOfStoring NotTheForm = ⊥
-IsOfStoring IndexLimit = ⊥
-IsOfStoring (Custom t) = Unit {0}
-IsOfStoring OutOfMemory = Unit {0}
+-- one of these causes, or want of memory
+abbrev pub IsOfStoring : (List ℕ → Type 0) → LoadError → Type 0
+IsOfStoring causes NotTheForm = ⊥
+IsOfStoring causes IndexLimit = ⊥
+IsOfStoring causes (Custom t) = causes (string_bytes t)
+IsOfStoring causes OutOfMemory = Unit {0}
 
 -- want of memory, or of indices: none is free, and none is unused
 abbrev pub IsOfNaming : Population → LoadError → Type 0
@@ -97,7 +101,7 @@ module _ {M I V D : Type 0} (id_of : M → I) (eq : I → I → Bool) (c : Conve
     pub own : Names eq old.naming (id_of r.marker) entity mid
     pub mentioned : NamesAll eq mid (map id_of (c.mentions r.components)) new.naming
     pub row : PutsPartly Partly old.rows (index_of entity) (c.loaded (named id_of new.naming.mapping) r.components) new.rows
-    pub why : IsOfStoring e
+    pub why : IsOfStoring (c.unloaded r.components) e
 
   abbrev pub RefusesRecord : Loading I V → EntityData M D → LoadError → Loading I V → Type 0
   RefusesRecord old r e new = NotNamed old r e new ⊎ (NotListed old r e new ⊎ NotStored old r e new)
@@ -111,3 +115,24 @@ module _ {M I V D : Type 0} (id_of : M → I) (eq : I → I → Bool) (c : Conve
     pub mid : Loading I V
     pub loaded : Loads id_of eq c old before mid
     pub stopped : RefusesRecord mid refused e new
+
+-- why one record of a load was refused, or a list, and what it keeps, by what is lent to it
+module _ {M I V D A P : Type 0} (id_of : M → I) (eq : I → I → Bool) (c : Conversion M V D) (Partly : V → V → V → Type 0) (mapping : A → I → Option Entity) (left : A → List I → Option ℕ) (rows : P → ℕ → V) where
+  abbrev pub RefusesOneInto : Census → A → Slot M → P → EntityData M D → LoadError → Census → A → Slot M → P → Type 0
+  RefusesOneInto entities a markers p r e entities' a' markers' p' =
+      RefusesRecord id_of eq c Partly (loading id_of mapping left rows entities a markers p) r e (loading id_of mapping left rows entities' a' markers' p')
+
+  abbrev pub StopsInto : Census → A → Slot M → P → List (EntityData M D) → LoadError → Census → A → Slot M → P → Type 0
+  StopsInto entities a markers p rs e entities' a' markers' p' =
+      Stops id_of eq c Partly (loading id_of mapping left rows entities a markers p) rs e (loading id_of mapping left rows entities' a' markers' p')
+
+-- of the ids of some markers the first ones are named, and the next is not, by what is lent to a load
+abbrev pub StopsNamingOf : {M I A : Type 0} → (M → I) → (I → I → Bool) → (A → I → Option Entity) → (A → List I → Option ℕ) → Census → A → Slot M
+    → List M → LoadError → Census → A → Slot M → Type 0
+StopsNamingOf id_of eq mapping left entities a markers ms e entities' a' markers' =
+    StopsNaming eq (naming id_of mapping left entities a markers) (map id_of ms) e (naming id_of mapping left entities' a' markers')
+
+-- of a first place and the rest of a row some first ones are stored, and not all
+abbrev pub PutsSomeWithRest : {M T D W E : Type 0} → (W → W → W → Type 0) → Conversion M T D → Conversion M W E → (M → Option Entity → Type 0) → Option D × E → Entity
+    → Slot T → (ℕ → W) → Slot T → (ℕ → W) → Type 0
+PutsSomeWithRest Partly a r post d e first rest first' rest' = PutsSome (PartlyPair Partly) (both (place a) r) post d e (beside first rest) (beside first' rest')

@@ -2,7 +2,7 @@
 use Rattle.std.specs.Prelude.{◌≡◌, ◌≤◌, [], ◌∷◌, refl, false, ℤ, Option, option_map}
 use Rattle.std.proofs.Common.{ap, inl}
 use Rattle.entities.specs.declared.entity.Entity.{Entity}
-use Rattle.saveload.specs.Conversion.{Conversion, IsFaithful}
+use Rattle.saveload.specs.Conversion.{Conversion, IsFaithful, NoCause}
 use Rattle.saveload.specs.JsonNumbers.{whole_json, whole_from, whole_whole, whole_shallow}
 use Rattle.serde_json.specs.Data.{Data, depth}
 use Rattle.serde_json.specs.Written.{has_float}
@@ -15,6 +15,8 @@ link_conversion target link = record {
   saved = λ f v. f (target v);
   loaded = λ g m. link (g m);
   renamed = λ r v. link (r (target v));
+  unsaved = λ v. NoCause;
+  unloaded = λ m. NoCause;
 }
 
 pub link_faithful : {M V : Type 0} → (target : V → Entity) → (link : Entity → V) → IsFaithful (link_conversion {M = M} {V = V} target link)

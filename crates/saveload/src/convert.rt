@@ -32,7 +32,7 @@ pub trait ConvertSaveload<M: Marker>: Sized {
     ) -> Result<Self::Data, SaveError>
         requires { F.IsAlwaysCallable ids }
         ensures exact { (f : Being → M) → GivesEach (F.post ids) (conversion.references self.now) f → IfOk result (λ d. d ≡ conversion.saved f self.now) }
-        ensures refused { (g : Being → Option M) → Answers (F.post ids) (conversion.references self.now) g → AllNamed g (conversion.references self.now) → IfErr result IsOwn };
+        ensures refused { (g : Being → Option M) → Answers (F.post ids) (conversion.references self.now) g → AllNamed g (conversion.references self.now) → IfErr result (IsOwn (conversion.unsaved self.now)) };
 
     /// The value again, by the entities that the markers name.
     fn convert_from<F: Fn(M) -> Option<Entity>>(
@@ -42,7 +42,7 @@ pub trait ConvertSaveload<M: Marker>: Sized {
     ) -> Result<Self, LoadError>
         requires { F.IsAlwaysCallable ids }
         ensures exact { (f : M → Being) → GivesEach (F.post ids) (conversion.mentions saved) f → IfOk result (λ v. v ≡ conversion.loaded f saved) }
-        ensures refused { (f : M → Being) → GivesEach (F.post ids) (conversion.mentions saved) f → IfErr result IsOfStoring };
+        ensures refused { (f : M → Being) → GivesEach (F.post ids) (conversion.mentions saved) f → IfErr result (IsOfStoring (conversion.unloaded saved)) };
 
     ghost faithful: { IsFaithful conversion };
 }

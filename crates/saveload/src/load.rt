@@ -1,5 +1,5 @@
 //! Loading records into storages that are lent.
-ghost use Rattle.std.specs.Prelude.{◌≡◌, ◌++◌, true, false, ℕ, map, Option, Some, None, Ok, Err, IfOk, IfErr, OnOk, OnErr, is_some};
+ghost use Rattle.std.specs.Prelude.{◌≡◌, ◌++◌, true, false, ℕ, Option, Some, None, Ok, Err, IfOk, IfErr, OnOk, OnErr, is_some};
 ghost use Rattle.std.specs.FinMap as finmap;
 ghost use Rattle.storages.specs.Found.{found_in};
 ghost use Rattle.entities.specs.declared.entity.Entity.{Entity as Being};
@@ -7,11 +7,11 @@ ghost use Rattle.entities.specs.Census.{population};
 ghost use Rattle.entities.specs.Population.{index_of};
 ghost use Rattle.storages.specs.Life.{is_alive};
 ghost use Rattle.saveload.specs.Conversion.{Conversion, IsFaithful, GivesEach};
-ghost use Rattle.saveload.specs.Naming.{naming, NamesAll};
+ghost use Rattle.saveload.specs.Naming.{NamesAllOf};
 ghost use Rattle.saveload.specs.Places.{place, both};
-ghost use Rattle.saveload.specs.Loads.{column, beside, loading, PutsSaved, named, LoadsRecord, Loads};
+ghost use Rattle.saveload.specs.Loads.{column, beside, PutsSaved, PutsWithRest, LoadsOneInto, LoadsInto};
 ghost use Rattle.saveload.specs.Told.{IsTold};
-ghost use Rattle.saveload.specs.Stops.{IsOfStoring, PartlyPair, PutsSome, StopsNaming, RefusesRecord, Stops};
+ghost use Rattle.saveload.specs.Stops.{IsOfStoring, PutsSome, PutsSomeWithRest, StopsNamingOf, RefusesOneInto, StopsInto};
 
 use crate::convert::ConvertSaveload;
 use crate::entity_data::EntityData;
@@ -62,7 +62,7 @@ pub trait DeserializeComponents<M: Marker> {
         ensures changes { Changes self.old self.new }
         ensures rows { is_alive (population entities.now) entity ≡ true → OnOk result (PutsSaved conversion (F.post ids) saved entity (rows self.old) (rows self.new)) }
         ensures stopped { is_alive (population entities.now) entity ≡ true → OnErr result (PutsSome Partly conversion (F.post ids) saved entity (rows self.old) (rows self.new)) }
-        ensures refused { (f : M → Being) → GivesEach (F.post ids) (conversion.mentions saved) f → IfErr result IsOfStoring }
+        ensures refused { (f : M → Being) → GivesEach (F.post ids) (conversion.mentions saved) f → IfErr result (IsOfStoring (conversion.unloaded saved)) }
         ensures dead { is_alive (population entities.now) entity ≡ false → rows self.new ≡ rows self.old };
 
     ghost faithful: { IsFaithful conversion };
@@ -111,7 +111,8 @@ pub(crate) fn store_place<
     ensures told { IsTold masked.old masked.new }
     ensures err { OnErr result (column masked.new ≡ column masked.old) }
     ensures dead { is_alive (population entities.now) entity ≡ false → column masked.new ≡ column masked.old }
-    ensures refused { (f : M → Being) → GivesEach (F.post ids.now) ((place T.conversion).mentions saved) f → IfErr result IsOfStoring }
+    ensures refused { (f : M → Being) → GivesEach (F.post ids.now) ((place T.conversion).mentions saved) f
+        → IfErr result (IsOfStoring ((place T.conversion).unloaded saved)) }
 {
     match saved {
         Some(saved) => {
@@ -145,10 +146,11 @@ pub(crate) fn store_with_rest<
     ensures told { IsTold first.old first.new }
     ensures changes { R.Changes rest.old rest.new }
     ensures rows { is_alive (population entities.now) entity ≡ true
-        → OnOk result (PutsSaved (both (place A.conversion) R.conversion) (F.post ids) saved entity (beside first.old (R.rows rest.old)) (beside first.new (R.rows rest.new))) }
-    ensures stopped { is_alive (population entities.now) entity ≡ true → OnErr result (PutsSome (PartlyPair R.Partly) (both (place A.conversion) R.conversion)
-        (F.post ids) saved entity (beside first.old (R.rows rest.old)) (beside first.new (R.rows rest.new))) }
-    ensures refused { (f : M → Being) → GivesEach (F.post ids) ((both (place A.conversion) R.conversion).mentions saved) f → IfErr result IsOfStoring }
+        → OnOk result (PutsWithRest A.conversion R.conversion (F.post ids) saved entity first.old (R.rows rest.old) first.new (R.rows rest.new)) }
+    ensures stopped { is_alive (population entities.now) entity ≡ true → OnErr result (PutsSomeWithRest R.Partly A.conversion R.conversion
+        (F.post ids) saved entity first.old (R.rows rest.old) first.new (R.rows rest.new)) }
+    ensures refused { (f : M → Being) → GivesEach (F.post ids) ((both (place A.conversion) R.conversion).mentions saved) f
+        → IfErr result (IsOfStoring ((both (place A.conversion) R.conversion).unloaded saved)) }
     ensures dead { is_alive (population entities.now) entity ≡ false → beside first.new (R.rows rest.new) ≡ beside first.old (R.rows rest.old) }
 {
     let (place, others) = saved;
@@ -211,14 +213,10 @@ where
     requires { (m n : M) → M.is_clone m n → m ≡ n }
     ensures changes { P.Changes masked.old masked.new }
     ensures told { IsTold markers.old markers.new }
-    ensures loaded { OnOk result (Loads M.id_of M.Identifier.eq P.conversion
-        (loading M.id_of M.Allocator.mapping M.Allocator.ids_past P.rows entities.old allocator.old markers.old masked.old)
-        list.items
-        (loading M.id_of M.Allocator.mapping M.Allocator.ids_past P.rows entities.new allocator.new markers.new masked.new)) }
-    ensures refused { IfErr result (λ e. Stops M.id_of M.Identifier.eq P.conversion P.Partly
-        (loading M.id_of M.Allocator.mapping M.Allocator.ids_past P.rows entities.old allocator.old markers.old masked.old)
-        list.items e
-        (loading M.id_of M.Allocator.mapping M.Allocator.ids_past P.rows entities.new allocator.new markers.new masked.new)) }
+    ensures loaded { OnOk result (LoadsInto M.id_of M.Identifier.eq P.conversion M.Allocator.mapping M.Allocator.ids_past P.rows
+        entities.old allocator.old markers.old masked.old list.items entities.new allocator.new markers.new masked.new) }
+    ensures refused { IfErr result (λ e. StopsInto M.id_of M.Identifier.eq P.conversion P.Partly M.Allocator.mapping M.Allocator.ids_past P.rows
+        entities.old allocator.old markers.old masked.old list.items e entities.new allocator.new markers.new masked.new) }
 {
     for saved in list {
         load_record(alloc, masked, entities, markers, allocator, saved)?;
@@ -240,14 +238,10 @@ where
     requires { (m n : M) → M.is_clone m n → m ≡ n }
     ensures changes { P.Changes masked.old masked.new }
     ensures told { IsTold markers.old markers.new }
-    ensures loaded { OnOk result (LoadsRecord M.id_of M.Identifier.eq P.conversion
-        (loading M.id_of M.Allocator.mapping M.Allocator.ids_past P.rows entities.old allocator.old markers.old masked.old)
-        saved
-        (loading M.id_of M.Allocator.mapping M.Allocator.ids_past P.rows entities.new allocator.new markers.new masked.new)) }
-    ensures refused { IfErr result (λ e. RefusesRecord M.id_of M.Identifier.eq P.conversion P.Partly
-        (loading M.id_of M.Allocator.mapping M.Allocator.ids_past P.rows entities.old allocator.old markers.old masked.old)
-        saved e
-        (loading M.id_of M.Allocator.mapping M.Allocator.ids_past P.rows entities.new allocator.new markers.new masked.new)) }
+    ensures loaded { OnOk result (LoadsOneInto M.id_of M.Identifier.eq P.conversion M.Allocator.mapping M.Allocator.ids_past P.rows
+        entities.old allocator.old markers.old masked.old saved entities.new allocator.new markers.new masked.new) }
+    ensures refused { IfErr result (λ e. RefusesOneInto M.id_of M.Identifier.eq P.conversion P.Partly M.Allocator.mapping M.Allocator.ids_past P.rows
+        entities.old allocator.old markers.old masked.old saved e entities.new allocator.new markers.new masked.new) }
 {
     let EntityData { marker, components } = saved;
     let entity = allocator.retrieve_entity(marker, markers, entities)?;
@@ -268,14 +262,10 @@ fn name_all<M: Marker>(
 where
     M::Allocator: MarkerAllocator<M>,
     ensures told { IsTold markers.old markers.new }
-    ensures named { OnOk result (NamesAll M.Identifier.eq
-        (naming M.id_of M.Allocator.mapping M.Allocator.ids_past entities.old allocator.old markers.old)
-        (map M.id_of mentioned.items)
-        (naming M.id_of M.Allocator.mapping M.Allocator.ids_past entities.new allocator.new markers.new)) }
-    ensures refused { IfErr result (λ e. StopsNaming M.Identifier.eq
-        (naming M.id_of M.Allocator.mapping M.Allocator.ids_past entities.old allocator.old markers.old)
-        (map M.id_of mentioned.items) e
-        (naming M.id_of M.Allocator.mapping M.Allocator.ids_past entities.new allocator.new markers.new)) }
+    ensures named { OnOk result (NamesAllOf M.id_of M.Identifier.eq M.Allocator.mapping M.Allocator.ids_past
+        entities.old allocator.old markers.old mentioned.items entities.new allocator.new markers.new) }
+    ensures refused { IfErr result (λ e. StopsNamingOf M.id_of M.Identifier.eq M.Allocator.mapping M.Allocator.ids_past
+        entities.old allocator.old markers.old mentioned.items e entities.new allocator.new markers.new) }
 {
     for m in mentioned {
         let _ = allocator.retrieve_entity(m, markers, entities)?;

@@ -7,7 +7,7 @@ ghost use Rattle.entities.specs.Population.{index_of, IsAlive};
 ghost use Rattle.storages.specs.WriteView.{slot, entities_of, storage_name, found};
 ghost use Rattle.saveload.specs.Conversion.{Has, AllNamed};
 ghost use Rattle.saveload.specs.Saved.{IsRecord, IsSavedList};
-ghost use Rattle.saveload.specs.Marking.{MarksInTurn, MarksUntil};
+ghost use Rattle.saveload.specs.Marking.{AddsInTurn, MarksUntil};
 ghost use Rattle.saveload.specs.Closing.{new_in, marked_in, IsClosed, HasMarked, IsMentioned, MarksSome, MarksBefore, MarksUpTo, RefusesMarking};
 
 use crate::error::SaveError;
@@ -34,8 +34,8 @@ pub(crate) fn mark_all<M: Marker, A: MarkerAllocator<M>, P: SerializeComponents<
     ensures marks { MarksSome (population (entities_of markers.old)) (IsMentioned (λ e. P.conversion.references (P.values places.now e)) list.old.items) (slot markers.old) (slot markers.new) }
     ensures refused { IfErr result (RefusesMarking (population (entities_of markers.old))
         (MarksUpTo (λ e. P.conversion.references (P.values places.now e)) list.old.items (slot markers.old) (slot markers.new))) }
-    ensures gives { OnOk result ((added : List Being) × (list.new.items ≡ list.old.items ++ added)
-        × MarksInTurn M.id_of M.Identifier.eq A.MayBeNew A.mapping A.ids allocator.old (slot markers.old) added allocator.new (slot markers.new)) }
+    ensures gives { OnOk result (AddsInTurn M.id_of M.Identifier.eq A.MayBeNew A.mapping A.ids
+        allocator.old (slot markers.old) list.old.items allocator.new (slot markers.new) list.new.items) }
     ensures stops { OnErr result (MarksUntil M.id_of M.Identifier.eq A.MayBeNew A.mapping A.ids allocator.old (slot markers.old) allocator.new (slot markers.new)) }
     ensures used_up { result ≡ Err SaveError.IdsExhausted → A.ids allocator.new ≡ Some 0 }
     ensures drawn { result ≡ Err SaveError.IdTaken → A.ids allocator.new ≡ None }
@@ -63,8 +63,8 @@ fn mark_references<M: Marker, A: MarkerAllocator<M>>(
     ensures named { OnOk result (AllNamed (λ e. found markers.new e) references.now) }
     ensures marks { MarksSome (population (entities_of markers.old)) (Has references.now) (slot markers.old) (slot markers.new) }
     ensures refused { IfErr result (RefusesMarking (population (entities_of markers.old)) (MarksBefore references.now (slot markers.old) (slot markers.new))) }
-    ensures gives { OnOk result ((added : List Being) × (list.new.items ≡ list.old.items ++ added)
-        × MarksInTurn M.id_of M.Identifier.eq A.MayBeNew A.mapping A.ids allocator.old (slot markers.old) added allocator.new (slot markers.new)) }
+    ensures gives { OnOk result (AddsInTurn M.id_of M.Identifier.eq A.MayBeNew A.mapping A.ids
+        allocator.old (slot markers.old) list.old.items allocator.new (slot markers.new) list.new.items) }
     ensures stops { OnErr result (MarksUntil M.id_of M.Identifier.eq A.MayBeNew A.mapping A.ids allocator.old (slot markers.old) allocator.new (slot markers.new)) }
     ensures used_up { result ≡ Err SaveError.IdsExhausted → A.ids allocator.new ≡ Some 0 }
     ensures drawn { result ≡ Err SaveError.IdTaken → A.ids allocator.new ≡ None }
@@ -89,8 +89,8 @@ fn mark_one<M: Marker, A: MarkerAllocator<M>>(
     ensures named { OnOk result (IsSome (found markers.new entity)) }
     ensures marks { MarksSome (population (entities_of markers.old)) (Has (entity ∷ [])) (slot markers.old) (slot markers.new) }
     ensures refused { IfErr result (RefusesMarking (population (entities_of markers.old)) (MarksBefore (entity ∷ []) (slot markers.old) (slot markers.new))) }
-    ensures gives { OnOk result ((added : List Being) × (list.new.items ≡ list.old.items ++ added)
-        × MarksInTurn M.id_of M.Identifier.eq A.MayBeNew A.mapping A.ids allocator.old (slot markers.old) added allocator.new (slot markers.new)) }
+    ensures gives { OnOk result (AddsInTurn M.id_of M.Identifier.eq A.MayBeNew A.mapping A.ids
+        allocator.old (slot markers.old) list.old.items allocator.new (slot markers.new) list.new.items) }
     ensures stops { OnErr result (MarksUntil M.id_of M.Identifier.eq A.MayBeNew A.mapping A.ids allocator.old (slot markers.old) allocator.new (slot markers.new)) }
     ensures used_up { result ≡ Err SaveError.IdsExhausted → A.ids allocator.new ≡ Some 0 }
     ensures drawn { result ≡ Err SaveError.IdTaken → A.ids allocator.new ≡ None }

@@ -1,7 +1,7 @@
 //! Saving the components of one entity, place by place.
 ghost use Rattle.std.specs.Prelude.{◌≡◌, ◌++◌, Option, Some, None, Ok, Err, IfOk, IfErr, OnOk, OnErr};
 ghost use Rattle.entities.specs.declared.entity.Entity.{Entity as Being};
-ghost use Rattle.saveload.specs.Conversion.{Conversion, IsFaithful, Answers, AllNamed, SavesBy, RefusesBy};
+ghost use Rattle.saveload.specs.Conversion.{Conversion, IsFaithful, Answers, AllNamed, SavesBy, RefusesBy, RefusesFor, NoCause};
 ghost use Rattle.saveload.specs.Places.{place, both};
 
 use crate::convert::ConvertSaveload;
@@ -40,7 +40,7 @@ pub trait SerializeComponents<M: Marker> {
     ) -> Result<Self::Data, SaveError>
         requires { F.IsAlwaysCallable ids }
         ensures saved { IfOk result (SavesBy conversion (F.post ids) (values self.now entity)) }
-        ensures refused { IfErr result (RefusesBy (F.post ids) (conversion.references (values self.now entity))) };
+        ensures refused { IfErr result (RefusesBy conversion (F.post ids) (values self.now entity)) };
 
     // The laws of conversions.
     ghost faithful: { IsFaithful conversion };
@@ -73,7 +73,7 @@ where
     S::Component: ConvertSaveload<M>,
     requires { F.IsAlwaysCallable ids.now }
     ensures saved { IfOk result (SavesBy (place S.Component.conversion) (F.post ids.now) (S.found storage.now entity)) }
-    ensures refused { IfErr result (RefusesBy (F.post ids.now) ((place S.Component.conversion).references (S.found storage.now entity))) }
+    ensures refused { IfErr result (RefusesBy (place S.Component.conversion) (F.post ids.now) (S.found storage.now entity)) }
 {
     match storage.get(entity) {
         Some(value) => {
@@ -92,7 +92,7 @@ fn all_named<M: Marker, F: Fn(Entity) -> Option<M>>(
 ) -> Result<(), SaveError>
     requires { F.IsAlwaysCallable ids.now }
     ensures named { (g : Being → Option M) → Answers (F.post ids.now) references.now g → OnOk result (AllNamed g references.now) }
-    ensures refused { IfErr result (RefusesBy (F.post ids.now) references.now) }
+    ensures refused { IfErr result (RefusesFor NoCause (F.post ids.now) references.now) }
 {
     for x in references {
         if ids(*x).is_none() {
@@ -119,7 +119,7 @@ where
     A::Component: ConvertSaveload<M>,
     requires { F.IsAlwaysCallable ids }
     ensures saved { IfOk result (SavesBy (both (place A.Component.conversion) R.conversion) (F.post ids) (A.found first.now entity, R.values rest.now entity)) }
-    ensures refused { IfErr result (RefusesBy (F.post ids) ((both (place A.Component.conversion) R.conversion).references (A.found first.now entity, R.values rest.now entity))) }
+    ensures refused { IfErr result (RefusesBy (both (place A.Component.conversion) R.conversion) (F.post ids) (A.found first.now entity, R.values rest.now entity)) }
 {
     let data = serialize_place(alloc, first, entity, &ids)?;
     let others = rest.serialize_entity(alloc, entity, &ids)?;

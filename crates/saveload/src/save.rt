@@ -8,8 +8,8 @@ ghost use Rattle.storages.specs.ReadView.{found};
 ghost use Rattle.storages.specs.WriteView.{slot, entities_of, storage_name, found as found_by};
 ghost use Rattle.saveload.specs.Conversion.{AllNamed, Refuses};
 ghost use Rattle.saveload.specs.Saved.{IsRecord, IsSavedList, RefusesSave, all_marked, marked_read, marked_by};
-ghost use Rattle.saveload.specs.Closing.{marked_in, IsMentioned, MarksSome, RefusesAll, SavesAll};
-ghost use Rattle.saveload.specs.Marking.{MarksInTurn, MarksUntil};
+ghost use Rattle.saveload.specs.Closing.{IsMentioned, MarksSome, RefusesAll, SavesWhole};
+ghost use Rattle.saveload.specs.Marking.{MarksUntil};
 
 use crate::entity_data::EntityData;
 use crate::error::SaveError;
@@ -31,7 +31,7 @@ pub fn serialize<M: Marker + Copy, P: SerializeComponents<M>>(
 ) -> Result<Vec<EntityData<M, P::Data>>, SaveError>
     ensures saved { IfOk result (λ rs. IsSavedList P.conversion (λ e. found markers.now e) (λ e. P.values places.now e)
         (marked_read markers.now) rs.items) }
-    ensures refused { IfErr result (RefusesSave (λ e. found markers.now e) (λ e. P.conversion.references (P.values places.now e))
+    ensures refused { IfErr result (RefusesSave P.conversion (λ e. found markers.now e) (λ e. P.values places.now e)
         (marked_read markers.now)) }
 {
     let list = marked(alloc, markers.fetched_entities(), markers.storage())?;
@@ -51,12 +51,11 @@ pub fn serialize_recursive<M: Marker + Copy, A: MarkerAllocator<M>, P: Serialize
 ) -> Result<Vec<EntityData<M, P::Data>>, SaveError>
     ensures same_reference { storage_name markers.new ≡ storage_name markers.old }
     ensures entities { entities_of markers.new ≡ entities_of markers.old }
-    ensures ok { IfOk result (λ rs. SavesAll P.conversion (λ e. found_by markers.new e) (λ e. P.values places.now e) (slot markers.old) (slot markers.new)
-        (λ added. MarksInTurn M.id_of M.Identifier.eq A.MayBeNew A.mapping A.ids allocator.old (slot markers.old) added allocator.new (slot markers.new))
-        (marked_by markers.old) rs.items) }
+    ensures ok { IfOk result (λ rs. SavesWhole P.conversion (λ e. P.values places.now e) M.id_of M.Identifier.eq A.MayBeNew A.mapping A.ids
+        allocator.old markers.old allocator.new markers.new rs.items) }
     ensures marks { MarksSome (population (entities_of markers.old)) (IsMentioned (λ e. P.conversion.references (P.values places.now e))
         (marked_by markers.old)) (slot markers.old) (slot markers.new) }
-    ensures refused { IfErr result (RefusesAll (population (entities_of markers.old)) (λ e. P.conversion.references (P.values places.now e))
+    ensures refused { IfErr result (RefusesAll P.conversion (population (entities_of markers.old)) (λ e. P.values places.now e)
         (marked_by markers.old) (slot markers.old) (slot markers.new)) }
     ensures stops { OnErr result (MarksUntil M.id_of M.Identifier.eq A.MayBeNew A.mapping A.ids allocator.old (slot markers.old) allocator.new (slot markers.new)) }
     ensures used_up { result ≡ Err SaveError.IdsExhausted → A.ids allocator.new ≡ Some 0 }
@@ -94,7 +93,7 @@ fn save_list<M: Marker + Copy, P: SerializeComponents<M>>(
 ) -> Result<Vec<EntityData<M, P::Data>>, SaveError>
     requires { AllNamed (λ e. found markers.now e) list.now }
     ensures saved { IfOk result (λ rs. IsSavedList P.conversion (λ e. found markers.now e) (λ e. P.values places.now e) list.now rs.items) }
-    ensures refused { IfErr result (RefusesSave (λ e. found markers.now e) (λ e. P.conversion.references (P.values places.now e)) list.now) }
+    ensures refused { IfErr result (RefusesSave P.conversion (λ e. found markers.now e) (λ e. P.values places.now e) list.now) }
 {
     let mut records = Vec::with_capacity(alloc, list.len())?;
     for e in list {
@@ -115,7 +114,8 @@ pub(crate) fn save_one<M: Marker + Copy, P: SerializeComponents<M>>(
 ) -> Result<EntityData<M, P::Data>, SaveError>
     requires { IsSome (found markers.now entity) }
     ensures saved { IfOk result (IsRecord P.conversion (λ e. found markers.now e) (λ e. P.values places.now e) entity) }
-    ensures refused { IfErr result (Refuses (λ e. found markers.now e) (P.conversion.references (P.values places.now entity))) }
+    ensures refused { IfErr result (Refuses (P.conversion.unsaved (P.values places.now entity)) (λ e. found markers.now e)
+        (P.conversion.references (P.values places.now entity))) }
 {
     match markers.get(entity) {
         Some(marker) => {

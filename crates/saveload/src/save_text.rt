@@ -28,7 +28,7 @@ where
     P::Data: JsonPlaces,
     ensures saved { IfOk result (λ s. IsTextOf M.json M.from P.Data.places P.Data.from
         (IsSavedList P.conversion (λ e. found markers.now e) (λ e. P.values places.now e) (marked_read markers.now)) (string_bytes s)) }
-    ensures refused { IfErr result (RefusesSave (λ e. found markers.now e) (λ e. P.conversion.references (P.values places.now e)) (marked_read markers.now)) }
+    ensures refused { IfErr result (RefusesSave P.conversion (λ e. found markers.now e) (λ e. P.values places.now e) (marked_read markers.now)) }
 {
     let list = marked(alloc, markers.fetched_entities(), markers.storage())?;
     let mut text = String::new(alloc);
@@ -49,7 +49,7 @@ where
     requires { AllNamed (λ e. found markers.now e) list.now }
     ensures saved { OnOk result (WritesSome M.json M.from P.Data.places P.Data.from
         (IsSavedList P.conversion (λ e. found markers.now e) (λ e. P.values places.now e) list.now) (string_bytes text.old) (string_bytes text.new)) }
-    ensures refused { IfErr result (RefusesSave (λ e. found markers.now e) (λ e. P.conversion.references (P.values places.now e)) list.now) }
+    ensures refused { IfErr result (RefusesSave P.conversion (λ e. found markers.now e) (λ e. P.values places.now e) list.now) }
 {
     text.push_str("[")?;
     let mut separator = "";

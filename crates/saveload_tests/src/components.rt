@@ -1,5 +1,6 @@
 //! Components that are saved.
-ghost use Rattle.saveload.specs.Plain.{plain_conversion, plain_faithful};
+ghost use Rattle.std.specs.Prelude.{◌≡◌, ◌<ℤ◌, pos, codes};
+ghost use Rattle.saveload.specs.Plain.{plain_conversion, plain_faithful, checked_conversion, checked_faithful};
 ghost use Rattle.saveload.specs.Wrapped.{link_conversion, link_faithful};
 
 use entities::Entity;
@@ -65,7 +66,7 @@ impl Component for Level {
 impl<M: Marker> ConvertSaveload<M> for Level {
     type Data = Level;
 
-    ghost conversion = { plain_conversion };
+    ghost conversion = { checked_conversion (λ v text. (v.0 <ℤ pos 0) × (text ≡ codes "below zero")) };
 
     fn references(&self, alloc: Global) -> Result<Vec<Entity>, AllocError> {
         Ok(Vec::new(alloc))
@@ -94,7 +95,7 @@ impl<M: Marker> ConvertSaveload<M> for Level {
         Ok(saved)
     }
 
-    ghost faithful = { plain_faithful };
+    ghost faithful = { checked_faithful _ };
 }
 
 /// What an entity is linked to.

@@ -75,6 +75,11 @@ FieldGivesMarker Comes p old e None new = IsSome old × (IsAlive p e → ⊥) ×
 FieldGivesMarker Comes p old e (Some false) new = HasMarker p old e × (new ≡ old)
 FieldGivesMarker Comes p old e (Some true) new = FieldGetsMarker Comes p old e new
 
+-- the same, where its marker is given by an allocator
+abbrev pub FieldGivesId : {M I : Type 0} → (M → I) → (I → I → Bool) → (I → Type 0) → (I → Option Entity) → (I → Option Entity) → Population → Option (Column M) → Entity
+    → Option Bool → Option (Column M) → Type 0
+FieldGivesId id_of eq MayBeNew mapping mapping' p old e = FieldGivesMarker (IsGiven id_of eq MayBeNew e mapping mapping') p old e
+
 abbrev pub FieldMarkerIsRefused : {V : Type 0} → Option ℕ → Population → Option (Column V) → Entity → MarkError → Type 0
 FieldMarkerIsRefused left p field e Unregistered = field ≡ None
 FieldMarkerIsRefused left p field e NoMarker = ⊥

@@ -6,7 +6,7 @@ ghost use Rattle.storages.specs.Found.{found_in};
 ghost use Rattle.storages.specs.Life.{is_alive};
 ghost use Rattle.specs.specs.Field.{column_of, field_column};
 ghost use Rattle.specs.specs.Ids.{LeftAfter};
-ghost use Rattle.specs.specs.Marks.{IsGiven, FieldGivesMarker, FieldMarkerIsRefused};
+ghost use Rattle.specs.specs.Marks.{FieldGivesId, FieldMarkerIsRefused};
 
 use crate::field::Field;
 use entities::{EntitiesRes, Entity};
@@ -21,7 +21,8 @@ pub fn mark<M: Marker, A: MarkerAllocator<M>>(
     entities: &EntitiesRes,
     e: Entity,
 ) -> Result<Option<bool>, MarkError>
-    ensures ok { IfOk result (λ given. FieldGivesMarker (IsGiven M.id_of M.Identifier.eq (A.MayBeNew allocator.old) e (A.mapping allocator.old) (A.mapping allocator.new)) (population entities.now) (field_column field.old) e given (field_column field.new)) }
+    ensures ok { IfOk result (λ given. FieldGivesId M.id_of M.Identifier.eq (A.MayBeNew allocator.old) (A.mapping allocator.old) (A.mapping allocator.new)
+        (population entities.now) (field_column field.old) e given (field_column field.new)) }
     ensures refused { IfErr result (FieldMarkerIsRefused (A.ids allocator.old) (population entities.now) (field_column field.old) e) }
     ensures err { OnErr result (field_column field.new ≡ field_column field.old) }
     ensures ids { IfOk result (λ given. LeftAfter given (A.ids allocator.old) (A.ids allocator.new)) }
@@ -42,7 +43,8 @@ fn mark_in<M: Marker, A: MarkerAllocator<M>>(
     entities: &EntitiesRes,
     e: Entity,
 ) -> Result<Option<bool>, MarkError>
-    ensures ok { IfOk result (λ given. FieldGivesMarker (IsGiven M.id_of M.Identifier.eq (A.MayBeNew allocator.old) e (A.mapping allocator.old) (A.mapping allocator.new)) (population entities.now) (Some (column_of storage.old)) e given (Some (column_of storage.new))) }
+    ensures ok { IfOk result (λ given. FieldGivesId M.id_of M.Identifier.eq (A.MayBeNew allocator.old) (A.mapping allocator.old) (A.mapping allocator.new)
+        (population entities.now) (Some (column_of storage.old)) e given (Some (column_of storage.new))) }
     ensures refused { IfErr result (FieldMarkerIsRefused (A.ids allocator.old) (population entities.now) (Some (column_of storage.old)) e) }
     ensures err { OnErr result (column_of storage.new ≡ column_of storage.old) }
     ensures ids { IfOk result (λ given. LeftAfter given (A.ids allocator.old) (A.ids allocator.new)) }

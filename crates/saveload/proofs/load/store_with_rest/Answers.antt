@@ -2,6 +2,8 @@ use Rattle.std.proofs.Common.{rules, ◌≡◌, refl}
 use Rattle.std.specs.Prelude.{Err}
 use Rattle.saveload.specs.Places.{place, has_left, has_right}
 use Rattle.saveload.specs.Loads.{column}
+use Rattle.saveload.proofs.Lists.{storing_left, storing_right}
+use Rattle.saveload.proofs.Rows.{err_weaker}
 use Rattle.saveload.proofs.Putting.{same_two}
 use Rattle.saveload.proofs.Resting.{put_both, some_both, some_first}
 use Rattle.saveload.proofs.load.store_with_rest.Goals as goal
@@ -14,7 +16,7 @@ returns-in_err-store_place-clause-stopped g c alive =
 pub returns-in_err-store_place-clause-refused : goal.returns-in_err-store_place-clause-refused
 returns-in_err-store_place-clause-refused g c f gives =
     let same : c.from_residual.result ≡ Err c.in_err-store_place.field-0.0 = search rules in
-    rw same (c.in_err-store_place.ensures.refused f (λ m r h p. gives m r (has_left ((place g.A.ConvertSaveload.conversion).mentions c.args.saved.0) _ m h) p))
+    rw same (storing_left ((place g.A.ConvertSaveload.conversion).unloaded c.args.saved.0) (g.R.DeserializeComponents.conversion.unloaded c.args.saved.1) c.in_err-store_place.field-0.0 (c.in_err-store_place.ensures.refused f (λ m r h p. gives m r (has_left ((place g.A.ConvertSaveload.conversion).mentions c.args.saved.0) _ m h) p)))
 
 pub returns-clause-rows : goal.returns-clause-rows
 returns-clause-rows g c alive =
@@ -28,7 +30,8 @@ returns-clause-stopped g c alive =
 
 pub returns-clause-refused : goal.returns-clause-refused
 returns-clause-refused g c f gives =
-    c.deserialize_entity.ensures.refused f (λ m r h p. gives m r (has_right ((place g.A.ConvertSaveload.conversion).mentions c.args.saved.0) _ m h) p)
+    err_weaker c.deserialize_entity.result (storing_right ((place g.A.ConvertSaveload.conversion).unloaded c.args.saved.0) (g.R.DeserializeComponents.conversion.unloaded c.args.saved.1))
+    (c.deserialize_entity.ensures.refused f (λ m r h p. gives m r (has_right ((place g.A.ConvertSaveload.conversion).mentions c.args.saved.0) _ m h) p))
 
 pub returns-in_err-store_place-clause-dead : goal.returns-in_err-store_place-clause-dead
 returns-in_err-store_place-clause-dead g c dead =

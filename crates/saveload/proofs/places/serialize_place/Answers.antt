@@ -11,7 +11,7 @@ returns-in_err-convert_into-in-Some-clause-refused g c =
     let list : c.deref.result.now ≡ g.S.Component.ConvertSaveload.conversion.references c.in-Some.value.now = search rules in
     let named : AllNamed n (g.S.Component.ConvertSaveload.conversion.references c.in-Some.value.now) = subst (AllNamed n) list (c.in_ok-all_named-in-Some.ensures.named n (rw list answers)) in
     let own = c.in_err-convert_into-in-Some.ensures.refused n (λ x r m p. answers x r m p.1) named in
-    own_refuses n _ _ own)
+    own_refuses (g.S.Component.ConvertSaveload.conversion.unsaved c.in-Some.value.now) n (g.S.Component.ConvertSaveload.conversion.references c.in-Some.value.now) c.in_err-convert_into-in-Some.field-0.0 own)
 
 pub returns-in_ok-convert_into-in-Some-clause-saved : goal.returns-in_ok-convert_into-in-Some-clause-saved
 returns-in_ok-convert_into-in-Some-clause-saved g c = rw (← c.in-Some.ensures) (λ n answers.

@@ -7,12 +7,12 @@ use Rattle.saveload.proofs.places.serialize_with_rest.Goals as goal
 pub returns-in_err-data-clause-refused : goal.returns-in_err-data-clause-refused
 returns-in_err-data-clause-refused g c =
     let same : c.from_residual.result ≡ Err c.in_err-data.field-0.0 = search rules in
-    rw same (λ n answers. refuses_left n _ _ _ (c.in_err-data.ensures.refused n (answers_left _ _ _ n answers)))
+    rw same (λ n answers. refuses_left ((place g.A.Component.ConvertSaveload.conversion).unsaved (g.A.GenericReadStorage.found c.args.first.now c.args.entity)) (g.R.SerializeComponents.conversion.unsaved (g.R.SerializeComponents.values c.args.rest.now c.args.entity)) n _ _ _ (c.in_err-data.ensures.refused n (answers_left _ _ _ n answers)))
 
 pub returns-in_err-others-clause-refused : goal.returns-in_err-others-clause-refused
 returns-in_err-others-clause-refused g c =
     let same : c.from_residual-in_err-others.result ≡ Err c.in_err-others.field-0.0 = search rules in
-    rw same (λ n answers. refuses_right n _ _ _ (c.in_ok-data.ensures.saved n (answers_left _ _ _ n answers)).named
+    rw same (λ n answers. refuses_right ((place g.A.Component.ConvertSaveload.conversion).unsaved (g.A.GenericReadStorage.found c.args.first.now c.args.entity)) (g.R.SerializeComponents.conversion.unsaved (g.R.SerializeComponents.values c.args.rest.now c.args.entity)) n _ _ _ (c.in_ok-data.ensures.saved n (answers_left _ _ _ n answers)).named
     (c.in_err-others.ensures.refused n (λ x r m p. answers x r (has_right (if_some g.A.Component.ConvertSaveload.conversion.references (g.A.GenericReadStorage.found c.args.first.now c.args.entity)) _ x m) p.1)))
 
 pub returns-clause-saved : goal.returns-clause-saved

@@ -16,7 +16,7 @@ loop-e-preserved g c =
 pub returns-in_err-saved-clause-refused : goal.returns-in_err-saved-clause-refused
 returns-in_err-saved-clause-refused g c =
     let same : c.from_residual-in_err-saved.result ≡ Err c.in_err-saved.field-0.0 = search rules in
-    rw same (list_refused _ (λ e. g.P.SerializeComponents.conversion.references (g.P.SerializeComponents.values c.args.places.now e)) c.args.list.now _ _
+    rw same (list_refused g.P.SerializeComponents.conversion _ (λ e. g.P.SerializeComponents.values c.args.places.now e) c.args.list.now _ _
     (has_at c.args.list.now c.loop-e.e-index (0, record { 0 = pos 0 }) c.loop-e-test.true) c.in_err-saved.ensures.refused)
 
 pub save_one-requires : goal.save_one-requires

@@ -7,7 +7,7 @@ use Rattle.std.specs.Prelude.{IsSome, Err}
 use Rattle.storages.specs.ReadView.{found, slot as slot_read, entities_of as entities_read}
 use Rattle.storages.specs.WriteView.{slot, entities_of, found as found_by}
 use Rattle.saveload.specs.Saved.{all_marked, IsSavedList}
-use Rattle.saveload.specs.Closing.{marked_in, IsClosed, IsMentioned, MarksSome, MarksAll, MarksUpTo, RefusesMarking}
+use Rattle.saveload.specs.Closing.{marked_in, IsClosed, IsMentioned, MarksSome, MarksThese, MarksUpTo, RefusesMarking}
 use Rattle.saveload.specs.Conversion.{Has}
 use Rattle.saveload.specs.Marking.{MarksInTurn}
 use Rattle.saveload.proofs.Turns.{turns_end}
@@ -51,7 +51,7 @@ returns-in_err-mark_all-clause-refused g c =
     let begun : c.in_ok-list.list.items ≡ all_marked (population (entities_of c.args.markers.now)) (slot c.args.markers.now) = search rules in
     let refs = λ (e : Entity). g.P.SerializeComponents.conversion.references (g.P.SerializeComponents.values c.args.places.now e) in
     let same : c.from_residual-in_err-mark_all.result ≡ Err c.in_err-mark_all.field-0.0 = search rules in
-    rw same (marking_refused refs (all_marked (population (entities_of c.args.markers.now)) (slot c.args.markers.now)) (population (entities_of c.args.markers.now)) (slot c.args.markers.now) (slot c.mark_all.new.markers) c.in_err-mark_all.field-0.0
+    rw same (marking_refused g.P.SerializeComponents.conversion (λ (e : Entity). g.P.SerializeComponents.values c.args.places.now e) (all_marked (population (entities_of c.args.markers.now)) (slot c.args.markers.now)) (population (entities_of c.args.markers.now)) (slot c.args.markers.now) (slot c.mark_all.new.markers) c.in_err-mark_all.field-0.0
     (subst (λ (l : List Entity). RefusesMarking (population (entities_of c.args.markers.now)) (MarksUpTo refs l (slot c.args.markers.now) (slot c.mark_all.new.markers)) c.in_err-mark_all.field-0.0) begun c.in_err-mark_all.ensures.refused))
 
 pub returns-in_err-list-clause-refused : goal.returns-in_err-list-clause-refused
@@ -84,15 +84,15 @@ returns-clause-refused g c =
     let beside : entities_read c.new-marked.result ≡ entities_of c.mark_all.new.markers = search rules in
     let same = λ (e : Entity). ap (λ s. found_in (entities_read c.new-marked.result) s e) seen ∙ ap (λ people. found_in people (slot c.mark_all.new.markers) e) beside in
     let more = c.in_ok-mark_all.ensures.marked in
-    let all : MarksAll refs (all_marked (population (entities_of c.args.markers.now)) (slot c.args.markers.now)) (slot c.args.markers.now) (slot c.mark_all.new.markers) = record {
-      all = c.mark_all.new.list.items;
+    let all : MarksThese refs (all_marked (population (entities_of c.args.markers.now)) (slot c.args.markers.now)) (slot c.args.markers.now) (slot c.mark_all.new.markers) c.mark_all.new.list.items = record {
       added = more.0;
       parts = more.1 ∙ ap (λ (l : List Entity). l ++ more.0) begun;
       closed = subst (λ (l : List Entity). IsClosed (marked_in (slot c.args.markers.now)) refs l c.mark_all.new.list.items) begun c.in_ok-mark_all.ensures.closed;
       marked = more.2;
     } in
-    err_weaker c.save_list.result (save_refused (λ e. found c.new-marked.result e) refs c.deref.result.now _ (population (entities_of c.args.markers.now)) (slot c.args.markers.now) (slot c.mark_all.new.markers)
-    (λ e h x k. subst IsSome (sym (same x)) (c.in_ok-mark_all.ensures.named e (subst (λ (l : List Entity). Has l e) c.deref.ensures.value h) x k)) all) c.save_list.ensures.refused
+    err_weaker c.save_list.result (save_refused g.P.SerializeComponents.conversion (λ e. found c.new-marked.result e) (λ (e : Entity). g.P.SerializeComponents.values c.args.places.now e) c.deref.result.now _ (population (entities_of c.args.markers.now)) (slot c.args.markers.now) (slot c.mark_all.new.markers)
+    (λ e h x k. subst IsSome (sym (same x)) (c.in_ok-mark_all.ensures.named e (subst (λ (l : List Entity). Has l e) c.deref.ensures.value h) x k))
+    (subst (λ (l : List Entity). MarksThese refs (all_marked (population (entities_of c.args.markers.now)) (slot c.args.markers.now)) (slot c.args.markers.now) (slot c.mark_all.new.markers) l) (sym c.deref.ensures.value) all)) c.save_list.ensures.refused
 
 pub returns-in_err-list-clause-stops : goal.returns-in_err-list-clause-stops
 returns-in_err-list-clause-stops g c = on_err _ (turns_end g.M.Marker.id_of g.M.Identifier.PartialEq.eq g.A.MarkerAllocator.MayBeNew g.A.MarkerAllocator.mapping g.A.MarkerAllocator.ids c.args.allocator.now c.args.allocator.now (slot c.args.markers.now) (slot c.args.markers.now) [] (refl, refl))

@@ -3,6 +3,7 @@ use Rattle.std.specs.Prelude.{Err}
 use Rattle.saveload.specs.Places.{place, has_left, has_right}
 use Rattle.saveload.specs.Loads.{column}
 use Rattle.saveload.specs.Told.IsTold.{start}
+use Rattle.saveload.proofs.Lists.{storing_left, storing_right}
 use Rattle.saveload.proofs.Putting.{put_two, same_two, put_same}
 use Rattle.saveload.proofs.Rows.{on_err}
 use Rattle.entities.specs.Population.{index_of}
@@ -31,7 +32,7 @@ returns-in_err-store_place-clause-refused g c f gives =
     let d0 = (place g.A.ConvertSaveload.conversion).mentions c.args.saved.0 in
     let d1 = (place g.B.ConvertSaveload.conversion).mentions c.args.saved.1 in
     let same : c.from_residual.result ≡ Err c.in_err-store_place.field-0.0 = search rules in
-    rw same (c.in_err-store_place.ensures.refused f (λ m r h p. gives m r (has_left d0 d1 m h) p))
+    rw same (storing_left ((place g.A.ConvertSaveload.conversion).unloaded c.args.saved.0) ((place g.B.ConvertSaveload.conversion).unloaded c.args.saved.1) c.in_err-store_place.field-0.0 (c.in_err-store_place.ensures.refused f (λ m r h p. gives m r (has_left d0 d1 m h) p)))
 
 pub returns-in_err-store_place-clause-dead : goal.returns-in_err-store_place-clause-dead
 returns-in_err-store_place-clause-dead g c dead =
@@ -54,7 +55,7 @@ returns-in_err-store_place-2-clause-refused g c f gives =
     let d0 = (place g.A.ConvertSaveload.conversion).mentions c.args.saved.0 in
     let d1 = (place g.B.ConvertSaveload.conversion).mentions c.args.saved.1 in
     let same : c.from_residual-in_err-store_place-2.result ≡ Err c.in_err-store_place-2.field-0.0 = search rules in
-    rw same (c.in_err-store_place-2.ensures.refused f (λ m r h p. gives m r (has_right d0 d1 m h) p))
+    rw same (storing_right ((place g.A.ConvertSaveload.conversion).unloaded c.args.saved.0) ((place g.B.ConvertSaveload.conversion).unloaded c.args.saved.1) c.in_err-store_place-2.field-0.0 (c.in_err-store_place-2.ensures.refused f (λ m r h p. gives m r (has_right d0 d1 m h) p)))
 
 pub returns-in_err-store_place-2-clause-dead : goal.returns-in_err-store_place-2-clause-dead
 returns-in_err-store_place-2-clause-dead g c dead =

@@ -7,12 +7,12 @@ use Rattle.saveload.proofs.serialize_tuples.Tuple2SerializeComponents.serialize_
 pub returns-in_err-first-clause-refused : goal.returns-in_err-first-clause-refused
 returns-in_err-first-clause-refused g c =
     let same : c.from_residual.result ≡ Err c.in_err-first.field-0.0 = search rules in
-    rw same (λ n answers. refuses_left n _ _ _ (c.in_err-first.ensures.refused n (answers_left _ _ _ n answers)))
+    rw same (λ n answers. refuses_left ((place g.A.Component.ConvertSaveload.conversion).unsaved (g.A.GenericReadStorage.found c.args.self.now.0 c.args.entity)) ((place g.B.Component.ConvertSaveload.conversion).unsaved (g.B.GenericReadStorage.found c.args.self.now.1 c.args.entity)) n _ _ _ (c.in_err-first.ensures.refused n (answers_left _ _ _ n answers)))
 
 pub returns-in_err-second-clause-refused : goal.returns-in_err-second-clause-refused
 returns-in_err-second-clause-refused g c =
     let same : c.from_residual-in_err-second.result ≡ Err c.in_err-second.field-0.0 = search rules in
-    rw same (λ n answers. refuses_right n _ _ _ (c.in_ok-first.ensures.saved n (answers_left _ _ _ n answers)).named
+    rw same (λ n answers. refuses_right ((place g.A.Component.ConvertSaveload.conversion).unsaved (g.A.GenericReadStorage.found c.args.self.now.0 c.args.entity)) ((place g.B.Component.ConvertSaveload.conversion).unsaved (g.B.GenericReadStorage.found c.args.self.now.1 c.args.entity)) n _ _ _ (c.in_ok-first.ensures.saved n (answers_left _ _ _ n answers)).named
     (c.in_err-second.ensures.refused n (answers_right _ _ _ n answers)))
 
 pub returns-clause-saved : goal.returns-clause-saved
