@@ -2,6 +2,7 @@
 //! no proof file. What one of them could not prove would be a hole in a contract.
 #![tactic(auto)]
 
+mod causes;
 mod changes;
 mod channels;
 mod components;
@@ -19,6 +20,7 @@ mod spots;
 mod typed;
 mod worlds;
 
+pub use causes::{saved_without_causes, taken_up_without_causes};
 pub use changes::{all_changes_are, first_change};
 pub use channels::{heard, read_twice, told};
 pub use components::{

@@ -1,5 +1,5 @@
 -- What an iterator that creates entities gives.
-use Rattle.std.specs.Prelude.{◌≡◌, ◌⊎◌, ◌+◌, ◌<◌, pos, Bool, true, false, Option, Some, None, Result, Ok, Err}
+use Rattle.std.specs.Prelude.{◌≡◌, ◌⊎◌, ◌+◌, ◌<◌, ◌≤◌, pos, length, Bool, true, false, Option, Some, None, Result, Ok, Err}
 use Rattle.std.specs.Borrow.{MutBor}
 use Rattle.entities.specs.declared.allocator.births.CreateError.{CreateError}
 use Rattle.entities.specs.declared.allocator.births.CreateError.TheVariants.{OutOfMemory}
@@ -27,8 +27,8 @@ Gives old None new = (new ≡ old) × ((has_failed old ≡ true) ⊎ (NoneFree (
 Gives old (Some (Ok e)) new =
     (has_failed old ≡ false) × (has_failed new ≡ false) × MayBeBorn (peopled old) (index_of e) × (generation_of e ≡ pos ((peopled old).births (index_of e) + 1)) × (peopled new ≡ born_pending (peopled old) (index_of e)) × (index_of e < INDEX_LIMIT)
 Gives old (Some (Err x)) new =
-    (has_failed old ≡ false) × (has_failed new ≡ true) × (x ≡ OutOfMemory) × NoneFree (peopled old) × (NoneUnused (peopled old) → ⊥) × ((lent_to new).now ≡ (lent_to old).now)
+    (has_failed old ≡ false) × (has_failed new ≡ true) × (x ≡ OutOfMemory) × (length (lent_to old).now.generations < (lent_to old).now.room → ⊥) × NoneFree (peopled old) × (NoneUnused (peopled old) → ⊥) × ((lent_to new).now ≡ (lent_to old).now)
 
--- and it has the same entities
+-- and it has the same entities, and as much room
 abbrev pub CreatesNext : CreateIterAtomic → Option (Result Entity CreateError) → CreateIterAtomic → Type 0
-CreatesNext old r new = ((lent_to new).ghost_name ≡ (lent_to old).ghost_name) × Gives old r new
+CreatesNext old r new = ((lent_to new).ghost_name ≡ (lent_to old).ghost_name) × ((lent_to old).now.room ≤ (lent_to new).now.room) × Gives old r new

@@ -1,5 +1,5 @@
 //! The entities of a world.
-ghost use Rattle.std.specs.Prelude.{◌≡◌, ℕ, ◌+◌, ◌-◌, ◌≤◌, ◌≢◌, ◌<ℤ◌, ◌↔◌, pos, true, false, length, slice_get, Some, ◌<◌, IsTrue, IfOk, IfErr, OnOk, OnErr};
+ghost use Rattle.std.specs.Prelude.{◌≡◌, ℕ, ◌+◌, ◌-◌, ◌≤◌, ◌≢◌, ◌<ℤ◌, ◌↔◌, pos, true, false, length, slice_get, Some, ◌<◌, IsTrue, IfOk, IfErr, IsOk, OnOk, OnErr};
 ghost use Rattle.std.specs.Borrow.{sem, RestsIfErr};
 ghost use Rattle.std.specs.FinSet as set;
 ghost use Rattle.entities.specs.Population.{no_one, MayBeBorn, NoneFree, NoneUnused, born_pending, mark, lives, IsAlive, generation_now, generation_reported, index_of, generation_of, number_of};
@@ -69,6 +69,8 @@ impl EntitiesRes {
         ensures reuses { OnErr result (NoneFree (population self.old)) }
         ensures memory { result ≡ Err CreateError.OutOfMemory → NoneUnused (population self.old) → ⊥ }
         ensures err { OnErr result (self.new ≡ self.old) }
+        ensures had_room { length self.old.generations < self.old.room → IsOk result }
+        ensures room { self.old.room ≤ self.new.room }
     {
         self.allocator.allocate_atomic()
     }
@@ -101,6 +103,8 @@ impl EntitiesRes {
         ensures limit { IfErr result (λ e. e ≡ CreateError.IndexLimit → NoneFree (population self.old) × NoneUnused (population self.old)) }
         ensures reuses { OnErr result (NoneFree (population self.old)) }
         ensures memory { IfErr result (λ e. e ≡ CreateError.OutOfMemory → NoneUnused (population self.old) → ⊥) }
+        ensures had_room { length self.old.generations < self.old.room → IsOk result }
+        ensures room { IfOk result (λ b. self.old.room ≤ (lent_to_builder b).now.room) }
     {
         let entity = self.create()?;
         Ok(EntityResBuilder {
@@ -119,6 +123,7 @@ impl EntitiesRes {
         ensures actual { IfErr result (λ w. number_of w.actual_gen ≡ generation_reported (population self.old) (index_of w.entity)) }
         ensures action { IfErr result (λ w. w.action.now ≡ DELETE.now) }
         ensures err { OnErr result (self.new ≡ self.old) }
+        ensures room { self.new.room ≡ self.old.room }
     {
         self.allocator.kill_atomic(e)
     }
@@ -226,7 +231,8 @@ impl EntitiesRes {
     /// The next births, pending, of indices that have room.
     pub(crate) fn bear_reserved(&mut self, count: usize)
         requires { count ≤ length self.old.free + (self.old.room - length self.old.generations) }
-        ensures { population self.new ≡ with_births (upcoming self.old count) (population self.old) }
+        ensures born { population self.new ≡ with_births (upcoming self.old count) (population self.old) }
+        ensures room { self.new.room ≡ self.old.room }
     {
         self.allocator.bear_reserved(count);
     }
@@ -235,7 +241,8 @@ impl EntitiesRes {
     #[inline]
     pub(crate) fn mark_index(&mut self, index: Index)
         requires { lives (population self.old) index ≡ true }
-        ensures { population self.new ≡ mark (population self.old) index }
+        ensures marked { population self.new ≡ mark (population self.old) index }
+        ensures room { self.new.room ≡ self.old.room }
     {
         self.allocator.mark_index(index);
     }

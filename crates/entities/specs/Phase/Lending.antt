@@ -1,5 +1,5 @@
 -- What an opened phase does with the entities that it was lent.
-use Rattle.std.specs.Prelude.{ℕ, ◌≡◌, Result}
+use Rattle.std.specs.Prelude.{ℕ, ◌≡◌, ◌≤◌, Result}
 use Rattle.std.specs.Borrow.{RestsIfErr, MutBor, Fml}
 use Rattle.std.specs.Global.{Vec}
 use Rattle.entities.specs.Census.{Census, population}
@@ -10,11 +10,11 @@ use Rattle.entities.specs.declared.phase.shared.Opened.{Opened}
 use Rattle.entities.specs.contracts.entities_res.EntitiesRes as whole
 
 abbrev pub KeepsPopulation : MutBor Census → Census → Type 0
-KeepsPopulation s c = population c ≡ population s.now
+KeepsPopulation s c = (population c ≡ population s.now) × (s.now.room ≤ c.room)
 
 abbrev pub name_of_phase : Opened Board × Vec Pass → ℕ
 name_of_phase r = r.0.entities.ghost_name
 
--- without a phase their population is as it was
+-- without a phase their population is as it was, and as much room is kept
 abbrev pub OpenRests : MutBor Census → Result (Opened Board × Vec Pass) OpenError → Fml
 OpenRests s r = RestsIfErr whole.the_row s name_of_phase r (KeepsPopulation s)

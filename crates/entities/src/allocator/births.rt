@@ -1,5 +1,5 @@
 //! Births.
-ghost use Rattle.std.specs.Prelude.{◌≡◌, ◌≢◌, ℕ, ◌+◌, ◌<◌, ◌≤◌, List, [], ◌∷◌, ◌++◌, pos, nat_abs, length, true, IfOk, OnErr, IfSome, IfNone, if◌then◌else◌};
+ghost use Rattle.std.specs.Prelude.{◌≡◌, ◌≢◌, ℕ, ◌+◌, ◌<◌, ◌≤◌, List, [], ◌∷◌, ◌++◌, pos, nat_abs, length, true, IfOk, IsOk, OnErr, IfSome, IfNone, if◌then◌else◌};
 ghost use Rattle.std.specs.FinSet as set;
 ghost use Rattle.hibits.specs.Sets.{HasRoom};
 ghost use Rattle.entities.specs.Population.{MayBeBorn, NoneFree, NoneUnused, IsLeastUnused, is_free, born, born_pending, born_as, index_of, generation_of};
@@ -37,6 +37,8 @@ impl Allocator {
         ensures reuses { OnErr result (NoneFree (population self.old)) }
         ensures memory { result ≡ Err CreateError.OutOfMemory → NoneUnused (population self.old) → ⊥ }
         ensures err { OnErr result (self.new ≡ self.old) }
+        ensures had_room { length self.old.generations < self.old.room → IsOk result }
+        ensures room { self.old.room ≤ self.new.room }
     {
         self.give_birth(false)
     }
@@ -54,6 +56,8 @@ impl Allocator {
         ensures reuses { OnErr result (NoneFree (population self.old)) }
         ensures memory { result ≡ Err CreateError.OutOfMemory → NoneUnused (population self.old) → ⊥ }
         ensures err { OnErr result (self.new ≡ self.old) }
+        ensures had_room { length self.old.generations < self.old.room → IsOk result }
+        ensures room { self.old.room ≤ self.new.room }
     {
         self.give_birth(true)
     }
@@ -68,6 +72,8 @@ impl Allocator {
         ensures reuses { OnErr result (NoneFree (population self.old)) }
         ensures memory { result ≡ Err CreateError.OutOfMemory → NoneUnused (population self.old) → ⊥ }
         ensures err { OnErr result (self.new ≡ self.old) }
+        ensures had_room { length self.old.generations < self.old.room → IsOk result }
+        ensures room { self.old.room ≤ self.new.room }
     {
         if let Some(entity) = self.revive(pending) {
             return Ok(entity);

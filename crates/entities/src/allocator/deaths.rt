@@ -20,6 +20,7 @@ impl Allocator {
         ensures actual { IfErr result (λ w. number_of w.actual_gen ≡ generation_reported (population self.old) (index_of w.entity)) }
         ensures action { IfErr result (λ w. w.action.now ≡ DELETE.now) }
         ensures err { OnErr result (self.new ≡ self.old) }
+        ensures room { self.new.room ≡ self.old.room }
     {
         if !self.is_alive(e) {
             return Err(self.wrong_generation(DELETE, e));
@@ -39,6 +40,7 @@ impl Allocator {
         ensures actual { IfErr result (λ w. number_of w.actual_gen ≡ generation_reported (population self.old) (index_of w.entity)) }
         ensures action { IfErr result (λ w. w.action.now ≡ DELETE.now) }
         ensures err { OnErr result (self.new ≡ self.old) }
+        ensures room { self.new.room ≡ self.old.room }
     {
         self.may_kill(list)?;
         self.bury_all(list);
@@ -75,7 +77,8 @@ impl Allocator {
 
     pub(super) fn bury_all(&mut self, list: &[Entity])
         requires { MayAllDie (population self.old) list.now }
-        ensures { population self.new ≡ all_dead list.now (population self.old) }
+        ensures dead { population self.new ≡ all_dead list.now (population self.old) }
+        ensures room { self.new.room ≡ self.old.room }
     {
         for e in list {
             self.bury(*e);
@@ -85,7 +88,8 @@ impl Allocator {
     #[inline]
     fn bury(&mut self, e: Entity)
         requires { IsAlive (population self.old) e }
-        ensures { population self.new ≡ all_dead (e ∷ []) (population self.old) }
+        ensures dead { population self.new ≡ all_dead (e ∷ []) (population self.old) }
+        ensures room { self.new.room ≡ self.old.room }
     {
         let i = e.0 as usize;
         self.generations[i] = -e.1.0;

@@ -20,6 +20,7 @@ impl Allocator {
         ensures merged { OnOk result (population self.new ≡ merge (population self.old)) }
         ensures none { ((i : ℕ) → (population self.old).marked i ≡ false) → IsOk result }
         ensures err { OnErr result (self.new ≡ self.old) }
+        ensures room { self.new.room ≡ self.old.room }
     {
         let dead = self.marked_entities(alloc)?;
         self.take_up();
@@ -45,6 +46,7 @@ impl Allocator {
         ensures generations { self.new.generations ≡ self.old.generations }
         ensures killed { self.new.killed ≡ self.old.killed }
         ensures none { (j : ℕ) → has self.new.raised j ≡ true → ⊥ }
+        ensures room { self.new.room ≡ self.old.room }
     {
         if !self.raised.is_empty() {
             add_all(&mut self.alive, &self.raised);

@@ -63,7 +63,8 @@ impl Allocator {
     /// The next births, pending, of indices that have room.
     pub(crate) fn bear_reserved(&mut self, count: usize)
         requires { count ≤ length self.old.free + (self.old.room - length self.old.generations) }
-        ensures { population self.new ≡ with_births (upcoming self.old count) (population self.old) }
+        ensures born { population self.new ≡ with_births (upcoming self.old count) (population self.old) }
+        ensures room { self.new.room ≡ self.old.room }
     {
         let _ = &self.room;
         for earlier in 0..count {
@@ -80,7 +81,8 @@ impl Allocator {
     #[inline]
     pub(crate) fn mark_index(&mut self, index: Index)
         requires { lives (population self.old) index ≡ true }
-        ensures { population self.new ≡ mark (population self.old) index }
+        ensures marked { population self.new ≡ mark (population self.old) index }
+        ensures room { self.new.room ≡ self.old.room }
     {
         let _ = self.killed.add(index);
     }

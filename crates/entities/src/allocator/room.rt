@@ -1,5 +1,5 @@
 //! Room for indices, got for many at once.
-ghost use Rattle.std.specs.Prelude.{◌≡◌, ℕ, ◌<◌, ◌≤◌, IfErr, OnOk, OnErr, length};
+ghost use Rattle.std.specs.Prelude.{◌≡◌, ℕ, ◌<◌, ◌≤◌, IfErr, IsOk, OnOk, OnErr, length};
 ghost use Rattle.hibits.specs.Sets.{HasRoom};
 ghost use Rattle.entities.specs.Population.{NoneUnused};
 ghost use Rattle.entities.specs.Census.{population};
@@ -27,6 +27,8 @@ impl Allocator {
         ensures limit { IfErr result (λ e. e ≡ CreateError.IndexLimit → NoneUnused (population self.old)) }
         ensures memory { IfErr result (λ e. e ≡ CreateError.OutOfMemory → NoneUnused (population self.old) → ⊥) }
         ensures err { OnErr result (self.new ≡ self.old) }
+        ensures had_room { length self.old.generations < self.old.room → IsOk result }
+        ensures grows { self.old.room ≤ self.new.room }
     {
         let born = self.generations.len();
         if born < self.room {

@@ -98,6 +98,7 @@ pub(crate) fn mark_all(entities: &mut EntitiesRes, ended: &Ended) -> usize
     requires words { IsFull ended.now.words.words × (slots_len ended.now.words.words ≡ ended.now.plan.width + 1) × (ended.now.plan.width < 2 ^ 26) }
     requires alive { (i : ℕ) → i < 64 * ended.now.plan.width → marks_index (slots_items ended.now.words.words) i ≡ true → lives (population entities.old) i ≡ true }
     ensures marked { population entities.new ≡ with_marks (marks_below (slots_items ended.now.words.words) (64 * ended.now.plan.width)) (population entities.old) }
+    ensures room { entities.new.room ≡ entities.old.room }
     ensures count { result ≡ count_below (marks_index (slots_items ended.now.words.words)) (64 * ended.now.plan.width) }
 {
     let end = 64 * ended.plan.width;

@@ -63,6 +63,7 @@ impl EntitiesRes {
         ensures same_reference { IfOk result (λ r. name_of_phase r ≡ self.entry.ghost_name) }
         ensures open { IfOk result (λ r. IsOpen (entities_of r.0) (board_of r.0)) }
         ensures same { IfOk result (λ r. population (entities_of r.0) ≡ population self.old) }
+        ensures room { IfOk result (λ r. self.old.room ≤ (entities_of r.0).room) }
         ensures plan { IfOk result (λ r. (phase_opened r.0).opening ≡ population self.old) }
         ensures sizes { IfOk result (λ r. (length (phase_opened r.0).reserve ≡ reserve) × ((phase_opened r.0).passes ≡ passes)) }
         ensures reserve { IfOk result (λ r. IsReserve (population self.old) (phase_opened r.0).reserve) }

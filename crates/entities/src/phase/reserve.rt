@@ -56,6 +56,7 @@ pub(crate) fn plan_of(
     requires { reserve < 2 ^ 32 }
     ensures same { SameBut entities.old entities.new }
     ensures population { population entities.new ≡ population entities.old }
+    ensures kept { entities.old.room ≤ entities.new.room }
     ensures opening { IfOk result (λ p. SameBut p.opening.value entities.new) }
     ensures room { IfOk result (λ p. reserve ≤ length entities.new.free + (entities.new.room - length entities.new.generations)) }
     ensures next { IfOk result (λ p. p.reserve.items ≡ upcoming p.opening.value reserve) }

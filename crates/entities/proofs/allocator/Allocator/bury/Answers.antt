@@ -31,15 +31,15 @@ at_last g m fits p h = omega (arith, ltb-false _ _ (rw (to_z-of_z w32 g fits, p)
 no_more : (m i : ℕ) (free : List ℕ) → 2147483647 < suc m + 1 → (j : ℕ) → count_by (λ x. eqb x j) free ≡ count_by (λ x. eqb x j) free + cond (eqb i j && ltb (suc m) 2147483647) 1 0
 no_more m i free t j = rw (le-ltb (suc m) 2147483647 (omega arith)) (omega (arith, and_false (eqb i j)))
 
-pub returns-then-e-lt-LAST_GENERATION : goal.returns-then-e-lt-LAST_GENERATION
-returns-then-e-lt-LAST_GENERATION c =
+pub returns-then-e-lt-LAST_GENERATION-clause-dead : goal.returns-then-e-lt-LAST_GENERATION-clause-dead
+returns-then-e-lt-LAST_GENERATION-clause-dead c =
     let gs = c.self.inside.generations.items in
     let at = rw (← c.self.view_is) at (stands c.args.self.now c.args.e c.requires) in
     let fits : FitsSigned w32 c.args.e.1.0 = search rules in
     rw (← c.self.view_is, lowered_is _ _ fits at.3, c.remove-2.ensures.members, c.remove-3.ensures.members) (population_buried gs (set gs c.args.e.0 (negsuc at.0)) c.self.inside.raised.members c.self.inside.killed.members c.args.e (buried_set gs c.args.e.0 at.0 at.2 at.1))
 
-pub returns-else-e-lt-LAST_GENERATION : goal.returns-else-e-lt-LAST_GENERATION
-returns-else-e-lt-LAST_GENERATION c =
+pub returns-else-e-lt-LAST_GENERATION-clause-dead : goal.returns-else-e-lt-LAST_GENERATION-clause-dead
+returns-else-e-lt-LAST_GENERATION-clause-dead c =
     let gs = c.self.inside.generations.items in
     let at = rw (← c.self.view_is) at (stands c.args.self.now c.args.e c.requires) in
     let fits : FitsSigned w32 c.args.e.1.0 = search rules in

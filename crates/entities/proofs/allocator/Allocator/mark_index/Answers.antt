@@ -17,8 +17,8 @@ invariant_of-self c =
       roomy = same_room _ _ _ _ _ _ _ _ _ _ c.self.invariant.roomy (λ j h. (h.0, h.1, c.add.ensures.room j h.2));
     }
 
-pub returns : goal.returns
-returns c =
+pub returns-clause-marked : goal.returns-clause-marked
+returns-clause-marked c =
     let gs = c.self.inside.generations.items in
     let alive : living_of gs c.args.index ≡ true = sym (lives_is (census gs c.self.inside.raised.members c.self.inside.killed.members) c.args.index) ∙ rw (← c.self.view_is) at c.requires in
     let ok = c.add.ensures.had_room (c.self.invariant.roomy.in_sets c.args.index (omega (arith, (alive_at gs c.args.index alive).2, c.self.invariant.roomy.born_within))).2 in

@@ -18,6 +18,8 @@ returns c =
         limit = tt;
         reuses = tt;
         memory = tt;
+        had_room = λ _. refl;
+        room = e.room;
       },
     )
 

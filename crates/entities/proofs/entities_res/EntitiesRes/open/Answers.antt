@@ -1,4 +1,4 @@
-use Rattle.std.proofs.Common.{◌≡◌, ◌∙◌, ℕ, length, refl, ap, sym, subst, arith}
+use Rattle.std.proofs.Common.{rules, ◌≡◌, ◌∙◌, ℕ, length, refl, ap, sym, subst, arith}
 use Rattle.entities.specs.declared.phase.plan.Plan.{Plan}
 use Rattle.entities.specs.Census.{population}
 use Rattle.entities.specs.Kept.{SameBut}
@@ -41,6 +41,7 @@ returns c =
           reserve = subst (λ (p : Plan). IsReserve (population p.opening.value) p.reserve.items) (sym is) (rw same reserve);
         };
         same = c.plan_of.ensures.population;
+        room = c.plan_of.ensures.kept;
         plan = ap (λ (p : Plan). population p.opening.value) is ∙ same;
         sizes = (sizes, ap (λ (p : Plan). p.passes) is ∙ c.in-Ok.ensures.passes);
         reserve = subst (λ (p : Plan). IsReserve (population s) p.reserve.items) (sym is) reserve;
@@ -57,12 +58,13 @@ returns c =
 
 pub returns-in-Err : goal.returns-in-Err
 returns-in-Err c = (
-  (refl, (λ w. tt), c.plan_of.ensures.population),
+  (refl, (λ w. tt), (c.plan_of.ensures.population, c.plan_of.ensures.kept)),
   record {
     rests = tt;
     same_reference = tt;
     «open» = tt;
     same = tt;
+    room = tt;
     plan = tt;
     sizes = tt;
     reserve = tt;
@@ -73,6 +75,29 @@ returns-in-Err c = (
     many = λ e. absurd (c.in-Err.ensures.kind e);
     limit = λ e. (omega arith, c.in-Err.ensures.limit e);
     memory = λ e. (omega arith, c.in-Err.ensures.memory e);
+    few = tt;
+  },
+)
+
+pub returns-in-Err-start : goal.returns-in-Err-start
+returns-in-Err-start c = (
+  (refl, (λ w. tt), (c.plan_of.ensures.population, c.plan_of.ensures.kept)),
+  record {
+    rests = tt;
+    same_reference = tt;
+    «open» = tt;
+    same = tt;
+    room = tt;
+    plan = tt;
+    sizes = tt;
+    reserve = tt;
+    passes = tt;
+    blank = tt;
+    of_phase = tt;
+    law = tt;
+    many = λ e. search rules;
+    limit = λ e. search rules;
+    memory = λ e. (omega arith, c.in-Ok.ensures.enough);
     few = tt;
   },
 )

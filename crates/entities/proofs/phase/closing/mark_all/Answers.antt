@@ -18,6 +18,7 @@ loop-index-preserved-then-has_none c =
     record {
       marked = i.marked ∙ marks_skip (population c.args.entities.now) ws k (k + 64) (omega arith) none;
       count = i.count ∙ sym (count_skip (marks_index ws) k 64 none);
+      room = i.room;
       low = omega (arith, i.low);
       within = omega (arith, c.loop-index-test.true, start);
     }
@@ -40,8 +41,9 @@ loop-index-preserved c =
           let is : marks_index ws k ≡ true = sym c.is_marked.ensures ∙ w.if-is_marked.true in
           let more = count_more (marks_index ws) k ∙ ap (λ (b : Bool). cond b 1 0 + count_below (marks_index ws) k) is in
           record {
-            marked = rw w.entities-is (w.mark_index.ensures ∙ ap (λ (p : Population). mark p k) i.marked ∙ marks_one (population c.args.entities.now) ws k is);
+            marked = rw w.entities-is (w.mark_index.ensures.marked ∙ ap (λ (p : Population). mark p k) i.marked ∙ marks_one (population c.args.entities.now) ws k is);
             count = rw w.marks-is (omega (arith, more, i.count));
+            room = rw w.entities-is (w.mark_index.ensures.room ∙ i.room);
             low = rw w.marks-is (omega (arith, i.low));
             within = omega (arith, c.loop-index-test.true);
           }
@@ -51,6 +53,7 @@ loop-index-preserved c =
           record {
             marked = rw w.entities-is (i.marked ∙ marks_skip (population c.args.entities.now) ws k (k + 1) (omega arith) none);
             count = rw w.marks-is (i.count ∙ sym (count_skip (marks_index ws) k 1 none));
+            room = rw w.entities-is i.room;
             low = rw w.marks-is (omega (arith, i.low));
             within = omega (arith, c.loop-index-test.true);
           }

@@ -10,6 +10,7 @@ abbrev pub invariant-loop-index : goal.invariant-loop-index
 invariant-loop-index l = record {
   marked : population l.entities ≡ with_marks (marks_below (slots_items l.ended.words.words) l.index) (population l.fn.entities);
   count : l.marks ≡ count_below (marks_index (slots_items l.ended.words.words)) l.index;
+  room : l.entities.room ≡ l.fn.entities.room;
   low : l.marks ≤ l.index;
   within : l.index ≤ 64 * l.ended.plan.width;
 }

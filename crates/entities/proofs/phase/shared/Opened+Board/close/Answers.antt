@@ -43,7 +43,7 @@ mark_all-marks-requires-clause-alive c i lt is =
     let lives_then = alive_then o births (run start e.trace).cursor i born alive in
     let same = population_but board.plan.opening.value now c.requires.open.same in
     let mid : population c.bear_reserved.new.self ≡ with_births (take births board.plan.reserve.items) o.opening =
-    c.bear_reserved.ensures ∙ ap (λ (es : List Entity). with_births es (population now)) (taken board now births c.requires.open (omega (arith, born))) ∙ ap (with_births (take births board.plan.reserve.items)) same in
+    c.bear_reserved.ensures.born ∙ ap (λ (es : List Entity). with_births es (population now)) (taken board now births c.requires.open (omega (arith, born))) ∙ ap (with_births (take births board.plan.reserve.items)) same in
     subst (λ (p : Population). lives p i ≡ true) (sym mid) lives_then
 
 pub returns-clause-closed : goal.returns-clause-closed
@@ -55,7 +55,7 @@ returns-clause-closed c =
     let born : births ≡ min (slice_index words 0) (length board.plan.reserve.items) = c.births-births.ensures ∙ ap (λ (p : Plan). min (slice_index words 0) (length p.reserve.items)) c.finish-ended.ensures.plan in
     closes board words (record_of c.args.passes.items) (population now) (population c.bear_reserved.new.self) (population c.mark_all-marks.new.entities) births c.mark_all-marks.result
     c.finish-ended.ensures.ended (population_but board.plan.opening.value now c.requires.open.same) born
-    (c.bear_reserved.ensures ∙ ap (λ (es : List Entity). with_births es (population now)) (taken board now births c.requires.open (omega (arith, born))))
+    (c.bear_reserved.ensures.born ∙ ap (λ (es : List Entity). with_births es (population now)) (taken board now births c.requires.open (omega (arith, born))))
     (subst (λ (p : Plan). population c.mark_all-marks.new.entities ≡ with_marks (marks_below words (64 * p.width)) (population c.bear_reserved.new.self)) c.finish-ended.ensures.plan c.mark_all-marks.ensures.marked)
     (subst (λ (p : Plan). c.mark_all-marks.result ≡ count_below (marks_index words) (64 * p.width)) c.finish-ended.ensures.plan c.mark_all-marks.ensures.count)
 
