@@ -1,9 +1,10 @@
 //! Components for an entity that is being built.
-ghost use Rattle.std.specs.Prelude.{◌≡◌, IfOk, IfErr, OnOk, OnErr};
+ghost use Rattle.std.specs.Prelude.{◌≡◌, IfOk, IfErr, OnOk, OnErr, IsOk, IsSome};
 ghost use Rattle.std.specs.Borrow.{sem};
 ghost use Rattle.std.specs.FinMap as map;
 ghost use Rattle.entities.specs.Lending.{lent_to_builder, entity_built, KeptRests};
 ghost use Rattle.entities.specs.Population.{index_of};
+ghost use Rattle.storages.specs.Meaning.{HasRoom};
 ghost use Rattle.storages.specs.Slot.{IsSame, Puts};
 
 use crate::masked::MaskedStorage;
@@ -37,6 +38,7 @@ impl<'a> WithComponent for EntityResBuilder<'a> {
         ensures ok { OnOk result (Puts masked.old masked.new (index_of (entity_built self.entry)) component (map.contains_key masked.old.map (index_of (entity_built self.entry)))) }
         ensures err { OnErr result (IsSame masked.old masked.new) }
         ensures refused { IfErr result (λ e. e.1 ≡ component) }
+        ensures succeeds { IsSome (map.get masked.old.map (index_of (entity_built self.entry))) → HasRoom masked.old.room 1 → IsOk result }
     {
         let outcome = put_at(&self, masked, component);
         self.kept_if(outcome)
@@ -52,6 +54,7 @@ fn put_at<T: Component + Drop>(
     ensures ok { OnOk result (Puts masked.old masked.new (index_of (entity_built builder.now)) component (map.contains_key masked.old.map (index_of (entity_built builder.now)))) }
     ensures err { OnErr result (IsSame masked.old masked.new) }
     ensures refused { IfErr result (λ e. e.1 ≡ component) }
+    ensures succeeds { IsSome (map.get masked.old.map (index_of (entity_built builder.now))) → HasRoom masked.old.room 1 → IsOk result }
 {
     match masked.put(builder.entity().id(), component) {
         Ok(_before) => Ok(()),

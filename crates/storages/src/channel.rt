@@ -122,6 +122,7 @@ impl<E: Copy> EventChannel<E> {
         ensures others { (n : ℕ) → n ≢ id.now → unread_of n self.new.readers ≡ unread_of n self.old.readers }
         ensures registered { self.new.registered ≡ self.old.registered }
         ensures needs_room { is_some (room_in self.new) ≡ is_some (room_in self.old) }
+        ensures unknown { OnErr result (self.new ≡ self.old) }
     {
         match take_unread(&mut self.readers, id.number, self.alloc) {
             Some(events) => Ok(events),
@@ -136,6 +137,7 @@ impl<E: Copy> EventChannel<E> {
         ensures readers { self.new.readers ≡ dropped id self.old.readers }
         ensures gone { unread_of id self.new.readers ≡ None }
         ensures registered { self.new.registered ≡ self.old.registered }
+        ensures unknown { OnErr result (self.new ≡ self.old) }
     {
         match place_of(&self.readers, id.number) {
             Some(place) => {
@@ -192,6 +194,7 @@ fn write_all<E: Copy>(readers: &mut [Reader<E>], event: E)
 fn take_unread<E>(readers: &mut [Reader<E>], number: u64, alloc: Global) -> Option<Vec<E>>
     ensures events { MatchOption result (unread_of number (map shown readers.old) ≡ None) (λ v. unread_of number (map shown readers.old) ≡ Some v.items) }
     ensures shown { map shown readers.new ≡ emptied number (map shown readers.old) }
+    ensures unknown { result ≡ None → readers.new ≡ readers.old }
     ensures needs_room { is_some (least_room readers.new) ≡ is_some (least_room readers.old) }
 {
     if let Some((first, rest)) = readers.split_first_mut() {

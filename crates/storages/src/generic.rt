@@ -76,9 +76,12 @@ pub trait GenericWriteStorage {
     // The entities and the storage.
     ghost sight: { Self → Sight Self.Component };
 
+    // The views are of the same storage: what is done to the later is done to the one behind the first.
+    ghost SameView: { Self → Self → Type 0 };
+
     /// The component of an entity that is alive, to write to.
     fn get_mut(&mut self, entity: Entity) -> Result<&mut Self::Component, NotLent>
-        ensures* writes_back { sem 𝓛 (lends_seen Self.row Self.Component.row sight self.entry entity result) }
+        ensures* writes_back { sem 𝓛 (lends_seen Self.row Self.Component.row sight SameView self.entry entity result) }
         ensures value { IfOk result (λ x. found_in (sight self.old).entities (sight self.old).slot entity ≡ Some x.now) }
         ensures absent { (result ≡ Err NotLent.Absent) ↔ (found_in (sight self.old).entities (sight self.old).slot entity ≡ None) }
         ensures succeeds { IsSome (found_in (sight self.old).entities (sight self.old).slot entity) → HasRoom (sight self.old).slot.room 1 → IsOk result };
@@ -87,7 +90,7 @@ pub trait GenericWriteStorage {
     fn get_mut_or_default(&mut self, entity: Entity) -> Result<&mut Self::Component, NotLent>
     where
         Self::Component: Default + Drop,
-        ensures* writes_back { sem 𝓛 (lends_seen_or_default Self.row Self.Component.row sight self.entry entity result) }
+        ensures* writes_back { sem 𝓛 (lends_seen_or_default Self.row Self.Component.row sight SameView self.entry entity result) }
         ensures old { IfOk result (λ x. (y : Self.Component) → found_in (sight self.old).entities (sight self.old).slot entity ≡ Some y → x.now ≡ y) }
         ensures new { found_in (sight self.old).entities (sight self.old).slot entity ≡ None → IfOk result (λ x. Self.Component.is_default x.now) }
         ensures absent { (result ≡ Err NotLent.Absent) ↔ (is_alive (population (sight self.old).entities) entity ≡ false) }
@@ -100,6 +103,7 @@ pub trait GenericWriteStorage {
         entity: Entity,
         component: Self::Component,
     ) -> Result<Option<Self::Component>, InsertError<Self::Component>>
+        ensures same_view { SameView self.old self.new }
         ensures entities { (sight self.new).entities ≡ (sight self.old).entities }
         ensures replaced { IfOk result (λ before. before ≡ found_in (sight self.old).entities (sight self.old).slot entity) }
         ensures alive { OnOk result (is_alive (population (sight self.old).entities) entity ≡ true) }
@@ -113,9 +117,10 @@ pub trait GenericWriteStorage {
     fn remove(&mut self, entity: Entity) -> Result<(), AllocError>
     where
         Self::Component: Drop,
+        ensures same_view { SameView self.old self.new }
         ensures entities { (sight self.new).entities ≡ (sight self.old).entities }
         ensures removed { OnOk result (IsSome (found_in (sight self.old).entities (sight self.old).slot entity) → Takes (sight self.old).slot (sight self.new).slot (index_of entity)) }
-        ensures absent { found_in (sight self.old).entities (sight self.old).slot entity ≡ None → (sight self.new).slot ≡ (sight self.old).slot }
+        ensures absent { found_in (sight self.old).entities (sight self.old).slot entity ≡ None → IsOk result × ((sight self.new).slot ≡ (sight self.old).slot) }
         ensures err { OnErr result (IsSame (sight self.old).slot (sight self.new).slot) }
         ensures succeeds { HasRoom (sight self.old).slot.room 1 → IsOk result };
 }
@@ -123,9 +128,11 @@ pub trait GenericWriteStorage {
 impl<'a, T: Component + Drop> GenericWriteStorage for WriteStorage<'a, T> {
     type Component = T;
 
-    ghost use Rattle.storages.specs.WriteView.{slot, entities_of};
+    ghost use Rattle.storages.specs.WriteView.{slot, entities_of, storage_name};
 
     ghost sight = { λ v. record { entities = entities_of v; slot = slot v } };
+
+    ghost SameView = { λ v w. storage_name w ≡ storage_name v };
 
     #[inline]
     fn get_mut(&mut self, entity: Entity) -> Result<&mut T, NotLent> {
@@ -161,6 +168,8 @@ impl<S: GenericWriteStorage> GenericWriteStorage for &mut S {
     type Component = S::Component;
 
     ghost sight = { λ v. S.sight v.now };
+
+    ghost SameView = { λ v w. (w.ghost_name ≡ v.ghost_name) × S.SameView v.now w.now };
 
     #[inline]
     fn get_mut(&mut self, entity: Entity) -> Result<&mut S::Component, NotLent> {

@@ -108,7 +108,11 @@ impl<T: Component> MaskedStorage<T> {
         ensures mask { (q : ℕ) → set.contains result.0.members q ≡ map.contains_key self.map q }
         ensures present { (q : ℕ) → IsSome (map.get self.map q) → (T.Storage.meaning result.1).at q ≡ map.get self.map q }
         ensures absent { (q : ℕ) → map.get self.map q ≡ None → (T.Storage.meaning result.1).is_free q ≡ true }
+        ensures extent { (T.Storage.meaning result.1).extent ≡ self.extent }
+        ensures order { (T.Storage.meaning result.1).order ≡ self.order }
+        ensures channel { (T.Storage.meaning result.1).channel ≡ self.channel }
         ensures room { (T.Storage.meaning result.1).room ≡ self.room }
+        ensures inner_room { (T.Storage.meaning result.1).inner_room ≡ self.inner_room }
     {
         let MaskedStorage { mask, inner } = self;
         (mask, inner)
