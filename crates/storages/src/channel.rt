@@ -138,6 +138,7 @@ impl<E: Copy> EventChannel<E> {
         ensures gone { unread_of id self.new.readers ≡ None }
         ensures registered { self.new.registered ≡ self.old.registered }
         ensures unknown { OnErr result (self.new ≡ self.old) }
+        ensures room { (n : ℕ) → HasRoom (room_in self.old) n → HasRoom (room_in self.new) n }
     {
         match place_of(&self.readers, id.number) {
             Some(place) => {
@@ -210,6 +211,7 @@ fn take_unread<E>(readers: &mut [Reader<E>], number: u64, alloc: Global) -> Opti
 fn place_of<E>(readers: &[Reader<E>], number: u64) -> Option<usize>
     ensures found { MatchOption result (unread_of number (map shown readers.now) ≡ None) (λ _. is_some (unread_of number (map shown readers.now)) ≡ true) }
     ensures place { IfSome result (λ k. k < length readers.now) }
+    ensures room { IfSome result (λ k. (n : ℕ) → HasRoom (least_room readers.now) n → HasRoom (least_room (remove readers.now k)) n) }
     ensures dropped { IfSome result (λ k. first_dropped number (map shown readers.now) ≡ map shown (remove readers.now k)) }
 {
     if let Some((first, rest)) = readers.split_first() {

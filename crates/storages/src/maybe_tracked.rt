@@ -32,13 +32,15 @@ pub trait MaybeTracked<T>: UnprotectedStorage<T> {
     /// What a reader has not read, which it has read then. An untracked storage knows no reader.
     fn read_events(&mut self, id: &ReaderId) -> Result<Vec<ComponentEvent>, UnknownReader>
         ensures events { MatchResult result (λ v. unread_of id.now (Self.meaning self.old).channel.readers ≡ Some v.items) (λ _. unread_of id.now (Self.meaning self.old).channel.readers ≡ None) }
-        ensures turned { Rechannels (Self.meaning self.old) (Self.meaning self.new) (after_read id.now (Self.meaning self.old).channel) };
+        ensures turned { Rechannels (Self.meaning self.old) (Self.meaning self.new) (after_read id.now (Self.meaning self.old).channel) }
+        ensures unknown { OnErr result (Keeps (Self.meaning self.old) (Self.meaning self.new)) };
 
     /// Ends a reader. An untracked storage knows none.
     fn end_reader(&mut self, id: ReaderId) -> Result<(), UnknownReader>
         ensures ok { OnOk result (is_some (unread_of id (Self.meaning self.old).channel.readers) ≡ true) }
         ensures err { OnErr result (unread_of id (Self.meaning self.old).channel.readers ≡ None) }
-        ensures turned { Rechannels (Self.meaning self.old) (Self.meaning self.new) (without_reader id (Self.meaning self.old).channel) };
+        ensures turned { Rechannels (Self.meaning self.old) (Self.meaning self.new) (without_reader id (Self.meaning self.old).channel) }
+        ensures unknown { OnErr result (Keeps (Self.meaning self.old) (Self.meaning self.new)) };
 
     /// Turns events on or off. An untracked storage stays as it is.
     fn emit_events(&mut self, on: bool)
@@ -218,6 +220,7 @@ where
         requires { self.old.channel.tracked ≡ true }
         ensures events { MatchResult result (λ v. unread_of id.now self.old.channel.readers ≡ Some v.items) (λ _. unread_of id.now self.old.channel.readers ≡ None) }
         ensures turned { Turns self.old self.new (after_read id.now self.old.channel) }
+        ensures unknown { OnErr result (IsSame self.old self.new) }
     {
         self.inner.read_events(id)
     }
@@ -228,6 +231,7 @@ where
         ensures ok { OnOk result (is_some (unread_of id self.old.channel.readers) ≡ true) }
         ensures err { OnErr result (unread_of id self.old.channel.readers ≡ None) }
         ensures turned { Turns self.old self.new (without_reader id self.old.channel) }
+        ensures unknown { OnErr result (IsSame self.old self.new) }
     {
         self.inner.end_reader(id)
     }

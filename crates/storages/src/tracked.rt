@@ -1,11 +1,11 @@
 //! Storages that tell of each change, and their channels.
-ghost use Rattle.std.specs.Prelude.{◌≡◌, true, is_some, OnOk, OnErr, IfOk, IfSome, MatchResult, None, Some};
+ghost use Rattle.std.specs.Prelude.{◌≡◌, ◌+◌, ℕ, IsOk, false, true, is_some, OnOk, OnErr, IfOk, IfSome, MatchResult, None, Some};
 ghost use Rattle.std.specs.Borrow.{sem};
-ghost use Rattle.storages.specs.Unread.{unread_of};
+ghost use Rattle.storages.specs.Unread.{unread_of, is_read};
 ghost use Rattle.storages.specs.Tracking.{Rechannels, with_reader, after_read, without_reader, switched, written_by_hand};
-ghost use Rattle.storages.specs.Meaning.{Keeps};
+ghost use Rattle.storages.specs.Meaning.{Keeps, HasRoom};
 ghost use Rattle.storages.specs.Lent.{emitting, lends_channel, lends_slot_channel};
-ghost use Rattle.storages.specs.ChannelState.{ChannelState};
+ghost use Rattle.storages.specs.ChannelState.{ChannelState, room_with};
 ghost use Rattle.storages.specs.declared.event.ComponentEvent.{ComponentEvent};
 
 use crate::channel::EventChannel;
@@ -30,13 +30,16 @@ pub trait Tracked<T>: UnprotectedStorage<T> {
     /// What a reader has not read, which it has read then.
     fn read(&mut self, id: &ReaderId) -> Result<Vec<ComponentEvent>, UnknownReader>
         ensures events { MatchResult result (λ v. unread_of id.now (Self.meaning self.old).channel.readers ≡ Some v.items) (λ _. unread_of id.now (Self.meaning self.old).channel.readers ≡ None) }
-        ensures turned { Rechannels (Self.meaning self.old) (Self.meaning self.new) (after_read id.now (Self.meaning self.old).channel) };
+        ensures turned { Rechannels (Self.meaning self.old) (Self.meaning self.new) (after_read id.now (Self.meaning self.old).channel) }
+        ensures unknown { OnErr result (Keeps (Self.meaning self.old) (Self.meaning self.new)) };
 
     /// Ends a reader.
     fn drop_reader(&mut self, id: ReaderId) -> Result<(), UnknownReader>
         ensures ok { OnOk result (is_some (unread_of id (Self.meaning self.old).channel.readers) ≡ true) }
         ensures err { OnErr result (unread_of id (Self.meaning self.old).channel.readers ≡ None) }
-        ensures turned { Rechannels (Self.meaning self.old) (Self.meaning self.new) (without_reader id (Self.meaning self.old).channel) };
+        ensures room { (n : ℕ) → HasRoom (Self.meaning self.old).room n → HasRoom (Self.meaning self.new).room n }
+        ensures turned { Rechannels (Self.meaning self.old) (Self.meaning self.new) (without_reader id (Self.meaning self.old).channel) }
+        ensures unknown { OnErr result (Keeps (Self.meaning self.old) (Self.meaning self.new)) };
 
     /// The channel.
     fn channel(&self) -> &EventChannel<ComponentEvent>
@@ -46,6 +49,8 @@ pub trait Tracked<T>: UnprotectedStorage<T> {
     fn channel_mut(&mut self) -> &mut EventChannel<ComponentEvent>
         ensures* writes_back { sem 𝓛 (lends_channel Self.row with_channel self.entry result) }
         ensures value { emitting (Self.meaning self.old).channel.emission result.now ≡ (Self.meaning self.old).channel }
+        ensures room { (Self.meaning self.old).room ≡ room_with (Self.meaning self.old).channel.emission result.now (Self.meaning self.old).inner_room }
+        ensures rooms { (c : ChannelState ComponentEvent) → (Self.meaning (with_channel self.old c)).room ≡ room_with (Self.meaning self.old).channel.emission c (Self.meaning self.old).inner_room }
         ensures turned { (c : ChannelState ComponentEvent) → Rechannels (Self.meaning self.old) (Self.meaning (with_channel self.old c)) (emitting (Self.meaning self.old).channel.emission c) };
 
     /// Whether events are emitted.
@@ -54,7 +59,9 @@ pub trait Tracked<T>: UnprotectedStorage<T> {
 
     /// Turns events on or off.
     fn set_event_emission(&mut self, on: bool)
-        ensures { Rechannels (Self.meaning self.old) (Self.meaning self.new) (switched on (Self.meaning self.old).channel) };
+        ensures turned { Rechannels (Self.meaning self.old) (Self.meaning self.new) (switched on (Self.meaning self.old).channel) }
+        ensures off { on ≡ false → (Self.meaning self.new).room ≡ (Self.meaning self.new).inner_room }
+        ensures idle { on ≡ (Self.meaning self.old).channel.emission → (Self.meaning self.new).room ≡ (Self.meaning self.old).room };
 }
 
 impl<T: Component> MaskedStorage<T>
@@ -79,6 +86,7 @@ where
     pub fn read(&mut self, id: &ReaderId) -> Result<Vec<ComponentEvent>, UnknownReader>
         ensures events { MatchResult result (λ v. unread_of id.now self.old.channel.readers ≡ Some v.items) (λ _. unread_of id.now self.old.channel.readers ≡ None) }
         ensures turned { Turns self.old self.new (after_read id.now self.old.channel) }
+        ensures unknown { OnErr result (IsSame self.old self.new) }
     {
         self.inner.read(id)
     }
@@ -87,7 +95,9 @@ where
     pub fn drop_reader(&mut self, id: ReaderId) -> Result<(), UnknownReader>
         ensures ok { OnOk result (is_some (unread_of id self.old.channel.readers) ≡ true) }
         ensures err { OnErr result (unread_of id self.old.channel.readers ≡ None) }
+        ensures room { (n : ℕ) → HasRoom self.old.room n → HasRoom self.new.room n }
         ensures turned { Turns self.old self.new (without_reader id self.old.channel) }
+        ensures unknown { OnErr result (IsSame self.old self.new) }
     {
         self.inner.drop_reader(id)
     }
@@ -110,15 +120,21 @@ where
     pub fn channel_mut(&mut self) -> Option<&mut EventChannel<ComponentEvent>>
         ensures* writes_back { sem 𝓛 (lends_slot_channel T.row T.Storage.row T.Storage.meaning T.Storage.IsDefault T.Storage.TakesNone self.entry result) }
         ensures value { IfSome result (λ c. emitting self.old.channel.emission c.now ≡ self.old.channel) }
+        ensures room { IfSome result (λ c. self.old.room ≡ room_with self.old.channel.emission c.now self.old.inner_room) }
         ensures there { is_some result ≡ true }
     {
         Some(self.inner.channel_mut())
     }
 
     /// Writes an event by hand, also while emission is off.
+    #[tactic(auto, using(crate::proofs::Telling::flag_needs, crate::proofs::Telling::flag_rest, crate::proofs::Telling::flag_ready, crate::proofs::Telling::flag_unheard))]
     pub fn flag(&mut self, event: ComponentEvent) -> Result<(), AllocError>
         ensures ok { OnOk result (Turns self.old self.new (written_by_hand event self.old.channel)) }
-        ensures err { OnErr result (Turns self.old self.new self.old.channel) }
+        ensures needs_room { is_some self.new.room ≡ is_some self.old.room }
+        ensures room { OnOk result ((n : ℕ) → HasRoom self.old.room (n + 1) → HasRoom self.new.room n) }
+        ensures err { OnErr result (IsSame self.old self.new) }
+        ensures succeeds { self.old.channel.emission ≡ true → HasRoom self.old.room 1 → IsOk result }
+        ensures unheard { is_read self.old.channel.readers ≡ false → IsOk result }
     {
         match self.channel_mut() {
             Some(channel) => channel.single_write(event),

@@ -1,8 +1,9 @@
 //! The channels of storages beside the entities.
-ghost use Rattle.std.specs.Prelude.{◌≡◌, true, is_some, OnOk, OnErr, IfOk, MatchResult, None, Some};
-ghost use Rattle.storages.specs.Unread.{unread_of};
+ghost use Rattle.std.specs.Prelude.{◌≡◌, ◌+◌, ℕ, IsOk, false, true, is_some, OnOk, OnErr, IfOk, MatchResult, None, Some};
+ghost use Rattle.storages.specs.Unread.{unread_of, is_read};
 ghost use Rattle.storages.specs.Tracking.{Turns, with_reader, after_read, without_reader, switched, written_by_hand};
 ghost use Rattle.storages.specs.Slot.{IsSame};
+ghost use Rattle.storages.specs.Meaning.{HasRoom};
 ghost use Rattle.storages.specs.Lent.{emitting};
 
 use crate::channel::EventChannel;
@@ -62,6 +63,7 @@ where
     pub fn read(&mut self, id: &ReaderId) -> Result<Vec<ComponentEvent>, UnknownReader>
         ensures events { MatchResult result (λ v. unread_of id.now (slot self.old).channel.readers ≡ Some v.items) (λ _. unread_of id.now (slot self.old).channel.readers ≡ None) }
         ensures turned { Turns (slot self.old) (slot self.new) (after_read id.now (slot self.old).channel) }
+        ensures unknown { OnErr result (IsSame (slot self.old) (slot self.new)) }
         ensures entities { entities_of self.new ≡ entities_of self.old }
         ensures same_reference { storage_name self.new ≡ storage_name self.old }
     {
@@ -72,7 +74,9 @@ where
     pub fn drop_reader(&mut self, id: ReaderId) -> Result<(), UnknownReader>
         ensures ok { OnOk result (is_some (unread_of id (slot self.old).channel.readers) ≡ true) }
         ensures err { OnErr result (unread_of id (slot self.old).channel.readers ≡ None) }
+        ensures room { (n : ℕ) → HasRoom (slot self.old).room n → HasRoom (slot self.new).room n }
         ensures turned { Turns (slot self.old) (slot self.new) (without_reader id (slot self.old).channel) }
+        ensures unknown { OnErr result (IsSame (slot self.old) (slot self.new)) }
         ensures entities { entities_of self.new ≡ entities_of self.old }
         ensures same_reference { storage_name self.new ≡ storage_name self.old }
     {
@@ -82,7 +86,11 @@ where
     /// Writes an event by hand, also while emission is off. Where memory is refused no reader has got it. Ports `Storage::flag`.
     pub fn flag(&mut self, event: ComponentEvent) -> Result<(), AllocError>
         ensures ok { OnOk result (Turns (slot self.old) (slot self.new) (written_by_hand event (slot self.old).channel)) }
-        ensures err { OnErr result (Turns (slot self.old) (slot self.new) (slot self.old).channel) }
+        ensures needs_room { is_some (slot self.new).room ≡ is_some (slot self.old).room }
+        ensures room { OnOk result ((n : ℕ) → HasRoom (slot self.old).room (n + 1) → HasRoom (slot self.new).room n) }
+        ensures err { OnErr result (IsSame (slot self.old) (slot self.new)) }
+        ensures succeeds { (slot self.old).channel.emission ≡ true → HasRoom (slot self.old).room 1 → IsOk result }
+        ensures unheard { is_read (slot self.old).channel.readers ≡ false → IsOk result }
         ensures entities { entities_of self.new ≡ entities_of self.old }
         ensures same_reference { storage_name self.new ≡ storage_name self.old }
     {
