@@ -99,6 +99,8 @@ pub record IsOnTheWay {T : Type 0} (s s₀ : Slot T) (es es₀ : List Entity) : 
   pub remains : (n : ℕ) → HasRoom s₀.room (length (lost_of es₀ s₀) + n) → HasRoom s.room (length (lost_of es s) + n)
   pub needs_inner : is_some s.inner_room ≡ is_some s₀.inner_room
   pub inner_remains : (n : ℕ) → HasRoom s₀.inner_room (length (lost_of es₀ s₀) + n) → HasRoom s.inner_room (length (lost_of es s) + n)
+  pub none_left : lost_of es₀ s₀ ≡ [] → lost_of es s ≡ []
+  pub order : lost_of es₀ s₀ ≡ [] → s.order ≡ s₀.order
 
 module _ {T : Type 0} (s s₀ : Slot T) (e : Entity) (es es₀ : List Entity) (w : IsOnTheWay s s₀ (e ∷ es) es₀) where
   pub way_on : (t : Slot T) → map.contains_key s.map (index_of e) ≡ true → Becomes s t (map.remove s.map (index_of e)) (Removed (index_of e)) → IsOnTheWay t s₀ es es₀
@@ -111,7 +113,13 @@ module _ {T : Type 0} (s s₀ : Slot T) (e : Entity) (es es₀ : List Entity) (w
     remains = λ n r. b.room (length (lost_of es t) + n) (one_more s.room _ _ n (step-count e es s t h b) (w.remains n r));
     needs_inner = b.needs_inner ∙ w.needs_inner;
     inner_remains = λ n r. b.inner_room (length (lost_of es t) + n) (one_more s.inner_room _ _ n (step-count e es s t h b) (w.inner_remains n r));
+    none_left = λ q. absurd (one_is_lost q);
+    order = λ q. absurd (one_is_lost q);
   }
+
+    where
+      one_is_lost : lost_of es₀ s₀ ≡ [] → Empty
+      one_is_lost q = zero_or_more (length (lost_of es t)) (sym (ap length (w.none_left q)) ∙ step-count e es s t h b)
 
   pub way_past : map.contains_key s.map (index_of e) ≡ false → IsOnTheWay s s₀ es es₀
   way_past h = record {
@@ -123,6 +131,8 @@ module _ {T : Type 0} (s s₀ : Slot T) (e : Entity) (es es₀ : List Entity) (w
     remains = λ n r. subst (λ m. HasRoom s.room (m + n)) (skip-count e es s h) (w.remains n r);
     needs_inner = w.needs_inner;
     inner_remains = λ n r. subst (λ m. HasRoom s.inner_room (m + n)) (skip-count e es s h) (w.inner_remains n r);
+    none_left = λ q. none_of_none (lost_of es s) (sym (skip-count e es s h) ∙ ap length (w.none_left q));
+    order = w.order;
   }
     where
       less_room : (r : Option ℕ) → HasRoom r (suc (length es)) → HasRoom r (length es)

@@ -43,6 +43,11 @@ OrderAfter (Removed i) o o' = Unit {0}
 abbrev pub extent_cleared : Option ℕ → Option ℕ
 extent_cleared n = option_map (λ _. 0) n
 
+-- the slice, if there is one, has a place for the index
+abbrev pub reaches : Option ℕ → ℕ → Bool
+reaches None i = false
+reaches (Some n) i = i <? n
+
 module _ {T : Type 0} where
   -- a call on one index: the others that have a value keep it, its event is emitted, and it takes room for one event
   pub record Touches (m m' : Meaning T) (id : ℕ) (e : ComponentEvent) : Type 0 where
@@ -106,6 +111,10 @@ module _ {T : Type 0} where
   -- a call that writes one event cannot be refused
   abbrev pub IsReady : Meaning T → Type 0
   IsReady m = HasRoom m.room 1
+
+  -- the place of the index is there: a value stands at it, in use or not, or the slice reaches it
+  abbrev pub has_place : Meaning T → ℕ → Bool
+  has_place m id = is_some (m.at id) || reaches m.extent id
 
   -- the set has just the indices at which there is a value
   pub record Masks (mask : set.FinSet nat_cmp) (m : Meaning T) : Type 0 where

@@ -22,10 +22,11 @@ abbrev pub lost_of : {T : Type 0} → List Entity → Slot T → List ℕ
 lost_of es s = lost es (λ q. map.contains_key s.map q)
 
 -- no index of the entities has a component any more, the others keep theirs, and the removals were emitted in the list's order, which took room
--- for as many events
+-- for as many events. Where there was nothing to take out, a slice without gaps has its order still
 pub record Loses {T : Type 0} (s s' : Slot T) (es : List Entity) : Type 0 where
   pub get : (q : ℕ) → map.get s'.map q ≡ cond (has_index es q) None (map.get s.map q)
   pub extent : s'.extent ≡ s.extent
+  pub order : lost_of es s ≡ [] → s'.order ≡ s.order
   pub channel : s'.channel ≡ emitted_removals (lost_of es s) s.channel
   pub needs_room : is_some s'.room ≡ is_some s.room
   pub room : (n : ℕ) → HasRoom s.room (length (lost_of es s) + n) → HasRoom s'.room n

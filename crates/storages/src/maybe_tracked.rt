@@ -1,8 +1,8 @@
 //! Storages that may tell of each change: the calls on a channel, where there is one.
-ghost use Rattle.std.specs.Prelude.{◌≡◌, true, false, is_some, OnOk, OnErr, IfOk, MatchResult, None, Some};
+ghost use Rattle.std.specs.Prelude.{◌≡◌, ℕ, true, false, is_some, OnOk, OnErr, IfOk, MatchResult, None, Some};
 ghost use Rattle.storages.specs.Unread.{unread_of};
 ghost use Rattle.storages.specs.Tracking.{Rechannels, with_reader, after_read, without_reader, switched};
-ghost use Rattle.storages.specs.Meaning.{Keeps};
+ghost use Rattle.storages.specs.Meaning.{Keeps, HasRoom};
 
 use crate::event::ComponentEvent;
 use crate::flagged::FlaggedStorage;
@@ -26,6 +26,7 @@ pub trait MaybeTracked<T>: UnprotectedStorage<T> {
     /// A new reader, which has nothing to read yet. An untracked storage has none.
     fn new_reader(&mut self) -> Result<ReaderId, AllocError>
         ensures number { IfOk result (λ id. id ≡ (Self.meaning self.old).channel.registered) }
+        ensures fresh { unread_of (Self.meaning self.old).channel.registered (Self.meaning self.old).channel.readers ≡ None }
         ensures ok { OnOk result (Rechannels (Self.meaning self.old) (Self.meaning self.new) (with_reader (Self.meaning self.old).channel)) }
         ensures err { OnErr result (Keeps (Self.meaning self.old) (Self.meaning self.new)) };
 
@@ -39,12 +40,15 @@ pub trait MaybeTracked<T>: UnprotectedStorage<T> {
     fn end_reader(&mut self, id: ReaderId) -> Result<(), UnknownReader>
         ensures ok { OnOk result (is_some (unread_of id (Self.meaning self.old).channel.readers) ≡ true) }
         ensures err { OnErr result (unread_of id (Self.meaning self.old).channel.readers ≡ None) }
+        ensures room { (n : ℕ) → HasRoom (Self.meaning self.old).room n → HasRoom (Self.meaning self.new).room n }
         ensures turned { Rechannels (Self.meaning self.old) (Self.meaning self.new) (without_reader id (Self.meaning self.old).channel) }
         ensures unknown { OnErr result (Keeps (Self.meaning self.old) (Self.meaning self.new)) };
 
     /// Turns events on or off. An untracked storage stays as it is.
     fn emit_events(&mut self, on: bool)
         ensures tracked { (Self.meaning self.old).channel.tracked ≡ true → Rechannels (Self.meaning self.old) (Self.meaning self.new) (switched on (Self.meaning self.old).channel) }
+        ensures off { on ≡ false → (Self.meaning self.old).channel.tracked ≡ true → (Self.meaning self.new).room ≡ (Self.meaning self.new).inner_room }
+        ensures idle { on ≡ (Self.meaning self.old).channel.emission → (Self.meaning self.new).room ≡ (Self.meaning self.old).room }
         ensures untracked { (Self.meaning self.old).channel.tracked ≡ false → self.new ≡ self.old };
 }
 
@@ -209,6 +213,7 @@ where
     pub fn new_reader(&mut self) -> Result<ReaderId, AllocError>
         requires { self.old.channel.tracked ≡ true }
         ensures number { IfOk result (λ id. id ≡ self.old.channel.registered) }
+        ensures fresh { unread_of self.old.channel.registered self.old.channel.readers ≡ None }
         ensures ok { OnOk result (Turns self.old self.new (with_reader self.old.channel)) }
         ensures err { OnErr result (IsSame self.old self.new) }
     {
@@ -230,6 +235,7 @@ where
         requires { self.old.channel.tracked ≡ true }
         ensures ok { OnOk result (is_some (unread_of id self.old.channel.readers) ≡ true) }
         ensures err { OnErr result (unread_of id self.old.channel.readers ≡ None) }
+        ensures room { (n : ℕ) → HasRoom self.old.room n → HasRoom self.new.room n }
         ensures turned { Turns self.old self.new (without_reader id self.old.channel) }
         ensures unknown { OnErr result (IsSame self.old self.new) }
     {
@@ -239,7 +245,9 @@ where
     /// Turns the events of a tracked storage on or off.
     pub fn emit_events(&mut self, on: bool)
         requires { self.old.channel.tracked ≡ true }
-        ensures { Turns self.old self.new (switched on self.old.channel) }
+        ensures turned { Turns self.old self.new (switched on self.old.channel) }
+        ensures off { on ≡ false → self.new.room ≡ self.new.inner_room }
+        ensures idle { on ≡ self.old.channel.emission → self.new.room ≡ self.old.room }
     {
         self.inner.emit_events(on);
     }

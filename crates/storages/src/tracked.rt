@@ -133,6 +133,7 @@ where
         ensures needs_room { is_some self.new.room ≡ is_some self.old.room }
         ensures room { OnOk result ((n : ℕ) → HasRoom self.old.room (n + 1) → HasRoom self.new.room n) }
         ensures err { OnErr result (IsSame self.old self.new) }
+        ensures inner_room { self.new.inner_room ≡ self.old.inner_room }
         ensures succeeds { self.old.channel.emission ≡ true → HasRoom self.old.room 1 → IsOk result }
         ensures unheard { is_read self.old.channel.readers ≡ false → IsOk result }
     {
@@ -144,7 +145,9 @@ where
 
     /// Turns events on or off.
     pub fn set_event_emission(&mut self, on: bool)
-        ensures { Turns self.old self.new (switched on self.old.channel) }
+        ensures turned { Turns self.old self.new (switched on self.old.channel) }
+        ensures off { on ≡ false → self.new.room ≡ self.new.inner_room }
+        ensures idle { on ≡ self.old.channel.emission → self.new.room ≡ self.old.room }
     {
         self.inner.set_event_emission(on);
     }

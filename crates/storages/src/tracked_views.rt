@@ -89,6 +89,7 @@ where
         ensures needs_room { is_some (slot self.new).room ≡ is_some (slot self.old).room }
         ensures room { OnOk result ((n : ℕ) → HasRoom (slot self.old).room (n + 1) → HasRoom (slot self.new).room n) }
         ensures err { OnErr result (IsSame (slot self.old) (slot self.new)) }
+        ensures inner_room { (slot self.new).inner_room ≡ (slot self.old).inner_room }
         ensures succeeds { (slot self.old).channel.emission ≡ true → HasRoom (slot self.old).room 1 → IsOk result }
         ensures unheard { is_read (slot self.old).channel.readers ≡ false → IsOk result }
         ensures entities { entities_of self.new ≡ entities_of self.old }
@@ -114,6 +115,8 @@ where
     /// Turns events on or off. Ports `Storage::set_event_emission`.
     pub fn set_event_emission(&mut self, on: bool)
         ensures slot { Turns (slot self.old) (slot self.new) (switched on (slot self.old).channel) }
+        ensures off { on ≡ false → (slot self.new).room ≡ (slot self.new).inner_room }
+        ensures idle { on ≡ (slot self.old).channel.emission → (slot self.new).room ≡ (slot self.old).room }
         ensures entities { entities_of self.new ≡ entities_of self.old }
         ensures same_reference { storage_name self.new ≡ storage_name self.old }
     {

@@ -7,7 +7,7 @@ ghost use Rattle.hibits.specs.Left.{left};
 ghost use Rattle.storages.specs.declared.event.ComponentEvent.{ComponentEvent};
 ghost use Rattle.storages.specs.declared.event.ComponentEvent.TheVariants.{Inserted};
 ghost use Rattle.storages.specs.Limit.{IsIndex};
-ghost use Rattle.storages.specs.Meaning.{Meaning, Puts, Frees, Keeps, Empties, IsNew, IsReady, HasRoom, IsWanted, Masks, lends_at};
+ghost use Rattle.storages.specs.Meaning.{Meaning, Puts, Frees, Keeps, Empties, IsNew, IsReady, HasRoom, has_place, IsWanted, Masks, lends_at};
 
 use crate::event::ComponentEvent;
 use hibits::{BitSet, Index};
@@ -58,13 +58,14 @@ pub trait UnprotectedStorage<T>: TryDefault + Drop {
         ensures succeeds { IsReady (meaning self.old) → IsOk result };
 
     /// Puts a component at an index that has none. Where memory is refused nothing has changed, and the component is
-    /// handed back.
+    /// handed back. Where the place of the index is there already, memory is asked for the event alone.
     fn insert(&mut self, id: Index, value: T) -> Result<(), (AllocError, T)>
         requires free { (meaning self.old).is_free id ≡ true }
         requires limit { IsIndex id }
         ensures ok { OnOk result (Puts (meaning self.old) (meaning self.new) id value (ComponentEvent.Inserted id)) }
         ensures err { OnErr result (Keeps (meaning self.old) (meaning self.new)) }
-        ensures value_returned { IfErr result (λ e. e.1 ≡ value) };
+        ensures value_returned { IfErr result (λ e. e.1 ≡ value) }
+        ensures succeeds { has_place (meaning self.old) id ≡ true → IsReady (meaning self.old) → IsOk result };
 
     /// Takes the component of an index that has one out. Memory may be refused for a tracked storage's event; then
     /// nothing has changed.

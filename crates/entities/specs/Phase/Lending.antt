@@ -9,12 +9,12 @@ use Rattle.entities.specs.declared.phase.pass.Pass.{Pass}
 use Rattle.entities.specs.declared.phase.shared.Opened.{Opened}
 use Rattle.entities.specs.contracts.entities_res.EntitiesRes as whole
 
-abbrev pub KeepsPopulation : MutBor Census → Census → Type 0
-KeepsPopulation s c = (population c ≡ population s.now) × (s.now.room ≤ c.room)
+abbrev pub KeepsPopulationAndRoom : MutBor Census → Census → Type 0
+KeepsPopulationAndRoom s c = (population c ≡ population s.now) × (s.now.room ≤ c.room)
 
 abbrev pub name_of_phase : Opened Board × Vec Pass → ℕ
 name_of_phase r = r.0.entities.ghost_name
 
 -- without a phase their population is as it was, and as much room is kept
 abbrev pub OpenRests : MutBor Census → Result (Opened Board × Vec Pass) OpenError → Fml
-OpenRests s r = RestsIfErr whole.the_row s name_of_phase r (KeepsPopulation s)
+OpenRests s r = RestsIfErr whole.the_row s name_of_phase r (KeepsPopulationAndRoom s)
