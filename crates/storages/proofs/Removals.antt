@@ -1,5 +1,5 @@
 -- On the removal of the components of a list of entities.
-use Rattle.std.proofs.Common.{◌≡◌, ℕ, ◌+◌, Bool, true, false, nat_eq, cond, List, ◌∷◌, refl, ap, sym, ◌∙◌, Some, None, is_some, not, ◌&&◌, ◌||◌, length, suc, arith, add-one, ◌<◌, drop, get_or, subst}
+use Rattle.std.proofs.Common.{◌≡◌, ℕ, ◌+◌, Bool, true, false, nat_eq, cond, List, [], ◌∷◌, refl, ap, sym, ◌∙◌, Some, None, is_some, not, ◌&&◌, ◌||◌, length, suc, arith, add-one, ◌<◌, drop, get_or, subst}
 use Rattle.std.proofs.lemmas.List.{drop_more}
 use Rattle.std.specs.Prelude.{Option}
 use Rattle.std.specs.FinMap as map
@@ -102,6 +102,13 @@ pub record IsOnTheWay {T : Type 0} (s s₀ : Slot T) (es es₀ : List Entity) : 
   pub none_left : lost_of es₀ s₀ ≡ [] → lost_of es s ≡ []
   pub order : lost_of es₀ s₀ ≡ [] → s.order ≡ s₀.order
 
+no_more : (n : ℕ) → 0 ≡ suc n → ⊥
+no_more n e = omega (arith, e)
+
+none_of_none : (xs : List ℕ) → length xs ≡ 0 → xs ≡ []
+none_of_none [] e = refl
+none_of_none (x ∷ xs) e = absurd (no_more (length xs) (sym e))
+
 module _ {T : Type 0} (s s₀ : Slot T) (e : Entity) (es es₀ : List Entity) (w : IsOnTheWay s s₀ (e ∷ es) es₀) where
   pub way_on : (t : Slot T) → map.contains_key s.map (index_of e) ≡ true → Becomes s t (map.remove s.map (index_of e)) (Removed (index_of e)) → IsOnTheWay t s₀ es es₀
   way_on t h b = record {
@@ -116,10 +123,9 @@ module _ {T : Type 0} (s s₀ : Slot T) (e : Entity) (es es₀ : List Entity) (w
     none_left = λ q. absurd (one_is_lost q);
     order = λ q. absurd (one_is_lost q);
   }
-
     where
-      one_is_lost : lost_of es₀ s₀ ≡ [] → Empty
-      one_is_lost q = zero_or_more (length (lost_of es t)) (sym (ap length (w.none_left q)) ∙ step-count e es s t h b)
+      one_is_lost : lost_of es₀ s₀ ≡ [] → ⊥
+      one_is_lost q = no_more (length (lost_of es t)) (sym (ap length (w.none_left q)) ∙ step-count e es s t h b)
 
   pub way_past : map.contains_key s.map (index_of e) ≡ false → IsOnTheWay s s₀ es es₀
   way_past h = record {

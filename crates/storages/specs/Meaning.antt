@@ -1,5 +1,5 @@
 -- What the state of a storage means, and what each call makes of it.
-use Rattle.std.specs.Prelude.{◌≡◌, ◌≢◌, ℕ, ◌+◌, ◌≤◌, max, Bool, true, false, Option, Some, None, List, [], is_some, option_map, IsTrue, Result, IsOk, OnErr, length, ◌||◌}
+use Rattle.std.specs.Prelude.{◌≡◌, ◌≢◌, ℕ, ◌+◌, ◌≤◌, max, Bool, true, false, Option, Some, None, List, [], is_some, option_map, IsTrue, Result, IsOk, OnErr, length, ◌||◌, nat_lt}
 use Rattle.std.specs.Ordering.{nat_cmp}
 use Rattle.std.specs.FinSet as set
 use Rattle.std.specs.Borrow.{RattleType, MutBor, Fml, follows_so, name_if_ok}
@@ -46,7 +46,7 @@ extent_cleared n = option_map (λ _. 0) n
 -- the slice, if there is one, has a place for the index
 abbrev pub reaches : Option ℕ → ℕ → Bool
 reaches None i = false
-reaches (Some n) i = i <? n
+reaches (Some n) i = nat_lt i n
 
 module _ {T : Type 0} where
   -- a call on one index: the others that have a value keep it, its event is emitted, and it takes room for one event
