@@ -119,7 +119,7 @@ where
 impl<J: Join> Iterator for JoinIter<J> {
     type Item = J::Type;
 
-    ghost next_gives = { λ s r t. (t.keys.mask ≡ s.keys.mask) × GivesNext (J.Mask.has s.keys.mask 0) (J.value_gives s.values) s.keys.position t.keys.position r };
+    ghost next_gives = { λ s r t. (t.keys.mask ≡ s.keys.mask) × GivesNext (J.Mask.has s.keys.mask 0) (J.value_gives s.values) s.keys.position t.keys.position r × IfNone r (left (J.Mask.has t.keys.mask 0) t.keys.position ≡ []) × ((i : ℕ) (x : J.Type) → t.keys.position ≤ i → J.value_gives t.values i x → J.value_gives s.values i x) };
 
     ghost remaining = { item_count (λ s. left (J.Mask.has s.keys.mask 0) s.keys.position) };
 

@@ -22,10 +22,17 @@ pub record IsOnTheWay {T : Type 0} (s s₀ : Slot T) (is : List ℕ) (ys : List 
   pub extent : s.extent ≡ s₀.extent
   pub channel : modified is ys s.channel ≡ modified is₀ ys₀ s₀.channel
   pub needs_room : is_some s.room ≡ is_some s₀.room
+  pub order : s.order ≡ s₀.order
+  pub needs_inner : is_some s.inner_room ≡ is_some s₀.inner_room
+  pub spare : (n : ℕ) → HasRoom s₀.room (n + somes ys₀) → HasRoom s.room (n + somes ys)
+  pub inner_spare : (n : ℕ) → HasRoom s₀.inner_room (n + somes ys₀) → HasRoom s.inner_room (n + somes ys)
   pub room : HasRoom s.room (somes ys)
   pub lengths : length is ≡ length ys
 
 module _ {T : Type 0} (s s₀ : Slot T) (i : ℕ) (is : List ℕ) (ys : List (Option T)) (is₀ : List ℕ) (ys₀ : List (Option T)) where
+  same_room : (r : Option ℕ) (a b : ℕ) → a ≡ b → HasRoom r a → HasRoom r b
+  same_room r a b e h = subst (λ (k : ℕ). HasRoom r k) e h
+
   some_room : (r : Option ℕ) (n : ℕ) → HasRoom r (n + 1) → HasRoom r 1
   some_room None n h = tt
   some_room (Some m) n h = omega (arith, h)
@@ -40,6 +47,10 @@ module _ {T : Type 0} (s s₀ : Slot T) (i : ℕ) (is : List ℕ) (ys : List (Op
     extent = b.extent ∙ w.extent;
     channel = ap (modified is ys) b.channel ∙ w.channel;
     needs_room = b.needs_room ∙ w.needs_room;
+    order = b.order ∙ w.order;
+    needs_inner = b.needs_inner ∙ w.needs_inner;
+    spare = λ n h. b.room (n + somes ys) (same_room s.room (n + (somes ys + 1)) (n + somes ys + 1) (omega arith) (w.spare n h));
+    inner_spare = λ n h. b.inner_room (n + somes ys) (same_room s.inner_room (n + (somes ys + 1)) (n + somes ys + 1) (omega arith) (w.inner_spare n h));
     room = b.room (somes ys) w.room;
     keys = λ q. keys q ∙ w.keys q;
     lengths = omega (arith, w.lengths);
@@ -51,6 +62,10 @@ module _ {T : Type 0} (s s₀ : Slot T) (i : ℕ) (is : List ℕ) (ys : List (Op
     extent = w.extent;
     channel = w.channel;
     needs_room = w.needs_room;
+    order = w.order;
+    needs_inner = w.needs_inner;
+    spare = w.spare;
+    inner_spare = w.inner_spare;
     room = w.room;
     keys = w.keys;
     lengths = omega (arith, w.lengths);
@@ -58,7 +73,16 @@ module _ {T : Type 0} (s s₀ : Slot T) (i : ℕ) (is : List ℕ) (ys : List (Op
 
 -- nothing is left
 pub arrived : {T : Type 0} (s s₀ : Slot T) (is : List ℕ) (is₀ : List ℕ) (ys₀ : List (Option T)) → IsOnTheWay s s₀ is [] is₀ ys₀ → Replaces s₀ s is₀ ys₀
-arrived s s₀ [] is₀ ys₀ w = record { map = w.map; extent = w.extent; channel = w.channel; needs_room = w.needs_room }
+arrived s s₀ [] is₀ ys₀ w = record {
+  map = w.map;
+  extent = w.extent;
+  order = w.order;
+  channel = w.channel;
+  needs_room = w.needs_room;
+  room = λ n h. subst (λ (k : ℕ). HasRoom s.room k) (let e : n + 0 ≡ n = omega arith in e) (w.spare n h);
+  needs_inner = w.needs_inner;
+  inner_room = λ n h. subst (λ (k : ℕ). HasRoom s.inner_room k) (let e : n + 0 ≡ n = omega arith in e) (w.inner_spare n h);
+}
 arrived s s₀ (i ∷ is) is₀ ys₀ w = absurd (omega (arith, w.lengths))
 
 -- one step over the lists
@@ -106,6 +130,10 @@ after_room s s₁ s₂ is ys a b = record {
   extent = b.extent ∙ a.extent;
   channel = b.channel ∙ ap (modified is ys) a.channel;
   needs_room = b.needs_room ∙ a.needs_room;
+  order = b.order ∙ a.order;
+  room = λ n h. b.room n (a.room (n + somes ys) h);
+  needs_inner = b.needs_inner ∙ a.needs_inner;
+  inner_room = λ n h. b.inner_room n (a.inner_room (n + somes ys) h);
 }
 
 -- each index of a list is one of both

@@ -9,6 +9,7 @@ use Rattle.std.specs.Ordering.{nat_cmp}
 use Rattle.storages.specs.declared.event.ComponentEvent.TheVariants.{Modified}
 use Rattle.storages.specs.Channel.{Channel, emitted}
 use Rattle.storages.specs.Slot.{Slot}
+use Rattle.storages.specs.Meaning.{HasRoom}
 
 module _ {T : Type 0} where
   -- how many values there are
@@ -40,8 +41,12 @@ module _ {T : Type 0} where
   pub record Replaces (s s' : Slot T) (is : List ℕ) (ys : List (Option T)) : Type 0 where
     pub map : s'.map ≡ put_all is ys s.map
     pub extent : s'.extent ≡ s.extent
+    pub order : s'.order ≡ s.order
     pub channel : s'.channel ≡ modified is ys s.channel
     pub needs_room : is_some s'.room ≡ is_some s.room
+    pub room : (n : ℕ) → HasRoom s.room (n + somes ys) → HasRoom s'.room n
+    pub needs_inner : is_some s'.inner_room ≡ is_some s.inner_room
+    pub inner_room : (n : ℕ) → HasRoom s.inner_room (n + somes ys) → HasRoom s'.inner_room n
 
 -- Each component at an index of a list, and what stands there beside it, was asked for a value, and each value that there was is the
 -- component now, by one replacement after another.

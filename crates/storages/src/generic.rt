@@ -1,6 +1,7 @@
 //! Reading and writing through whatever view.
-ghost use Rattle.std.specs.Prelude.{◌≡◌, ◌↔◌, Option, Some, None, Ok, Err, true, false, is_some, IfOk, IfErr, IsOk, OnOk, OnErr, IsSome, option_copied};
+ghost use Rattle.std.specs.Prelude.{refl, ◌≡◌, ◌↔◌, Option, Some, None, Ok, Err, true, false, is_some, IfOk, IfErr, IsOk, OnOk, OnErr, IsSome, option_copied};
 ghost use Rattle.std.specs.Borrow.{sem};
+ghost use Rattle.std.proofs.Common.{◌∙◌};
 ghost use Rattle.entities.specs.declared.entity.Entity.{Entity};
 ghost use Rattle.entities.specs.Census.{Census, population};
 ghost use Rattle.entities.specs.Population.{generation_now, index_of};
@@ -79,6 +80,11 @@ pub trait GenericWriteStorage {
     // The views are of the same storage: what is done to the later is done to the one behind the first.
     ghost SameView: { Self → Self → Type 0 };
 
+    // Each view is one of its own storage, and a view of a later one's storage is one of the first's.
+    ghost same_itself: { (v : Self) → SameView v v };
+
+    ghost same_on: { (u v w : Self) → SameView u v → SameView v w → SameView u w };
+
     /// The component of an entity that is alive, to write to.
     fn get_mut(&mut self, entity: Entity) -> Result<&mut Self::Component, NotLent>
         ensures* writes_back { sem 𝓛 (lends_seen Self.row Self.Component.row sight SameView self.entry entity result) }
@@ -134,6 +140,10 @@ impl<'a, T: Component + Drop> GenericWriteStorage for WriteStorage<'a, T> {
 
     ghost SameView = { λ v w. storage_name w ≡ storage_name v };
 
+    ghost same_itself = { λ v. refl };
+
+    ghost same_on = { λ u v w a b. b ∙ a };
+
     #[inline]
     fn get_mut(&mut self, entity: Entity) -> Result<&mut T, NotLent> {
         WriteStorage::get_mut(self, entity)
@@ -170,6 +180,10 @@ impl<S: GenericWriteStorage> GenericWriteStorage for &mut S {
     ghost sight = { λ v. S.sight v.now };
 
     ghost SameView = { λ v w. (w.ghost_name ≡ v.ghost_name) × S.SameView v.now w.now };
+
+    ghost same_itself = { λ v. (refl, S.same_itself v.now) };
+
+    ghost same_on = { λ u v w a b. (b.0 ∙ a.0, S.same_on u.now v.now w.now a.1 b.1) };
 
     #[inline]
     fn get_mut(&mut self, entity: Entity) -> Result<&mut S::Component, NotLent> {
