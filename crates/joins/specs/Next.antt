@@ -1,5 +1,5 @@
 -- The step of a walk to its next index.
-use Rattle.std.specs.Prelude.{◌≡◌, ℕ, Bool, [], ◌∷◌, Option, MatchOption}
+use Rattle.std.specs.Prelude.{◌≡◌, ◌≤◌, ℕ, Bool, [], ◌∷◌, Option, MatchOption}
 use Rattle.hibits.specs.Left.{left}
 
 -- the walk goes from a place to behind the next index, or nothing is left from there on
@@ -9,3 +9,7 @@ StepsTo has from to found = MatchOption found (left has from ≡ []) (λ i. left
 -- the same, with what is given at that index
 abbrev pub GivesNext : {R : Type 0} → (ℕ → Bool) → (ℕ → R → Type 0) → ℕ → ℕ → Option R → Type 0
 GivesNext has gives from to found = MatchOption found (left has from ≡ []) (λ r. (i : ℕ) × (left has from ≡ i ∷ left has to) × gives i r)
+
+-- what is given behind a place by what is left was to be given before
+abbrev pub GivesLater : {R : Type 0} → (ℕ → R → Type 0) → (ℕ → R → Type 0) → ℕ → Type 0
+GivesLater {R} gives gives' from = (i : ℕ) (r : R) → from ≤ i → gives' i r → gives i r

@@ -4,7 +4,7 @@ ghost use Rattle.std.specs.Iterator.{item_count, MakesProgress};
 ghost use Rattle.hibits.specs.Left.{left};
 ghost use Rattle.entities.specs.Census.{population};
 ghost use Rattle.entities.specs.Population.{index_of, IsAlive};
-ghost use Rattle.joins.specs.Next.{GivesNext};
+ghost use Rattle.joins.specs.Next.{GivesNext, GivesLater};
 
 use crate::join::Join;
 use crate::lookup::Lookup;
@@ -119,7 +119,10 @@ where
 impl<J: Join> Iterator for JoinIter<J> {
     type Item = J::Type;
 
-    ghost next_gives = { λ s r t. (t.keys.mask ≡ s.keys.mask) × GivesNext (J.Mask.has s.keys.mask 0) (J.value_gives s.values) s.keys.position t.keys.position r × IfNone r (left (J.Mask.has t.keys.mask 0) t.keys.position ≡ []) × ((i : ℕ) (x : J.Type) → t.keys.position ≤ i → J.value_gives t.values i x → J.value_gives s.values i x) };
+    ghost next_gives = { λ s r t. (t.keys.mask ≡ s.keys.mask)
+        × GivesNext (J.Mask.has s.keys.mask 0) (J.value_gives s.values) s.keys.position t.keys.position r
+        × IfNone r (left (J.Mask.has t.keys.mask 0) t.keys.position ≡ [])
+        × GivesLater (J.value_gives s.values) (J.value_gives t.values) t.keys.position };
 
     ghost remaining = { item_count (λ s. left (J.Mask.has s.keys.mask 0) s.keys.position) };
 

@@ -6,6 +6,7 @@ ghost use Rattle.std.specs.Option.{ForSome};
 ghost use Rattle.hibits.specs.Sets.{has_part};
 ghost use Rattle.hibits.specs.WalkOf.{IsWalkOf};
 ghost use Rattle.joins.specs.Keys.{keys_of};
+ghost use Rattle.storages.specs.Limit.{IsIndex};
 
 use crate::change_set::ChangeSet;
 use crate::combine::Combine;
@@ -49,6 +50,7 @@ impl<'a, T: Combine + Drop, J: Join> ChangeJoin<'a, T, J> {
         ensures ended { IfNone result (rest self.new ≡ []) }
         ensures here { here self.new ≡ result }
         ensures there { IfSome result (λ i. map.contains_key (values self.old) i ≡ true) }
+        ensures limit { IfSome result IsIndex }
         ensures given { is_given self.new ≡ false }
         ensures gives { (i : ℕ) (r : J.Type) → gives self.new i r → gives self.old i r }
     {

@@ -7,6 +7,7 @@ ghost use Rattle.entities.specs.Population.{index_of};
 ghost use Rattle.hibits.specs.Sets.{has_part};
 ghost use Rattle.hibits.specs.WalkOf.{IsWalkOf};
 ghost use Rattle.joins.specs.Keys.{keys_of};
+ghost use Rattle.storages.specs.Limit.{IsIndex};
 
 use crate::cursors::steps::Steps;
 use crate::join::Join;
@@ -99,6 +100,7 @@ impl<'a, 'b, T: Component, J: Join> RestrictedStorageMut<'a, 'b, T, J> {
         ensures ended { IfNone result (rest self.new ≡ []) }
         ensures here { here self.new ≡ result }
         ensures there { IfSome result (λ i. map.contains_key (slot self.old).map i ≡ true) }
+        ensures limit { IfSome result IsIndex }
         ensures given { is_given self.new ≡ false }
         ensures gives { (i : ℕ) (r : J.Type) → gives self.new i r → gives self.old i r }
     {

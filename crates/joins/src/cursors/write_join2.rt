@@ -6,6 +6,7 @@ ghost use Rattle.std.specs.Option.{ForSome};
 ghost use Rattle.hibits.specs.Sets.{has_part};
 ghost use Rattle.hibits.specs.WalkOf.{IsWalkOf};
 ghost use Rattle.joins.specs.Keys.{keys_of};
+ghost use Rattle.storages.specs.Limit.{IsIndex};
 
 use crate::cursors::steps::Steps;
 use crate::join::Join;
@@ -62,6 +63,9 @@ impl<'a, 'b, A: Component, B: Component, J: Join> WriteJoin2<'a, 'b, A, B, J> {
         ensures rest { MatchOption result (rest self.old ≡ []) (λ i. rest self.old ≡ i ∷ rest self.new) }
         ensures ended { IfNone result (rest self.new ≡ []) }
         ensures here { here self.new ≡ result }
+        ensures there_first { IfSome result (λ i. map.contains_key (first_slot self.old).map i ≡ true) }
+        ensures there_second { IfSome result (λ i. map.contains_key (second_slot self.old).map i ≡ true) }
+        ensures limit { IfSome result IsIndex }
         ensures given { is_given self.new ≡ false }
         ensures gives { (i : ℕ) (r : J.Type) → gives self.new i r → gives self.old i r }
     {
