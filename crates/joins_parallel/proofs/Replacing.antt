@@ -142,3 +142,12 @@ each_left p q xs e k d lt = both_left (p (get_or xs k d)) (q (get_or xs k d)) (r
 
 pub each_right : (p q : ℕ → Bool) (xs : List ℕ) → xs ≡ left (λ i. p i && q i) 0 → (k d : ℕ) → k < length xs → q (get_or xs k d) ≡ true
 each_right p q xs e k d lt = both_right (p (get_or xs k d)) (q (get_or xs k d)) (rw e (left-each (λ i. p i && q i) 0 k d (rw e at lt)))
+
+-- nothing was made, so no room is wanted
+pub room_for_none : {T : Type 0} (o : Option ℕ) (ys : List (Option T)) → length ys ≡ 0 → HasRoom o (somes ys)
+room_for_none o [] e = none_wanted o
+  where
+    none_wanted : (o : Option ℕ) → HasRoom o 0
+    none_wanted None = tt
+    none_wanted (Some n) = omega arith
+room_for_none o (y ∷ ys) e = absurd (omega (arith, e))

@@ -1,9 +1,11 @@
 //! Components that threads change in their places.
-ghost use Rattle.std.specs.Prelude.{◌≡◌, ◌<◌, ℕ, true, false, List, length, slice_get, slice_index_or, refl, IfOk, OnOk, OnErr};
+ghost use Rattle.std.specs.Prelude.{◌≡◌, ◌<◌, ℕ, true, false, List, length, slice_get, slice_index_or, refl, [], IfOk, IsOk, OnOk, OnErr};
 ghost use Rattle.std.specs.Borrow.{MutBor};
 ghost use Rattle.std.specs.FinMap as map;
 ghost use Rattle.std.specs.FinSet as set;
+ghost use Rattle.hibits.specs.Left.{left};
 ghost use Rattle.joins_parallel.specs.InPlace.{MayLeave, ChangedAt, OnlyChanges};
+ghost use Rattle.joins_parallel.specs.Replacing.{both_have};
 
 use crate::pieces::LEAST_SHARED;
 use hibits::{BitIter, BitSet, BitSetAnd, INDEX_LIMIT, Index, Layers};
@@ -25,6 +27,7 @@ impl<T: Default + Drop> Placed<T> for DefaultVecStorage<T> {
 fn members_of<M: Layers + Drop>(alloc: Global, mask: M) -> Result<BitSet, AllocError>
     ensures members { IfOk result (λ b. (i : ℕ) → i < INDEX_LIMIT → set.contains b.members i ≡ M.has mask 0 i) }
     ensures below { IfOk result (λ b. (i : ℕ) → set.contains b.members i ≡ true → i < INDEX_LIMIT) }
+    ensures idle { left (M.has mask 0) 0 ≡ [] → IsOk result }
 {
     let mut walk = BitIter::new(mask);
     let mut members = BitSet::new(alloc);
@@ -70,7 +73,7 @@ fn change_each<T: Send, I, V: Lookup<I> + Sync, F: Fn(&mut T, I) + Sync>(
 /// are processors, below 2,048 places in the caller's. Each component is written in its place, so no answers are kept; the indices are collected
 /// first. Threads have to be started, so for little work a loop over a cursor is faster.
 ///
-/// After an error nothing has changed: memory was refused for the indices. Stands for `rayon`'s `for_each` on `specs::join::ParJoin::par_join`
+/// After an error nothing has changed: memory was refused for the indices. Where the two share no index it is not refused. Stands for `rayon`'s `for_each` on `specs::join::ParJoin::par_join`
 /// over a storage to write to, for storages that have each component at its index's place.
 pub fn par_for_each<T: Component + Send, J: RepeatableJoin, F: Fn(&mut T, J::Type) + Sync + Drop>(
     rt: &(impl Threads + Alloc<A = Global> + Sync),
@@ -86,6 +89,7 @@ where
     ensures others { OnOk result ((i : ℕ) → J.has join i ≡ false → map.get storage.new.map i ≡ map.get storage.old.map i) }
     ensures rest { OnOk result (OnlyChanges storage.old storage.new) }
     ensures err { OnErr result (storage.new ≡ storage.old) }
+    ensures idle { both_have storage.old (J.has join) ≡ [] → IsOk result }
 {
     let (mask, values) = join.open();
     let members = members_of(rt.alloc(), BitSetAnd(storage.mask(), mask))?;

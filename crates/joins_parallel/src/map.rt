@@ -1,5 +1,5 @@
 //! A join that is mapped in several threads.
-ghost use Rattle.std.specs.Prelude.{◌≡◌, IfOk, Ok, length};
+ghost use Rattle.std.specs.Prelude.{◌≡◌, [], IfOk, IsOk, Ok, length};
 ghost use Rattle.std.specs.List.{AllZip};
 ghost use Rattle.hibits.specs.Left.{left};
 
@@ -39,14 +39,15 @@ where
     /// first; below 2,048 of them it stays in the caller's thread. Where the calls of `f` together take less than some 0.5 ms, a loop over
     /// `Join::join` is faster.
     ///
-    /// Where memory is refused there is no list, and some calls of `f` may have been made.
+    /// Where memory is refused there is no list, and some calls of `f` may have been made. Where the join has no index it is not refused.
     pub fn map_collect<R: Send + Drop, F: Fn(J::Type) -> R + Sync + Drop>(
         self,
         rt: &(impl Threads + Alloc<A = Global> + Sync),
         f: F,
     ) -> Result<Vec<R>, AllocError>
         requires called { (x : J.Type) → F.pre f x }
-        ensures { IfOk result (λ v. AllZip (λ i y. (x : J.Type) × J.gives self.join i x × F.post f x y) (left (J.has self.join) 0) v.items) }
+        ensures idle { left (J.has self.join) 0 ≡ [] → IsOk result }
+        ensures made { IfOk result (λ v. AllZip (λ i y. (x : J.Type) × J.gives self.join i x × F.post f x y) (left (J.has self.join) 0) v.items) }
     {
         let alloc = rt.alloc();
         let (mask, values) = self.join.open();

@@ -1,5 +1,5 @@
 //! Lists that are mapped piece by piece, in threads.
-ghost use Rattle.std.specs.Prelude.{◌≡◌, ℕ, ◌+◌, ◌<◌, true, [], ◌∷◌, IfOk, length, vec_len, flat_map};
+ghost use Rattle.std.specs.Prelude.{◌≡◌, ℕ, ◌+◌, ◌<◌, true, [], ◌∷◌, IfOk, IsOk, length, vec_len, flat_map};
 ghost use Rattle.std.specs.List.{AllZip, All};
 ghost use Rattle.hibits.specs.Left.{left};
 
@@ -14,7 +14,8 @@ pub(crate) const LEAST_SHARED: usize = 2048;
 
 /// The members, ascending.
 pub(crate) fn indices<M: Layers + Drop>(alloc: Global, mask: M) -> Result<Vec<Index>, AllocError>
-    ensures { IfOk result (λ v. v.items ≡ left (M.has mask 0) 0) }
+    ensures items { IfOk result (λ v. v.items ≡ left (M.has mask 0) 0) }
+    ensures idle { left (M.has mask 0) 0 ≡ [] → IsOk result }
 {
     let mut walk = BitIter::new(mask);
     let mut list = Vec::new(alloc);
@@ -45,7 +46,8 @@ pub(crate) fn piece<T, V: Lookup<T>, R: Drop, F: Fn(T) -> R>(
 ) -> Result<Vec<R>, AllocError>
     requires called { (x : T) → F.pre f.now x }
     requires ready { All (λ i. V.can_look values.now i ≡ true) part.now }
-    ensures { IfOk result (λ v. AllZip (λ i y. (x : T) × V.finds values.now i x × F.post f.now x y) part.now v.items) }
+    ensures made { IfOk result (λ v. AllZip (λ i y. (x : T) × V.finds values.now i x × F.post f.now x y) part.now v.items) }
+    ensures idle { part.now ≡ [] → IsOk result }
 {
     let mut made = Vec::new(alloc);
     made.reserve(part.len())?;
@@ -83,7 +85,8 @@ pub(crate) fn map_pieces<T, V: Lookup<T> + Sync, R: Send + Drop, F: Fn(T) -> R +
 ) -> Result<Vec<R>, AllocError>
     requires called { (x : T) → F.pre f.now x }
     requires ready { All (λ i. V.can_look values.now i ≡ true) list.now }
-    ensures { IfOk result (λ v. AllZip (λ i y. (x : T) × V.finds values.now i x × F.post f.now x y) list.now v.items) }
+    ensures made { IfOk result (λ v. AllZip (λ i y. (x : T) × V.finds values.now i x × F.post f.now x y) list.now v.items) }
+    ensures idle { list.now ≡ [] → IsOk result }
 {
     if list.len() < LEAST_SHARED {
         return piece(alloc, list, values, f);

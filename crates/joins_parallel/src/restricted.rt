@@ -1,5 +1,5 @@
 //! Components that are replaced by what threads made of the storage, paired with each index.
-ghost use Rattle.std.specs.Prelude.{◌≡◌, ◌<◌, ℕ, true, false, IfOk, OnOk, OnErr, Option, flat_map};
+ghost use Rattle.std.specs.Prelude.{◌≡◌, ◌<◌, ℕ, true, false, [], IfOk, IsOk, OnOk, OnErr, Option, flat_map};
 ghost use Rattle.std.specs.FinMap as map;
 ghost use Rattle.std.specs.List.{AllZip, All};
 ghost use Rattle.hibits.specs.Left.{left};
@@ -36,7 +36,8 @@ fn remade_piece<T: Component + Drop, I, V: Lookup<I>, F: Remake<T, I>>(
 ) -> Result<Vec<Option<T>>, AllocError>
     requires present { All (λ i. map.contains_key storage.now.map i ≡ true) part.now }
     requires ready { All (λ i. V.can_look values.now i ≡ true) part.now }
-    ensures { IfOk result (λ v. AllZip (λ i y. (x : Indexed T) × (z : I) × (x.slot ≡ storage.now) × (x.index ≡ i) × V.finds values.now i z × F.makes f.now x z y) part.now v.items) }
+    ensures made { IfOk result (λ v. AllZip (λ i y. (x : Indexed T) × (z : I) × (x.slot ≡ storage.now) × (x.index ≡ i) × V.finds values.now i z × F.makes f.now x z y) part.now v.items) }
+    ensures idle { part.now ≡ [] → IsOk result }
 {
     let mut made = Vec::new(alloc);
     made.reserve(part.len())?;
@@ -60,7 +61,8 @@ where
     T::Storage: Sync,
     requires present { All (λ i. map.contains_key storage.now.map i ≡ true) list.now }
     requires ready { All (λ i. V.can_look values.now i ≡ true) list.now }
-    ensures { IfOk result (λ v. AllZip (λ i y. (x : Indexed T) × (z : I) × (x.slot ≡ storage.now) × (x.index ≡ i) × V.finds values.now i z × F.makes f.now x z y) list.now v.items) }
+    ensures made { IfOk result (λ v. AllZip (λ i y. (x : Indexed T) × (z : I) × (x.slot ≡ storage.now) × (x.index ≡ i) × V.finds values.now i z × F.makes f.now x z y) list.now v.items) }
+    ensures idle { list.now ≡ [] → IsOk result }
 {
     if list.len() < LEAST_SHARED {
         return remade_piece(alloc, list, storage, values, f);
@@ -98,6 +100,7 @@ where
     ensures each { OnOk result ((i : ℕ) → i < INDEX_LIMIT → map.contains_key storage.old.map i ≡ true → J.has join i ≡ true → RemadeAt storage.old storage.new i (J.gives join) (F.makes f)) }
     ensures others { OnOk result ((i : ℕ) → J.has join i ≡ false → map.get storage.new.map i ≡ map.get storage.old.map i) }
     ensures err { OnErr result (IsSame storage.old storage.new) }
+    ensures idle { both_have storage.old (J.has join) ≡ [] → IsOk result }
 {
     let alloc = rt.alloc();
     let (mask, values) = join.open();

@@ -1,5 +1,5 @@
 //! Components that are replaced by what threads made of them.
-ghost use Rattle.std.specs.Prelude.{◌≡◌, ◌<◌, ℕ, Some, true, false, length, IfOk, OnOk, OnErr, IsSome, Option, flat_map};
+ghost use Rattle.std.specs.Prelude.{◌≡◌, ◌<◌, ℕ, Some, true, false, length, [], IfOk, IsOk, OnOk, OnErr, IsSome, Option, flat_map};
 ghost use Rattle.std.specs.Borrow.{Bor};
 ghost use Rattle.std.specs.FinMap as map;
 ghost use Rattle.std.specs.List.{AllZip, All};
@@ -77,7 +77,8 @@ fn made_piece<T: Component + Drop, I, V: Lookup<I>, F: Fn(&T, I) -> Option<T>>(
     requires called { (x : Bor T) (z : I) → F.pre f.now x z }
     requires present { All (λ i. map.contains_key storage.now.map i ≡ true) part.now }
     requires ready { All (λ i. V.can_look values.now i ≡ true) part.now }
-    ensures { IfOk result (λ v. AllZip (λ i y. (x : Bor T) × (z : I) × (map.get storage.now.map i ≡ Some x.now) × V.finds values.now i z × F.post f.now x z y) part.now v.items) }
+    ensures made { IfOk result (λ v. AllZip (λ i y. (x : Bor T) × (z : I) × (map.get storage.now.map i ≡ Some x.now) × V.finds values.now i z × F.post f.now x z y) part.now v.items) }
+    ensures idle { part.now ≡ [] → IsOk result }
 {
     let mut made = Vec::new(alloc);
     made.reserve(part.len())?;
@@ -106,7 +107,8 @@ where
     requires called { (x : Bor T) (z : I) → F.pre f.now x z }
     requires present { All (λ i. map.contains_key storage.now.map i ≡ true) list.now }
     requires ready { All (λ i. V.can_look values.now i ≡ true) list.now }
-    ensures { IfOk result (λ v. AllZip (λ i y. (x : Bor T) × (z : I) × (map.get storage.now.map i ≡ Some x.now) × V.finds values.now i z × F.post f.now x z y) list.now v.items) }
+    ensures made { IfOk result (λ v. AllZip (λ i y. (x : Bor T) × (z : I) × (map.get storage.now.map i ≡ Some x.now) × V.finds values.now i z × F.post f.now x z y) list.now v.items) }
+    ensures idle { list.now ≡ [] → IsOk result }
 {
     if list.len() < LEAST_SHARED {
         return made_piece(alloc, list, storage, values, f);
@@ -129,7 +131,8 @@ where
 /// `f` is called in as many threads as there are processors, below 2,048 indices in the caller's; the components are replaced ascending, each
 /// by one modification, after all calls. Where the calls of `f` together take less than some 0.5 ms, a loop that writes in place is faster.
 ///
-/// After an error nothing has changed: memory was refused for the answers, or for the events of a tracked storage. Stands for
+/// After an error nothing has changed: memory was refused for the answers, or for the events of a tracked storage. Where the two share no index
+/// it is not refused. Stands for
 /// `specs::join::ParJoin::par_join` over a storage to write to.
 pub fn par_update<
     T: Component + Drop + Send + Sync,
@@ -149,6 +152,7 @@ where
     ensures each { OnOk result ((i : ℕ) → i < INDEX_LIMIT → map.contains_key storage.old.map i ≡ true → J.has join i ≡ true → UpdatedAt storage.old storage.new i (J.gives join) (F.post f)) }
     ensures others { OnOk result ((i : ℕ) → J.has join i ≡ false → map.get storage.new.map i ≡ map.get storage.old.map i) }
     ensures err { OnErr result (IsSame storage.old storage.new) }
+    ensures idle { both_have storage.old (J.has join) ≡ [] → IsOk result }
 {
     let alloc = rt.alloc();
     let (mask, values) = join.open();

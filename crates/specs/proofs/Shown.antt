@@ -51,6 +51,9 @@ pub wants_none_as : {V W : Type 0} (f : V → W) (o : Option (Column V)) → Wan
 wants_none_as f None h = h
 wants_none_as f (Some c) h = h
 
+fresh_as : {V W : Type 0} (value : V → W) (c : Column V) → IsFresh c → IsFresh (column_as value c)
+fresh_as value c f = record { values = ap (each_as value) f.values ∙ fun_ext (λ i. refl); registered = f.registered; readers = f.readers; emission = f.emission; inner = f.inner }
+
 module _ {K L V W : Type 0} {slot : K → L} {value : V → W} {t t' : Table K V} {u u' : Table L W} (s : Shows slot value t t' u u') where
   shown_becomes : (k : K) (m : Column V) → Becomes t k m t' → Becomes u (slot k) (column_as value m) u'
   shown_becomes k m b = record {
@@ -82,11 +85,8 @@ module _ {K L V W : Type 0} {slot : K → L} {value : V → W} {t t' : Table K V
   pub shown_registers : (k : K) → Registers t k t' → Registers u (slot k) u'
   shown_registers k r = rw (s.before k) (by_option (t k) r)
     where
-      fresh_as : (c : Column V) → IsFresh c → IsFresh (column_as value c)
-      fresh_as c f = record { values = ap (each_as value) f.values ∙ fun_ext (λ i. refl); registered = f.registered; readers = f.readers; emission = f.emission; inner = f.inner }
-
       by_option : (o : Option (Column V)) → MatchOption o (Begins t k t') (λ _. t' ≡ t) → MatchOption (option_map (column_as value) o) (Begins u (slot k) u') (λ _. u' ≡ u)
-      by_option None b = record { column = column_as value b.column; fresh = fresh_as b.column b.fresh; becomes = shown_becomes k b.column b.becomes }
+      by_option None b = record { column = column_as value b.column; fresh = fresh_as value b.column b.fresh; becomes = shown_becomes k b.column b.becomes }
       by_option (Some m) e = shown_same e
 
   pub shown_inserts : (place : V → K) (place' : W → L) (p : Population) (e : Entity) (x : V) (before : Option V) → place' (value x) ≡ slot (place x)
@@ -233,3 +233,7 @@ no_values_as value m e = fun_ext (λ i. ap (λ (n : map.FinMap nat_cmp _). optio
 -- a slot where none was
 pub registers_as : {K V : Type 0} (slot : K) (old new : Table K V) (column : Column V) → old slot ≡ None → new slot ≡ Some column → ((k : K) → k ≢ slot → new k ≡ old k) → RegistersAs old slot column new
 registers_as slot old new column none here others = rw none (record { here = here; others = others })
+
+-- the same of one that begins
+pub registers_fresh : {K V W : Type 0} (value : V → W) (slot : K) (old new : Table K W) (column : Column V) → old slot ≡ None → new slot ≡ Some (column_as value column) → IsFresh column → ((k : K) → k ≢ slot → new k ≡ old k) → Registers old slot new
+registers_fresh value slot old new column none here fresh others = rw none (record { column = column_as value column; fresh = fresh_as value column fresh; becomes = record { here = here; others = others } })

@@ -1,9 +1,9 @@
 //! Calls by a component type: neither its slot, nor its place in the struct, nor the type of all values is written.
-ghost use Rattle.std.specs.Prelude.{◌≡◌, ℕ, true, Some, None, IsSome, IfSome, IfOk, OnOk, OnErr, IfErr};
+ghost use Rattle.std.specs.Prelude.{◌≡◌, ℕ, true, Some, None, IsSome, IfSome, IfOk, IsOk, OnOk, OnErr, IfErr};
 ghost use Rattle.std.specs.Option.{option_map};
 ghost use Rattle.entities.specs.Census.{population};
 ghost use Rattle.specs.specs.Registering.{RegistersAs, column_with};
-ghost use Rattle.specs.specs.Table.{Inserts, InsertIsRefused, Gets, Removes, Clears};
+ghost use Rattle.specs.specs.Table.{Registers, Inserts, InsertIsRefused, Gets, Removes, Clears};
 ghost use Rattle.specs.specs.Field.{FieldInserts, FieldGets, FieldRemoves, FieldClears, FieldInsertIsRefused, FieldGetIsRefused, FieldRemoveIsRefused, FieldClearIsRefused, field_column};
 
 use crate::command::Refusal;
@@ -11,7 +11,7 @@ use crate::duplicate::Duplicate;
 use crate::field;
 use crate::has::Has;
 use entities::{EntitiesRes, Entity};
-use std::alloc::Global;
+use std::alloc::{AllocError, Global};
 use storages::{Component, MaskedStorage};
 
 /// Puts a component at an entity that is alive, and answers the one before. A refused component is handed back, and nothing changed.
@@ -85,6 +85,25 @@ pub fn clear<T: Component, S: Has<T, I>, I>(storages: &mut S) -> Result<(), Refu
         Some(storage) => field::clear_in::<T>(storage),
         None => Err(Refusal::Unregistered),
     }
+}
+
+/// Makes an empty storage where none was, else changes nothing. Where the first value of its kind takes no memory, as of each kind of
+/// `storages`, it is not refused.
+pub fn register<T: Component, S: Has<T, I>, I>(
+    storages: &mut S,
+    alloc: Global,
+) -> Result<(), AllocError>
+    ensures ok { OnOk result (Registers (S.table storages.old) S.the_slot (S.table storages.new)) }
+    ensures succeeds { T.Storage.TakesNone → IsOk result }
+    ensures memory { OnErr result (S.table storages.old S.the_slot ≡ None) }
+    ensures err { OnErr result (S.table storages.new ≡ S.table storages.old) }
+    ensures ids { S.ids storages.new ≡ S.ids storages.old }
+{
+    if storages.field().is_none() {
+        let storage = field::empty(alloc)?;
+        storages.set_field(storage);
+    }
+    Ok(())
 }
 
 /// Takes an empty storage where none was, else lets it go and changes nothing. The slot has the readers and the emission that the storage

@@ -60,6 +60,7 @@ impl<S: Storages> Core<S> {
     /// A core without entities, over storages that are empty or not registered.
     #[tactic(auto, using(crate::specs::Living::begins))]
     pub fn new(alloc: Global, storages: S) -> Self
+        ensures storages { result.parts.storages ≡ storages }
         ensures people { (core_state S.table S.ids result).people ≡ no_one }
         ensures table { (core_state S.table S.ids result).table ≡ S.table storages }
         ensures ids { (core_state S.table S.ids result).ids ≡ S.ids storages }

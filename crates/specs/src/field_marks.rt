@@ -27,6 +27,7 @@ pub fn mark<M: Marker, A: MarkerAllocator<M>>(
     ensures err { OnErr result (field_column field.new ≡ field_column field.old) }
     ensures ids { IfOk result (λ given. LeftAfter given (A.ids allocator.old) (A.ids allocator.new)) }
     ensures err_ids { OnErr result (A.ids allocator.new ≡ A.ids allocator.old) }
+    ensures old_self { IfOk result (λ given. (given ≡ Some true → ⊥) → allocator.new ≡ allocator.old) }
     ensures old_map { IfOk result (λ given. (given ≡ Some true → ⊥) → A.mapping allocator.new ≡ A.mapping allocator.old) }
     ensures err_mapped { OnErr result (MayHaveGiven M.Identifier.eq (A.MayBeNew allocator.old) e (A.mapping allocator.old) (A.mapping allocator.new)) }
 {
@@ -49,6 +50,7 @@ fn mark_in<M: Marker, A: MarkerAllocator<M>>(
     ensures err { OnErr result (column_of storage.new ≡ column_of storage.old) }
     ensures ids { IfOk result (λ given. LeftAfter given (A.ids allocator.old) (A.ids allocator.new)) }
     ensures err_ids { OnErr result (A.ids allocator.new ≡ A.ids allocator.old) }
+    ensures old_self { IfOk result (λ given. (given ≡ Some true → ⊥) → allocator.new ≡ allocator.old) }
     ensures old_map { IfOk result (λ given. (given ≡ Some true → ⊥) → A.mapping allocator.new ≡ A.mapping allocator.old) }
     ensures err_mapped { OnErr result (MayHaveGiven M.Identifier.eq (A.MayBeNew allocator.old) e (A.mapping allocator.old) (A.mapping allocator.new)) }
 {
@@ -77,6 +79,7 @@ fn give<M: Marker, A: MarkerAllocator<M>>(
     ensures takes { IfOk result (λ given. given ≡ Some true → TakesOne (A.ids allocator.old) (A.ids allocator.new)) }
     ensures old_ids { IfOk result (λ given. (given ≡ Some true → ⊥) → A.ids allocator.new ≡ A.ids allocator.old) }
     ensures err_ids { OnErr result (A.ids allocator.new ≡ A.ids allocator.old) }
+    ensures old_self { IfOk result (λ given. (given ≡ Some true → ⊥) → allocator.new ≡ allocator.old) }
     ensures old_map { IfOk result (λ given. (given ≡ Some true → ⊥) → A.mapping allocator.new ≡ A.mapping allocator.old) }
     ensures err_mapped { OnErr result (MayHaveGiven M.Identifier.eq (A.MayBeNew allocator.old) e (A.mapping allocator.old) (A.mapping allocator.new)) }
     ensures used_up { result ≡ Err MarkError.IdsExhausted → A.ids allocator.old ≡ Some 0 }

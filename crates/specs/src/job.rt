@@ -1,5 +1,5 @@
 //! Jobs, and lists of them.
-ghost use Rattle.std.specs.Prelude.{◌≡◌, List, [], ◌∷◌, ◌++◌, ◌<◌, ◌^◌, length, IfOk, IfErr, OnOk, OnErr, IfSome, IfNone};
+ghost use Rattle.std.specs.Prelude.{◌≡◌, List, [], ◌∷◌, ◌++◌, ◌<◌, ◌^◌, length, IfOk, IsOk, IfErr, OnOk, OnErr, IfSome, IfNone};
 ghost use Rattle.std.specs.VecDeque.{deque_len, deque_capacity};
 ghost use Rattle.specs.specs.Queue.{queued, listed};
 ghost use Rattle.specs.specs.declared.job.Job.TheVariants.{Insert, InsertAll, Remove, Mark, Own};
@@ -155,12 +155,16 @@ impl<S: Storages, J: Drop> LazyUpdate<S, J> {
         Ok(())
     }
 
-    /// Queues the jobs of a list, in their order.
+    /// Queues the jobs of a list, in their order. The empty list is not refused.
     pub fn append(&mut self, mut list: JobList<S, J>) -> Result<(), (JobList<S, J>, AllocError)>
         ensures ok { OnOk result (queued self.new ≡ queued self.old ++ listed list) }
         ensures back { IfErr result (λ r. listed r.0 ≡ listed list) }
+        ensures idle { listed list ≡ [] → IsOk result }
         ensures err { OnErr result (queued self.new ≡ queued self.old) }
     {
+        if list.jobs.is_empty() {
+            return Ok(());
+        }
         match self.jobs.append(&mut list.jobs) {
             Ok(()) => Ok(()),
             Err(refused) => Err((list, refused)),

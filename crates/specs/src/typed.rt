@@ -1,5 +1,5 @@
 //! Storages of a core, by their component types.
-ghost use Rattle.std.specs.Prelude.{◌≡◌, ℕ, true, Some, None, IsSome, IfSome, IfOk, OnOk, OnErr};
+ghost use Rattle.std.specs.Prelude.{◌≡◌, ℕ, true, Some, None, IsSome, IfSome, IfOk, IsOk, OnOk, OnErr};
 ghost use Rattle.std.specs.Borrow.{sem};
 ghost use Rattle.storages.specs.ReadView as reading;
 ghost use Rattle.specs.specs.Registering.{RegistersAs, column_with};
@@ -23,15 +23,17 @@ use thiserror::Error;
 pub struct Unregistered;
 
 impl<S: Storages> Core<S> {
-    /// Makes an empty storage for a component type where none was, else changes nothing. Ports `WorldExt::register`.
+    /// Makes an empty storage for a component type where none was, else changes nothing. Where the first value of the storage's kind takes no
+    /// memory, as of each kind of `storages`, it is not refused. Ports `WorldExt::register`.
     pub fn register<T: Component, I>(&mut self) -> Result<(), AllocError>
     where
         S: Has<T, I>,
         ensures ok { OnOk result (OnTable (λ t t'. Registers t S.the_slot t') (core_state S.table S.ids self.old) (core_state S.table S.ids self.new)) }
+        ensures succeeds { T.Storage.TakesNone → IsOk result }
         ensures memory { OnErr result ((core_state S.table S.ids self.old).table S.the_slot ≡ None) }
         ensures err { OnErr result (core_state S.table S.ids self.new ≡ core_state S.table S.ids self.old) }
     {
-        self.parts.storages.register(self.alloc, S::slot())
+        by_type::register(&mut self.parts.storages, self.alloc)
     }
 
     /// Takes an empty storage for a component type where none was, else lets it go and changes nothing. The slot has the readers, the

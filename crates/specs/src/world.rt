@@ -41,6 +41,7 @@ pub struct World<S: Storages, J = NoJob> {
 impl<S: Storages, J: WorldJob<S>> World<S, J> {
     /// A world without entities and jobs, over storages that are empty or not registered.
     pub fn new(alloc: Global, storages: S) -> Self
+        ensures storages { result.parts.core.parts.storages ≡ storages }
         ensures people { (state_of S.table S.ids result).people ≡ no_one }
         ensures table { (state_of S.table S.ids result).table ≡ S.table storages }
         ensures ids { (state_of S.table S.ids result).ids ≡ S.ids storages }
@@ -102,10 +103,11 @@ impl<S: Storages, J: WorldJob<S>> World<S, J> {
         }
     }
 
-    /// Does commands in order, with room for all replies got first. Where that room was refused, nothing was done.
+    /// Does commands in order, with room for all replies got first. Where that room was refused, nothing was done. The empty list is not refused.
     pub fn run(&mut self, commands: Vec<Command<S, J>>) -> Result<Vec<Reply<S::Value>>, AllocError>
         ensures run { IfOk result (λ replies. Run S.place S.allocates S.marks J.does (world_state S.table S.ids self.old) commands.items replies.items (world_state S.table S.ids self.new)) }
         ensures err { OnErr result (world_state S.table S.ids self.new ≡ world_state S.table S.ids self.old) }
+        ensures idle { commands.items ≡ [] → IsOk result }
 
         // The laws of runs, as this run kept them.
         ensures living { OnlyLiving (state_of S.table S.ids self.old) → OnlyLiving (state_of S.table S.ids self.new) }

@@ -1,4 +1,4 @@
-use Rattle.std.proofs.Common.{rules, ℕ, ◌≡◌, ◌≤◌, ◌<◌, true, ◌∙◌, sym, subst}
+use Rattle.std.proofs.Common.{rules, refl, ℕ, ◌≡◌, ◌≤◌, ◌<◌, true, ◌∙◌, sym, subst}
 use Rattle.hibits.specs.declared.limits.TheConstants.{INDEX_LIMIT}
 use Rattle.hibits.specs.Walks.{IsNext}
 use Rattle.joins_parallel.proofs.InPlace.{HasPassed, passed_none, passed_next, passed_all, passed_below}
@@ -17,4 +17,5 @@ pub returns : goal.returns
 returns g c = let mask = c.loop-i.invariant.0 in record {
   members = passed_all _ _ _ c.loop-i.invariant.1 (subst (λ m. (i : ℕ) → c.loop-i.walk.position ≤ i → i < INDEX_LIMIT → g.M.Layers.has m 0 i ≡ true → ⊥) mask c.in_default.ensures.end);
   below = passed_below _ _ _ c.loop-i.invariant.1;
+  idle = λ none. refl;
 }

@@ -1,5 +1,6 @@
-use Rattle.std.proofs.Common.{◌≡◌, ◌∙◌, sym}
-use Rattle.std.specs.Prelude.{◌&&◌}
+use Rattle.std.proofs.Common.{rules, ◌≡◌, ◌∙◌, sym, ap}
+use Rattle.std.specs.Prelude.{◌&&◌, IsOk}
+use Rattle.hibits.specs.Left.{left}
 use Rattle.hibits.specs.Sets.{has_part_zero}
 use Rattle.joins_parallel.proofs.InPlace.{stays, only_changes, is_changed, both_of, not_both}
 use Rattle.joins_parallel.proofs.Replacing.{both_right}
@@ -22,3 +23,9 @@ returns-clause-others g c i out =
 
 pub returns-clause-rest : goal.returns-clause-rest
 returns-clause-rest g c = only_changes _ c.args.storage.now _ _ _ g.met.T.Storage.Placed.by_index c.as_mut_slice-slice.ensures.places c.as_mut_slice-slice.ensures.each c.change_each.ensures.others
+
+pub returns-in_err-members-clause-idle : goal.returns-in_err-members-clause-idle
+returns-in_err-members-clause-idle g c none =
+    let tail = ap (λ p. left p 0) (λ t i. (has_part_zero c.mask.result.now.members i ∙ c.mask.ensures i) t && c.open-mask.ensures.mask i t) in
+    let idle : IsOk c.members_of.result = c.members_of.ensures.idle (tail ∙ none) in
+    search rules

@@ -15,8 +15,8 @@ collect-requires-clause-ready g c κs within =
     let each = chunks_of-each (λ i. g.V.Lookup.can_look c.args.values.now i ≡ true) (max c.max-size.result 1) c.args.list.now c.requires.ready in
     rw (c.map.ensures.base, c.map.ensures.f, c.par_chunks.ensures.slice, c.par_chunks.ensures.size) (λ k d lt x e. ((rw e (here k d lt), rw e (each k d lt)), λ y p. tt))
 
-pub returns : goal.returns
-returns g c =
+pub returns-clause-made : goal.returns-clause-made
+returns-clause-made g c =
     let P : ℕ → Option g.row.T.Denot → Type 0 = λ i y. (x : Indexed g.row.T.Denot) × (z : g.row.I.Denot) × (x.slot ≡ c.args.storage.now) × (x.index ≡ i) × g.V.Lookup.finds c.args.values.now i z × g.F.Remake.makes c.args.f.now x z y in
     let made = c.in_ok-collect.ensures in
     let got = rw c.in_ok-parts.was at made.2 in
