@@ -18,6 +18,7 @@ mod saving;
 mod sets;
 mod spots;
 mod typed;
+mod views;
 mod worlds;
 
 pub use causes::{saved_without_causes, taken_up_without_causes};
@@ -49,4 +50,5 @@ pub use spots::{Spot, written_and_read};
 pub use typed::{
     built_with, overwritten, stripped, two_written, written_and_found, written_in_world,
 };
+pub use views::{both_taken, ended_twice};
 pub use worlds::{Placed, deleted_is_gone, is_back, lived, new_world, position, removed_unheard};
