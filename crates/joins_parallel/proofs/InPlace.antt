@@ -13,7 +13,7 @@ use Rattle.hibits.specs.Walks.{IsNext}
 use Rattle.storages.specs.Slot.{Slot}
 use Rattle.storages.specs.SliceLends.{left_as, with_slice}
 use Rattle.joins_parallel.specs.InPlace.{MayLeave, ChangedAt, OnlyChanges}
-use Rattle.joins_parallel.proofs.Replacing.{some_of_key, both_right}
+use Rattle.joins_parallel.proofs.Replacing.{some_of_key, both_left, both_right}
 
 -- the same call, of values that are equal
 pub same_call : {T I : Type 0} (gives : ℕ → I → Type 0) (leaves : MutBor T → I → Unit {0} → MutBor T → Type 0) (i : ℕ) (x x' y y' : T)

@@ -1,4 +1,4 @@
-use Rattle.std.proofs.Common.{rules, ◌∙◌, sym, ap}
+use Rattle.std.proofs.Common.{rules, ◌≡◌, ◌∙◌, sym, ap}
 use Rattle.std.specs.Prelude.{◌&&◌, IsOk}
 use Rattle.hibits.specs.Left.{left}
 use Rattle.hibits.specs.Sets.{has_part_zero}
