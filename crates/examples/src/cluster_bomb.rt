@@ -63,6 +63,25 @@ fn burn<P, V, S: Has<Position, P> + Has<Velocity, V>>(
     Ok(())
 }
 
+/// Fuses burn, all fly on, and what waited is done.
+fn turn<P, V, S: Has<Position, P> + Has<Velocity, V> + Moves>(
+    world: &mut World<S>,
+    fuses: &mut MaskedStorage<Fuse>,
+    step: u32,
+    text: &mut String,
+) -> Result<()> {
+    let WorldParts { core, lazy } = world.parts();
+    let Parts { entities, storages } = core.parts();
+    if let Some(positions) = Field::<MaskedStorage<Position>, P>::field(storages) {
+        burn(entities, fuses, positions, lazy)?;
+    }
+    storages.step();
+    let done = world.maintain(u64::MAX)?;
+    let died = done.deleted.len();
+    write!(text, "step {step}: {died} died, {} jobs;", done.ran)?;
+    show(text, world)
+}
+
 /// A bomb flies, bursts, and its fragments fly on. Fuses are kept beside the world.
 pub fn explode<P, V, S: Has<Position, P> + Has<Velocity, V> + Moves>(
     world: &mut World<S>,
@@ -78,16 +97,7 @@ pub fn explode<P, V, S: Has<Position, P> + Has<Velocity, V> + Moves>(
     )?;
     WriteStorage::new(world.entities(), fuses).insert(bomb, Fuse(2))?;
     for step in 1..=5 {
-        let WorldParts { core, lazy } = world.parts();
-        let Parts { entities, storages } = core.parts();
-        if let Some(positions) = Field::<MaskedStorage<Position>, P>::field(storages) {
-            burn(entities, fuses, positions, lazy)?;
-        }
-        storages.step();
-        let done = world.maintain(u64::MAX)?;
-        let died = done.deleted.len();
-        write!(text, "step {step}: {died} died, {} jobs;", done.ran)?;
-        show(text, world)?;
+        turn(world, fuses, step, text)?;
     }
     Ok(())
 }
