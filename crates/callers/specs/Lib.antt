@@ -1,2 +1,3 @@
 pub mod Spreads
 pub mod Spot
+pub mod Done

@@ -1,5 +1,5 @@
 //! Jobs of a user's: one that queues itself, one that queues an insertion, and one that makes an entity with a component.
-ghost use Rattle.std.specs.Prelude.{◌≡◌, ◌∷◌, [], ◌++◌, IfOk, OnOk, OnErr};
+ghost use Rattle.std.specs.Prelude.{◌≡◌, ◌∷◌, [], ◌++◌, false, IfOk, OnOk, OnErr};
 ghost use Rattle.entities.specs.Population.{born};
 ghost use Rattle.specs.specs.People.{Births};
 ghost use Rattle.specs.specs.State.{core_state, OnPeople};
@@ -7,7 +7,9 @@ ghost use Rattle.specs.specs.Steps.{world_state};
 ghost use Rattle.specs.specs.declared.job.Job.TheVariants.{Own};
 ghost use Rattle.callers.specs.Spreads.{Given};
 
-use specs::{Core, CreateError, Entity, LazyUpdate, Parts, Storages, World, WorldJob};
+use specs::{
+    Core, CreateError, Entity, LazyUpdate, Maintained, NoJob, Parts, Storages, World, WorldJob,
+};
 use std::alloc::AllocError;
 
 /// Queues itself, so it runs again at each turn.
@@ -24,6 +26,8 @@ impl<S: Storages> WorldJob<S> for Again {
     ghost use Rattle.callers.specs.Spreads.{still_after};
 
     ghost does = { λ j old more new. (more ≡ Own j ∷ []) × (new ≡ old) };
+
+    ghost wants = { λ j s. Unit {0} };
 
     ghost spares = { λ j slot n. Unit {0} };
 
@@ -59,6 +63,8 @@ impl<S: Storages> WorldJob<S> for Late<S> {
 
     ghost does = { λ j old more new. (more ≡ Insert j.entity j.value ∷ []) × (new ≡ old) };
 
+    ghost wants = { λ j s. Unit {0} };
+
     ghost spares = { λ j slot n. Unit {0} };
 
     fn update(
@@ -91,6 +97,8 @@ impl<S: Storages> WorldJob<S> for Spread<S> {
     ghost use Rattle.callers.specs.Spreads.{MaySpread, spreads_grows, spreads_lives, spreads_tells};
 
     ghost does = { λ j old more new. MaySpread S.place j.value old more new };
+
+    ghost wants = { λ j s. Unit {0} };
 
     ghost spares = { λ j slot n. Unit {0} };
 
@@ -145,4 +153,14 @@ pub fn queue<S: Storages, J: WorldJob<S>>(
     ensures err { OnErr result (world_state S.table S.ids world.new ≡ world_state S.table S.ids world.old) }
 {
     world.parts().lazy.exec(job)
+}
+
+/// A job that takes no memory stops no run: where it is the only one that waits, it is done.
+pub fn is_done<S: Storages>(world: &mut World<S, NoJob>) -> Result<Maintained, AllocError>
+    requires { (world_state S.table S.ids world.old).jobs ≡ Own NoJob ∷ [] }
+    ensures goes_on { IfOk result (λ m. m.stopped ≡ false) }
+    ensures done { IfOk result (λ m. m.ran ≡ 1) }
+{
+    let kept = world.maintain(1)?;
+    Ok(kept)
 }

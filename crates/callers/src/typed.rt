@@ -100,3 +100,20 @@ pub fn stripped<S: Storages>(core: &mut Core<S>, e: Entity) -> Result<bool, Allo
     core.delete_components(&[e])?;
     Ok(core.is_alive(e))
 }
+
+/// The component of an entity, taken out in room that was got for the event before: there is nothing left to go wrong.
+pub fn taken_in_room<T: Component + Drop, S: Has<T, I>, I>(
+    core: &mut Core<S>,
+    e: Entity,
+) -> Result<Option<T>, AllocError>
+    ensures entities { core.new.parts.entities ≡ core.old.parts.entities }
+{
+    let Ok(mut view) = core.write_storage::<T, I>() else {
+        return Ok(None);
+    };
+    view.masked_mut().reserve_events(1)?;
+    match view.remove(e) {
+        Ok(found) => Ok(found),
+        Err(_) => unreachable!(),
+    }
+}

@@ -19,6 +19,8 @@ impl<S: Storages> WorldJob<Listed<S>> for Push {
 
     ghost does = { λ j old more new. DoesNothing old more new };
 
+    ghost wants = { λ j s. Unit {0} };
+
     ghost spares = { λ j slot n. Unit {0} };
 
     fn update(

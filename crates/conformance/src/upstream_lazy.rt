@@ -31,6 +31,8 @@ impl<S: Storages> WorldJob<S> for Put<S> {
 
     ghost does = { λ j old more new. (more ≡ []) × Given S.place j.entity j.value old new };
 
+    ghost wants = { λ j s. ⊥ };
+
     ghost spares = { λ j slot n. ⊥ };
 
     fn update(
@@ -72,6 +74,8 @@ impl<S: Storages> WorldJob<Listed<S>> for PutLater<S> {
     ghost use Rattle.specs.specs.Lawful.{still_grows, still_lives};
 
     ghost does = { λ j old more new. new ≡ old };
+
+    ghost wants = { λ j s. Unit {0} };
 
     ghost spares = { λ j slot n. ⊥ };
 

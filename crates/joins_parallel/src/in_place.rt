@@ -73,8 +73,9 @@ fn change_each<T: Send, I, V: Lookup<I> + Sync, F: Fn(&mut T, I) + Sync>(
 /// are processors, below 2,048 places in the caller's. Each component is written in its place, so no answers are kept; the indices are collected
 /// first. Threads have to be started, so for little work a loop over a cursor is faster.
 ///
-/// After an error nothing has changed: memory was refused for the indices. Where the two share no index it is not refused. Stands for `rayon`'s `for_each` on `specs::join::ParJoin::par_join`
-/// over a storage to write to, for storages that have each component at its index's place.
+/// After an error nothing has changed: memory was refused for the indices. Where the two share no index it is not refused. Stands for
+/// `rayon`'s `for_each` on `specs::join::ParJoin::par_join` over a storage to write to, for storages that have each component at its
+/// index's place.
 pub fn par_for_each<T: Component + Send, J: RepeatableJoin, F: Fn(&mut T, J::Type) + Sync + Drop>(
     rt: &(impl Threads + Alloc<A = Global> + Sync),
     storage: &mut MaskedStorage<T>,

@@ -31,7 +31,7 @@ unchanged {K} {V} old new p t i =
     ap (λ (q : Population). record { people = q; table = new.table; ids = new.ids }) p ∙ ap (λ (u : Table K V). record { people = old.people; table = u; ids = new.ids }) t
     ∙ ap (λ (j : Ids K). record { people = old.people; table = old.table; ids = j }) i
 
-module _ {S J K V : Type 0} (place : V → K) (marks : Markers K V) (does : J → State K V → List (Job S J K V) → State K V → Type 0) (P : State K V → Type 0) (Q : Job S J K V → Type 0)
+module _ {S J K V : Type 0} (place : V → K) (marks : Markers K V) (does : J → State K V → List (Job S J K V) → State K V → Type 0) (wants : J → State K V → Type 0) (P : State K V → Type 0) (Q : Job S J K V → Type 0)
     (whatever_ids : (s : State K V) (ids : Ids K) → P s → P (record s { ids = ids }))
     (inserted : (place : V → K) (old new : State K V) (e : Entity) (value : V) (before : Option V) → OnTable (λ t t'. Inserts place old.people t e value before t') old new → P old → P new)
     (removed : (old new : State K V) (slot : K) (e : Entity) (found : Option V) → OnTable (λ t t'. Removes old.people t slot e found t') old new → P old → P new)
@@ -71,12 +71,12 @@ module _ {S J K V : Type 0} (place : V → K) (marks : Markers K V) (does : J �
   one old new (Mark slot e) n more s q w = (mark old new slot e s.1 s.3 w, subst (Each Q) (sym s.0) tt)
   one old new (Own j) n more s q w = own j old new more q s.1 w
 
-  stop : (old new : State K V) (job : Job S J K V) (n : ℕ) (kept : Job S J K V) → JobStops place marks does old job n kept new → Q job → P old → P new × Q kept
+  stop : (old new : State K V) (job : Job S J K V) (n : ℕ) (kept : Job S J K V) → JobStops place marks does wants old job n kept new → Q job → P old → P new × Q kept
   stop old new (Insert e value) n kept s q w = (same old new s.3 w, subst Q (sym s.0) q)
   stop old new (InsertAll pairs) n (InsertAll rest) s q w = (inserts s.done n old new s.inserted w, rests pairs rest q)
   stop old new (Remove slot e) n kept s q w = (same old new s.3 w, subst Q (sym s.0) q)
   stop old new (Mark slot e) n kept s q w = (same old new s.3 w, subst Q (sym s.0) q)
-  stop old new (Own j) n kept s q w = (same old new s.2 w, subst Q (sym s.0) q)
+  stop old new (Own j) n kept s q w = (same old new s.3 w, subst Q (sym s.0) q)
   stop old new job n kept s q w = absurd s
 
   ran : (n counted : ℕ) (old new : State K V) (jobs left : List (Job S J K V)) → Ran place marks does n counted old jobs new left → Each Q jobs → P old → P new × Each Q left
@@ -86,7 +86,7 @@ module _ {S J K V : Type 0} (place : V → K) (marks : Markers K V) (does : J �
       let first = one old s.0 job s.2 s.1 s.4 q.0 w in
       ran n s.3 s.0 new (jobs ++ s.1) left s.5 (each_more Q jobs s.1 q.1 first.1) first.0
 
-  pub carried : (stopped : Bool) (limit count counted : ℕ) (old new : State K V) (jobs left : List (Job S J K V)) → RunsJobs place marks does stopped limit count counted old jobs new left → Each Q jobs → P old → P new × Each Q left
+  pub carried : (stopped : Bool) (limit count counted : ℕ) (old new : State K V) (jobs left : List (Job S J K V)) → RunsJobs place marks does wants stopped limit count counted old jobs new left → Each Q jobs → P old → P new × Each Q left
   carried false limit count counted old new jobs left s q w = ran count counted old new jobs left s.ran_all q w
   carried true limit count counted old new jobs left s q w =
       let before = ran count s.counted old s.before jobs (s.job ∷ s.rest) s.ran_before q w in

@@ -181,17 +181,17 @@ module _ {K V : Type 0} (slot : K) (n : ℕ) (here : K → Bool) (tells : Tells 
   goes_on : (first old new : State K V) → GoesOn first old → OnlyLiving new → KeepsAt old.table new.table [] → GoesOn first new
   goes_on first old new h living k = record { living = living; followed = k.listening; follows = follows_more first old new [] [] h.follows (k.advances (living_below slot old h.living)) }
 
-  module _ {S J : Type 0} (place : V → K) (allocates : K → Bool) (marks : Markers K V) (does : J → State K V → List (Job S J K V) → State K V → Type 0) (spares : J → K → ℕ → Type 0)
+  module _ {S J : Type 0} (place : V → K) (allocates : K → Bool) (marks : Markers K V) (does : J → State K V → List (Job S J K V) → State K V → Type 0) (wants : J → State K V → Type 0) (spares : J → K → ℕ → Type 0)
       (law : (j : J) (slot : K) (n : ℕ) (old new : State K V) (more : List (Job S J K V)) → does j old more new → spares j slot n → IsFollowed slot n old → Spared spares slot n old more new) where
     -- jobs that spare a reader let it follow the slot
-    followed_jobs : (stopped : Bool) (limit count counted : ℕ) (old new : State K V) (jobs left : List (Job S J K V)) → RunsJobs place marks does stopped limit count counted old jobs new left → AllSpare spares slot n jobs → IsFollowed slot n old → IsFollowed slot n new × AllSpare spares slot n left
-    followed_jobs = carried place marks does (IsFollowed slot n) (JobSpares spares slot n) (λ s ids l. l)
+    followed_jobs : (stopped : Bool) (limit count counted : ℕ) (old new : State K V) (jobs left : List (Job S J K V)) → RunsJobs place marks does wants stopped limit count counted old jobs new left → AllSpare spares slot n jobs → IsFollowed slot n old → IsFollowed slot n new × AllSpare spares slot n left
+    followed_jobs = carried place marks does wants (IsFollowed slot n) (JobSpares spares slot n) (λ s ids l. l)
         (λ place old new e value before s l. (inserted_keeps place old new e value before s l).listening)
         (λ old new k e found s l. (removed_keeps place old new k e found s l).listening)
         (λ j old new more q s l. ((law j slot n old new more s q l).followed, (law j slot n old new more s q l).added))
         (λ pairs rest q. tt)
 
-    watched_step : (old : WorldState S J K V) (c : Command S J K V) (r : Reply V) (new : WorldState S J K V) → Step place allocates marks does old c r new → IsQuiet spares slot n c → IsWatched spares slot n old → IsWatched spares slot n new
+    watched_step : (old : WorldState S J K V) (c : Command S J K V) (r : Reply V) (new : WorldState S J K V) → Step place allocates marks does wants old c r new → IsQuiet spares slot n c → IsWatched spares slot n old → IsWatched spares slot n new
     watched_step old (Queue job) Done new s q h = record {
       followed = subst (IsFollowed slot n) (sym s.core) h.followed;
       spared = subst (AllSpare spares slot n) (sym s.jobs) (each_more (JobSpares spares slot n) old.jobs (job ∷ []) h.spared (q, tt));
@@ -204,13 +204,13 @@ module _ {K V : Type 0} (slot : K) (n : ℕ) (here : K → Bool) (tells : Tells 
       spared = subst (AllSpare spares slot n) (sym s.jobs) h.spared;
     }
 
-    pub followed_run : (cs : List (Command S J K V)) (rs : List (Reply V)) (old new : WorldState S J K V) (run : Run place allocates marks does old cs rs new) → AreQuiet spares slot n cs → IsWatched spares slot n old → Throughout place allocates marks does (IsWatched spares slot n) old cs rs new run
+    pub followed_run : (cs : List (Command S J K V)) (rs : List (Reply V)) (old new : WorldState S J K V) (run : Run place allocates marks does wants old cs rs new) → AreQuiet spares slot n cs → IsWatched spares slot n old → Throughout place allocates marks does wants (IsWatched spares slot n) old cs rs new run
     followed_run [] [] old new run q h = h
     followed_run [] (r ∷ rs) old new run q h = absurd run
     followed_run (c ∷ cs) [] old new run q h = absurd run
     followed_run (c ∷ cs) (r ∷ rs) old new run q h = (h, followed_run cs rs run.0 new run.2 q.1 (watched_step old c r run.0 run.1 q.0 h))
 
-    at_first : (cs : List (Command S J K V)) (rs : List (Reply V)) (old new : WorldState S J K V) (run : Run place allocates marks does old cs rs new) → Throughout place allocates marks does (IsWatched spares slot n) old cs rs new run → IsWatched spares slot n old
+    at_first : (cs : List (Command S J K V)) (rs : List (Reply V)) (old new : WorldState S J K V) (run : Run place allocates marks does wants old cs rs new) → Throughout place allocates marks does wants (IsWatched spares slot n) old cs rs new run → IsWatched spares slot n old
     at_first [] [] old new run t = t
     at_first [] (r ∷ rs) old new run t = absurd t
     at_first (c ∷ cs) [] old new run t = absurd t
@@ -218,10 +218,10 @@ module _ {K V : Type 0} (slot : K) (n : ℕ) (here : K → Bool) (tells : Tells 
 
     module _ (grows : (j : J) (old new : State K V) (more : List (Job S J K V)) → does j old more new → Evolves old.people new.people)
         (lives_on : (j : J) (old new : State K V) (more : List (Job S J K V)) → does j old more new → OnlyLiving old → ValuesLive new) where
-      maintain_follows : (old new : WorldState S J K V) (limit : ℕ) (m : Maintained) → Maintains place marks does old limit m new → OnlyLiving old.core → IsWatched spares slot n old → Follows slot n old.core new.core []
+      maintain_follows : (old new : WorldState S J K V) (limit : ℕ) (m : Maintained) → Maintains place marks does wants old limit m new → OnlyLiving old.core → IsWatched spares slot n old → Follows slot n old.core new.core []
       maintain_follows old new limit m s w h =
           let dying = deaths (the_marked old.core.people) old.core (merged old.core) refl h.followed in
-          (carried place marks does (GoesOn old.core) (JobSpares spares slot n) (goes_whatever_ids old.core)
+          (carried place marks does wants (GoesOn old.core) (JobSpares spares slot n) (goes_whatever_ids old.core)
           (λ place a b e value before s h. goes_on old.core a b h (inserted_living place a b e value before s h.living) (inserted_keeps place a b e value before s h.followed))
           (λ a b k e found s h. goes_on old.core a b h (removed_living place a b k e found s h.living) (removed_keeps place a b k e found s h.followed))
           (λ j a b more q s h. (own_goes_on old.core j a b more q s h, (law j slot n a b more s q h.followed).added))
@@ -236,12 +236,12 @@ module _ {K V : Type 0} (slot : K) (n : ℕ) (here : K → Bool) (tells : Tells 
             follows = follows_more first a b [] [] h.follows ((law j slot n a b more s q h.followed).follows h.living);
           }
 
-      world_follows : (old : WorldState S J K V) (c : Command S J K V) (r : Reply V) (new : WorldState S J K V) → Step place allocates marks does old c r new → OnlyLiving old.core → IsWatched spares slot n old → IsWatched spares slot n new → Follows slot n old.core new.core (given_by here n c r)
+      world_follows : (old : WorldState S J K V) (c : Command S J K V) (r : Reply V) (new : WorldState S J K V) → Step place allocates marks does wants old c r new → OnlyLiving old.core → IsWatched spares slot n old → IsWatched spares slot n new → Follows slot n old.core new.core (given_by here n c r)
       world_follows old (Queue job) Done new s w h after = (same_table old.core.table new.core.table (ap (λ (t : State K V). t.table) s.core) h.followed).advances (living_below slot old.core w)
       world_follows old (Maintain limit) (Kept m) new s w h after = maintain_follows old new limit m s w h
       world_follows old c r new s w h after = follows_step spares place allocates old.core c r new.core s.core w h.followed after.followed
 
-      pub follows_run : (cs : List (Command S J K V)) (rs : List (Reply V)) (old new : WorldState S J K V) (run : Run place allocates marks does old cs rs new) → Throughout place allocates marks does (IsWatched spares slot n) old cs rs new run → OnlyLiving old.core → Follows slot n old.core new.core (given here n cs rs)
+      pub follows_run : (cs : List (Command S J K V)) (rs : List (Reply V)) (old new : WorldState S J K V) (run : Run place allocates marks does wants old cs rs new) → Throughout place allocates marks does wants (IsWatched spares slot n) old cs rs new run → OnlyLiving old.core → Follows slot n old.core new.core (given here n cs rs)
       follows_run [] [] old new run t w = (same_table old.core.table new.core.table (ap (λ (s : WorldState S J K V). s.core.table) run) t.followed).advances (living_below slot old.core w)
       follows_run [] (r ∷ rs) old new run t w = absurd run
       follows_run (c ∷ cs) [] old new run t w = absurd run
@@ -249,7 +249,7 @@ module _ {K V : Type 0} (slot : K) (n : ℕ) (here : K → Bool) (tells : Tells 
           let mid : WorldState S J K V = run.0 in
           follows_more old.core mid.core new.core (given_by here n c r) (given here n cs rs)
           (world_follows old c r mid run.1 w t.0 (at_first cs rs mid new run.2 t.1))
-          (follows_run cs rs mid new run.2 t.1 (living_step place allocates marks does grows lives_on old c r mid run.1 w))
+          (follows_run cs rs mid new run.2 t.1 (living_step place allocates marks does wants grows lives_on old c r mid run.1 w))
 
   pub replays : (old new : State K V) (given : List ComponentEvent) → Follows slot n old new given → Replays slot n old new given
   replays old new given f = record {

@@ -56,50 +56,50 @@ pub living_whatever_ids : {K V : Type 0} (s : State K V) (ids : Ids K) → OnlyL
 living_whatever_ids s ids w = record { values = w.values; born = w.born; below = w.below }
 
 -- what each step keeps, a run keeps
-module _ {S J K V : Type 0} (place : V → K) (allocates : K → Bool) (marks : Markers K V) (does : J → State K V → List (Job S J K V) → State K V → Type 0) (P : State K V → Type 0)
+module _ {S J K V : Type 0} (place : V → K) (allocates : K → Bool) (marks : Markers K V) (does : J → State K V → List (Job S J K V) → State K V → Type 0) (wants : J → State K V → Type 0) (P : State K V → Type 0)
     (core : (old : State K V) (c : Command S J K V) (r : Reply V) (new : State K V) → CoreStep place allocates old c r new → P old → P new)
-    (maintain : (old new : WorldState S J K V) (limit : ℕ) (m : Maintained) → Maintains place marks does old limit m new → P old.core → P new.core) where
-  step : (old : WorldState S J K V) (c : Command S J K V) (r : Reply V) (new : WorldState S J K V) → Step place allocates marks does old c r new → P old.core → P new.core
+    (maintain : (old new : WorldState S J K V) (limit : ℕ) (m : Maintained) → Maintains place marks does wants old limit m new → P old.core → P new.core) where
+  step : (old : WorldState S J K V) (c : Command S J K V) (r : Reply V) (new : WorldState S J K V) → Step place allocates marks does wants old c r new → P old.core → P new.core
   step old (Queue job) Done new s w = subst P (sym s.core) w
   step old (Maintain limit) (Kept m) new s w = maintain old new limit m s w
   step old c r new s w = core old.core c r new.core s.core w
 
-  lasts : (cs : List (Command S J K V)) (rs : List (Reply V)) (old new : WorldState S J K V) → Run place allocates marks does old cs rs new → P old.core → P new.core
+  lasts : (cs : List (Command S J K V)) (rs : List (Reply V)) (old new : WorldState S J K V) → Run place allocates marks does wants old cs rs new → P old.core → P new.core
   lasts [] [] old new run w = subst (λ (s : WorldState S J K V). P s.core) (sym run) w
   lasts [] (r ∷ rs) old new run w = absurd run
   lasts (c ∷ cs) [] old new run w = absurd run
   lasts (c ∷ cs) (r ∷ rs) old new run w = lasts cs rs run.0 new run.2 (step old c r run.0 run.1 w)
 
-module _ {S J K V : Type 0} (place : V → K) (allocates : K → Bool) (marks : Markers K V) (does : J → State K V → List (Job S J K V) → State K V → Type 0)
+module _ {S J K V : Type 0} (place : V → K) (allocates : K → Bool) (marks : Markers K V) (does : J → State K V → List (Job S J K V) → State K V → Type 0) (wants : J → State K V → Type 0)
     (grows : (j : J) (old new : State K V) (more : List (Job S J K V)) → does j old more new → Evolves old.people new.people) where
   -- jobs leave dead who died
-  pub gone_jobs : (e : Entity) (old new : State K V) (jobs left : List (Job S J K V)) (stopped : Bool) (limit count counted : ℕ) → RunsJobs place marks does stopped limit count counted old jobs new left → IsGone old.people e → IsGone new.people e
+  pub gone_jobs : (e : Entity) (old new : State K V) (jobs left : List (Job S J K V)) (stopped : Bool) (limit count counted : ℕ) → RunsJobs place marks does wants stopped limit count counted old jobs new left → IsGone old.people e → IsGone new.people e
   gone_jobs e old new jobs left stopped limit count counted s w =
-      (carried place marks does (λ (s : State K V). IsGone s.people e) (λ _. Unit {0})
+      (carried place marks does wants (λ (s : State K V). IsGone s.people e) (λ _. Unit {0})
       (λ s ids w. w) (λ place old new x value before s w. subst (λ p. IsGone p e) (sym s.people) w)
       (λ old new slot x found s w. subst (λ p. IsGone p e) (sym s.people) w)
       (λ j old new more q s w. (gone_evolved (grows j old new more s).count old.people new.people e (grows j old new more s).steps w, each_unit more))
       (λ pairs rest q. tt)
       stopped limit count counted old new jobs left s (each_unit jobs) w).0
 
-  gone_maintained : (e : Entity) (old new : WorldState S J K V) (limit : ℕ) (m : Maintained) → Maintains place marks does old limit m new → IsGone old.core.people e → IsGone new.core.people e
+  gone_maintained : (e : Entity) (old new : WorldState S J K V) (limit : ℕ) (m : Maintained) → Maintains place marks does wants old limit m new → IsGone old.core.people e → IsGone new.core.people e
   gone_maintained e old new limit m s w = gone_jobs e (merged old.core) new.core old.jobs new.jobs m.stopped limit m.ran m.refused s.jobs (gone_after_merge old.core.people e w)
 
-  pub gone_run : (cs : List (Command S J K V)) (rs : List (Reply V)) (old new : WorldState S J K V) (e : Entity) → Run place allocates marks does old cs rs new → IsGone old.core.people e → IsGone new.core.people e
-  gone_run cs rs old new e run w = lasts place allocates marks does (λ (s : State K V). IsGone s.people e) (λ old c r new s w. keeps_gone place allocates old c r new e s w) (gone_maintained e) cs rs old new run w
+  pub gone_run : (cs : List (Command S J K V)) (rs : List (Reply V)) (old new : WorldState S J K V) (e : Entity) → Run place allocates marks does wants old cs rs new → IsGone old.core.people e → IsGone new.core.people e
+  gone_run cs rs old new e run w = lasts place allocates marks does wants (λ (s : State K V). IsGone s.people e) (λ old c r new s w. keeps_gone place allocates old c r new e s w) (gone_maintained e) cs rs old new run w
 
   module _ (lives_on : (j : J) (old new : State K V) (more : List (Job S J K V)) → does j old more new → OnlyLiving old → ValuesLive new) where
     own_living : (j : J) (old new : State K V) (more : List (Job S J K V)) → does j old more new → OnlyLiving old → OnlyLiving new
     own_living j old new more s w = grown old new (grows j old new more s) w (lives_on j old new more s w)
 
-    living_maintained : (old new : WorldState S J K V) (limit : ℕ) (m : Maintained) → Maintains place marks does old limit m new → OnlyLiving old.core → OnlyLiving new.core
+    living_maintained : (old new : WorldState S J K V) (limit : ℕ) (m : Maintained) → Maintains place marks does wants old limit m new → OnlyLiving old.core → OnlyLiving new.core
     living_maintained old new limit m s w =
-        (carried place marks does OnlyLiving (λ _. Unit {0}) living_whatever_ids inserted_living (removed_living place)
+        (carried place marks does wants OnlyLiving (λ _. Unit {0}) living_whatever_ids inserted_living (removed_living place)
         (λ j old new more q s w. (own_living j old new more s w, each_unit more)) (λ pairs rest q. tt)
         m.stopped limit m.ran m.refused (merged old.core) new.core old.jobs new.jobs s.jobs (each_unit old.jobs) (merged_kept old.core w)).0
 
-    pub living_step : (old : WorldState S J K V) (c : Command S J K V) (r : Reply V) (new : WorldState S J K V) → Step place allocates marks does old c r new → OnlyLiving old.core → OnlyLiving new.core
-    living_step = step place allocates marks does OnlyLiving (keeps_step place allocates) living_maintained
+    pub living_step : (old : WorldState S J K V) (c : Command S J K V) (r : Reply V) (new : WorldState S J K V) → Step place allocates marks does wants old c r new → OnlyLiving old.core → OnlyLiving new.core
+    living_step = step place allocates marks does wants OnlyLiving (keeps_step place allocates) living_maintained
 
-    pub living_run : (cs : List (Command S J K V)) (rs : List (Reply V)) (old new : WorldState S J K V) → Run place allocates marks does old cs rs new → OnlyLiving old.core → OnlyLiving new.core
-    living_run = lasts place allocates marks does OnlyLiving (keeps_step place allocates) living_maintained
+    pub living_run : (cs : List (Command S J K V)) (rs : List (Reply V)) (old new : WorldState S J K V) → Run place allocates marks does wants old cs rs new → OnlyLiving old.core → OnlyLiving new.core
+    living_run = lasts place allocates marks does wants OnlyLiving (keeps_step place allocates) living_maintained

@@ -28,7 +28,7 @@ use Rattle.specs.specs.Column.{Column, IsFresh, wants_memory, without_value, wit
 use Rattle.std.specs.List.{Contains}
 use Rattle.std.proofs.lemmas.List.Elements.{All-contains_itself}
 use Rattle.hibits.specs.Left.{left, contains-left}
-use Rattle.specs.specs.Field.{values_of, column_of, field_column, FieldInserts, FieldGets, FieldRemoves, FieldClears, FieldRechannels}
+use Rattle.specs.specs.Field.{values_of, column_of, field_column, FieldInserts, FieldGets, FieldRemoves, FieldClears, FieldRechannels, Holds, field_room}
 use Rattle.std.proofs.lemmas.Option.{same_Some}
 use Rattle.specs.specs.Table.{RemovalWantsMemory}
 
@@ -135,6 +135,10 @@ module _ {T : Type 0} where
     alive = λ a. told ∙ found_alive c s e a;
     dead = λ d. told ∙ found_dead c s e d;
   }
+
+  -- an entity that is alive and has a value is found
+  pub held : (c : Census) (s : masked.Slot T) (e : Entity) → Holds (population c) (Some (column_of s)) e → IsSome (found_in c s e)
+  held c s e h = ap is_some (found_alive c s e h.alive ∙ ap (λ (k : Column T). k.values (index_of e)) (same_Some _ _ h.registered)) ∙ h.present
 
   none_or_some : (o : Option T) → (o ≡ None) ⊎ IsSome o
   none_or_some None = inl refl
@@ -245,3 +249,8 @@ pub loan_wants : {T : Type 0} (p : Population) (e : Entity) → IsAlive p e → 
     → RemovalWantsMemory p (field_column part) e
 loan_wants p e alive (Some w) there h = record { column = column_of w; registered = refl; alive = alive; present = h.0; wanted = h.1 }
 loan_wants p e alive None there h = absurd (false≢true there)
+
+-- where such an entity's event has room, so has the write
+pub loan_ready : {T : Type 0} (p : Population) (e : Entity) (part : Option (masked.Slot T)) → Holds p (field_column part) e → HasRoom (field_room part) 1 → IfSome part (λ w. IsSome (map.get w.map (index_of e)) × HasRoom w.room 1)
+loan_ready p e (Some w) h room = (ap is_some (ap (λ (k : Column _). k.values (index_of e)) (same_Some _ _ h.registered)) ∙ h.present, room)
+loan_ready p e None h room = tt

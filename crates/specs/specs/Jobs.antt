@@ -71,21 +71,6 @@ module _ {S J K V : Type 0} (place : V → K) (marks : Markers K V) (does : J �
   JobStep old (Mark slot e) refused more new = (more ≡ []) × (counted : Bool) × (refused ≡ count_of counted) × MarkStep marks old slot e counted new
   JobStep old (Own j) refused more new = (refused ≡ 0) × does j old more new
 
-  -- a job that finds no memory, and what is kept of it
-  abbrev pub JobStops : State K V → Job S J K V → ℕ → Job S J K V → State K V → Type 0
-  JobStops old (Insert e value) refused kept new = (kept ≡ Insert e value) × (refused ≡ 0) × InsertWantsRoom place old e value × (new ≡ old)
-  JobStops old (InsertAll pairs) refused (InsertAll rest) new = KeepsRest place old pairs.items refused rest.items new
-  JobStops old (Remove slot e) refused kept new = (kept ≡ Remove slot e) × (refused ≡ 0) × RemovalWantsMemory old.people (old.table slot) e × (new ≡ old)
-  JobStops old (Mark slot e) refused kept new = (kept ≡ Mark slot e) × (refused ≡ 0) × MarkWantsRoom marks old slot e × (new ≡ old)
-  JobStops old (Own j) refused kept new = (kept ≡ Own j) × (refused ≡ 0) × (new ≡ old)
-  JobStops old job refused kept new = ⊥
-
-  -- a job is done, and the further ones that it queues come at the queue's end; or it finds no memory, and what is kept of it
-  abbrev pub DoesOrKeeps : State K V → Job S J K V → ℕ → Option (Job S J K V) → State K V → List (Job S J K V) → List (Job S J K V) → Type 0
-  DoesOrKeeps old job refused kept new queue queue' = MatchOption kept
-      ((more : List (Job S J K V)) × (queue' ≡ queue ++ more) × JobStep old job refused more new)
-      (λ k. (queue' ≡ queue) × JobStops old job refused k new)
-
   -- n jobs, each taken from the front, with the further ones put at the end
   abbrev pub Ran : ℕ → ℕ → State K V → List (Job S J K V) → State K V → List (Job S J K V) → Type 0
   Ran zero refused old jobs new left = (refused ≡ 0) × (new ≡ old) × (left ≡ jobs)
@@ -100,6 +85,23 @@ module _ {S J K V : Type 0} (place : V → K) (marks : Markers K V) (does : J �
     pub ran_all : Ran ran refused old jobs new left
     pub ends : (ran ≡ limit) ⊎ (left ≡ [])
 
+-- `wants` tells in which states a job of the user's may find no memory
+module _ {S J K V : Type 0} (place : V → K) (marks : Markers K V) (does : J → State K V → List (Job S J K V) → State K V → Type 0) (wants : J → State K V → Type 0) where
+  -- a job that finds no memory, and what is kept of it
+  abbrev pub JobStops : State K V → Job S J K V → ℕ → Job S J K V → State K V → Type 0
+  JobStops old (Insert e value) refused kept new = (kept ≡ Insert e value) × (refused ≡ 0) × InsertWantsRoom place old e value × (new ≡ old)
+  JobStops old (InsertAll pairs) refused (InsertAll rest) new = KeepsRest place old pairs.items refused rest.items new
+  JobStops old (Remove slot e) refused kept new = (kept ≡ Remove slot e) × (refused ≡ 0) × RemovalWantsMemory old.people (old.table slot) e × (new ≡ old)
+  JobStops old (Mark slot e) refused kept new = (kept ≡ Mark slot e) × (refused ≡ 0) × MarkWantsRoom marks old slot e × (new ≡ old)
+  JobStops old (Own j) refused kept new = (kept ≡ Own j) × (refused ≡ 0) × wants j old × (new ≡ old)
+  JobStops old job refused kept new = ⊥
+
+  -- a job is done, and the further ones that it queues come at the queue's end; or it finds no memory, and what is kept of it
+  abbrev pub DoesOrKeeps : State K V → Job S J K V → ℕ → Option (Job S J K V) → State K V → List (Job S J K V) → List (Job S J K V) → Type 0
+  DoesOrKeeps old job refused kept new queue queue' = MatchOption kept
+      ((more : List (Job S J K V)) × (queue' ≡ queue ++ more) × JobStep place marks does old job refused more new)
+      (λ k. (queue' ≡ queue) × JobStops old job refused k new)
+
   -- the run ends at a job that finds no memory, which is kept first
   pub record Stopped (limit ran refused : ℕ) (old : State K V) (jobs : List (Job S J K V)) (new : State K V) (left : List (Job S J K V)) : Type 0 where
     pub before_limit : ran < limit
@@ -109,12 +111,12 @@ module _ {S J K V : Type 0} (place : V → K) (marks : Markers K V) (does : J �
     pub job : Job S J K V
     pub kept : Job S J K V
     pub rest : List (Job S J K V)
-    pub ran_before : Ran ran counted old jobs before (job ∷ rest)
+    pub ran_before : Ran place marks does ran counted old jobs before (job ∷ rest)
     pub stops : JobStops before job last kept new
     pub sum : refused ≡ counted + last
     pub queue : left ≡ kept ∷ rest
 
   -- jobs in order while fewer than the limit ran, and whether one found no memory
   abbrev pub RunsJobs : Bool → ℕ → ℕ → ℕ → State K V → List (Job S J K V) → State K V → List (Job S J K V) → Type 0
-  RunsJobs false limit ran refused old jobs new left = Ended limit ran refused old jobs new left
+  RunsJobs false limit ran refused old jobs new left = Ended place marks does limit ran refused old jobs new left
   RunsJobs true limit ran refused old jobs new left = Stopped limit ran refused old jobs new left

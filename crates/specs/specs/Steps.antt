@@ -41,9 +41,9 @@ pub record Queues {S J K V : Type 0} (job : Job S J K V) (old new : WorldState S
   pub jobs : new.jobs ≡ old.jobs ++ job ∷ []
 
 -- pending births are taken up, then the marked die, with all their components, then jobs are done in order while fewer than the limit ran
-pub record Maintains {S J K V : Type 0} (place : V → K) (marks : Markers K V) (does : J → State K V → List (Job S J K V) → State K V → Type 0) (old : WorldState S J K V) (limit : ℕ) (m : Maintained) (new : WorldState S J K V) : Type 0 where
+pub record Maintains {S J K V : Type 0} (place : V → K) (marks : Markers K V) (does : J → State K V → List (Job S J K V) → State K V → Type 0) (wants : J → State K V → Type 0) (old : WorldState S J K V) (limit : ℕ) (m : Maintained) (new : WorldState S J K V) : Type 0 where
   pub deleted : m.deleted.items ≡ the_marked old.core.people
-  pub jobs : RunsJobs place marks does m.stopped limit m.ran m.refused (merged old.core) old.jobs new.core new.jobs
+  pub jobs : RunsJobs place marks does wants m.stopped limit m.ran m.refused (merged old.core) old.jobs new.core new.jobs
   pub left : m.left ≡ length new.jobs
 
 -- Why a command is refused, where `allocates` tells of which slots a copy may take memory. An insertion hands its value back, so it has a
@@ -95,11 +95,11 @@ CoreStep place allocates old (DropReader slot n) Done new = OnTable (λ t t'. Dr
 CoreStep place allocates old (Emit slot on) Done new = OnTable (λ t t'. Switches t slot on t') old new
 CoreStep place allocates old command reply new = ⊥
 
-module _ {S J K V : Type 0} (place : V → K) (allocates : K → Bool) (marks : Markers K V) (does : J → State K V → List (Job S J K V) → State K V → Type 0) where
+module _ {S J K V : Type 0} (place : V → K) (allocates : K → Bool) (marks : Markers K V) (does : J → State K V → List (Job S J K V) → State K V → Type 0) (wants : J → State K V → Type 0) where
   -- One command, its reply, and the world's state after it, where `does` tells what a job of the user's may do.
   abbrev pub Step : WorldState S J K V → Command S J K V → Reply V → WorldState S J K V → Type 0
   Step old (Queue job) Done new = Queues job old new
-  Step old (Maintain limit) (Kept m) new = Maintains place marks does old limit m new
+  Step old (Maintain limit) (Kept m) new = Maintains place marks does wants old limit m new
   Step old command reply new = OnCore (λ s s'. CoreStep place allocates s command reply s') old new
 
   -- one step after another

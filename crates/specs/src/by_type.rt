@@ -1,10 +1,12 @@
 //! Calls by a component type: neither its slot, nor its place in the struct, nor the type of all values is written.
-ghost use Rattle.std.specs.Prelude.{◌≡◌, ℕ, true, Some, None, IsSome, IfSome, IfOk, IsOk, OnOk, OnErr, IfErr};
+ghost use Rattle.std.specs.Prelude.{◌≡◌, ℕ, true, Some, None, IsSome, IfSome, IfOk, IsOk, OnOk, OnErr, IfErr, length};
 ghost use Rattle.std.specs.Option.{option_map};
 ghost use Rattle.entities.specs.Census.{population};
+ghost use Rattle.storages.specs.Meaning.{HasRoom};
+ghost use Rattle.storages.specs.Slot.{indices_of};
 ghost use Rattle.specs.specs.Registering.{RegistersAs, column_with};
 ghost use Rattle.specs.specs.Table.{Registers, Inserts, InsertIsRefused, Gets, Removes, Clears};
-ghost use Rattle.specs.specs.Field.{FieldInserts, FieldGets, FieldRemoves, FieldClears, FieldInsertIsRefused, FieldGetIsRefused, FieldRemoveIsRefused, FieldClearIsRefused, field_column};
+ghost use Rattle.specs.specs.Field.{FieldInserts, FieldGets, FieldRemoves, FieldClears, FieldInsertIsRefused, FieldGetIsRefused, FieldRemoveIsRefused, FieldClearIsRefused, Holds, field_column, field_room};
 
 use crate::command::Refusal;
 use crate::duplicate::Duplicate;
@@ -29,6 +31,7 @@ pub fn insert<T: Component, S: Has<T, I>, I>(
     ensures there { IsSome (S.part storages.old) → IsSome (S.part storages.new) }
     ensures err { OnErr result (S.table storages.new ≡ S.table storages.old) }
     ensures ids { S.ids storages.new ≡ S.ids storages.old }
+    ensures succeeds { Holds (population entities.now) (field_column (S.part storages.old)) e → HasRoom (field_room (S.part storages.old)) 1 → IsOk result }
 {
     match storages.field_mut() {
         Some(storage) => field::insert_in(storage, entities, e, component),
@@ -65,6 +68,7 @@ pub fn remove<T: Component, S: Has<T, I>, I>(
     ensures there { IsSome (S.part storages.old) → IsSome (S.part storages.new) }
     ensures err { OnErr result (S.table storages.new ≡ S.table storages.old) }
     ensures ids { S.ids storages.new ≡ S.ids storages.old }
+    ensures succeeds { IsSome (S.part storages.old) → HasRoom (field_room (S.part storages.old)) 1 → IsOk result }
 {
     match storages.field_mut() {
         Some(storage) => field::remove_in(storage, entities, e),
@@ -80,6 +84,7 @@ pub fn clear<T: Component, S: Has<T, I>, I>(storages: &mut S) -> Result<(), Refu
     ensures there { IsSome (S.part storages.old) → IsSome (S.part storages.new) }
     ensures err { OnErr result (S.table storages.new ≡ S.table storages.old) }
     ensures ids { S.ids storages.new ≡ S.ids storages.old }
+    ensures succeeds { IsSome (S.part storages.old) → IfSome (S.part storages.old) (λ w. HasRoom w.room (length (indices_of w))) → IsOk result }
 {
     match storages.field_mut() {
         Some(storage) => field::clear_in::<T>(storage),

@@ -8,13 +8,14 @@ ghost use Rattle.storages.specs.Channel.{emitted};
 ghost use Rattle.storages.specs.Found.{found_in};
 ghost use Rattle.storages.specs.Life.{is_alive};
 ghost use Rattle.storages.specs.Meaning.{HasRoom};
+ghost use Rattle.storages.specs.Slot.{indices_of};
 ghost use Rattle.storages.specs.declared.event.ComponentEvent.TheVariants.{Inserted, Modified, Removed};
 ghost use Rattle.specs.specs.Column.{IsFresh, WantsNone, without_values};
 ghost use Rattle.specs.specs.Table.{IsMask};
 ghost use Rattle.storages.specs.Tracking.{with_reader, after_read, without_reader, switched};
 ghost use Rattle.storages.specs.Unread.{unread_of};
 ghost use Rattle.specs.specs.Readers.{RegisterReaderIsRefused, ReaderIsRefused, SwitchIsRefused};
-ghost use Rattle.specs.specs.Field.{FieldRechannels, FieldInserts, FieldGets, FieldRemoves, FieldClears, FieldInsertIsRefused, FieldGetIsRefused, FieldRemoveIsRefused, FieldClearIsRefused, PutIsRefused, column_of, field_column, field_room};
+ghost use Rattle.specs.specs.Field.{FieldRechannels, FieldInserts, FieldGets, FieldRemoves, FieldClears, Holds, FieldInsertIsRefused, FieldGetIsRefused, FieldRemoveIsRefused, FieldClearIsRefused, PutIsRefused, column_of, field_column, field_room};
 
 use crate::command::Refusal;
 use crate::duplicate::Duplicate;
@@ -69,6 +70,7 @@ pub fn insert<T: Component>(
 
 /// Puts a component at an entity that is alive, in its storage, and answers the one before.
 #[inline(always)]
+#[tactic(auto, using(crate::proofs::Values::held))]
 pub fn insert_in<T: Component>(
     storage: &mut MaskedStorage<T>,
     entities: &EntitiesRes,
@@ -79,6 +81,7 @@ pub fn insert_in<T: Component>(
     ensures refused { IfErr result (λ r. FieldInsertIsRefused (population entities.now) (Some (column_of storage.old)) e r.0) }
     ensures back { IfErr result (λ r. r.1 ≡ value) }
     ensures err { OnErr result (column_of storage.new ≡ column_of storage.old) }
+    ensures succeeds { Holds (population entities.now) (Some (column_of storage.old)) e → HasRoom storage.old.room 1 → IsOk result }
 {
     let _heard = storage.needs_room();
     match put(storage, entities, e, value) {
@@ -184,6 +187,7 @@ pub fn remove_in<T: Component>(
     ensures ok { IfOk result (λ found. FieldRemoves (population entities.now) (Some (column_of storage.old)) e found (Some (column_of storage.new))) }
     ensures refused { IfErr result (FieldRemoveIsRefused (population entities.now) (Some (column_of storage.old)) e) }
     ensures err { OnErr result (column_of storage.new ≡ column_of storage.old) }
+    ensures succeeds { HasRoom storage.old.room 1 → IsOk result }
 {
     let _heard = storage.needs_room();
     match take(storage, entities, e) {
@@ -229,6 +233,7 @@ pub fn clear_in<T: Component>(storage: &mut MaskedStorage<T>) -> Result<(), Refu
     ensures ok { OnOk result (FieldClears (Some (column_of storage.old)) (Some (column_of storage.new))) }
     ensures refused { IfErr result (FieldClearIsRefused (Some (column_of storage.old))) }
     ensures err { OnErr result (column_of storage.new ≡ column_of storage.old) }
+    ensures succeeds { HasRoom storage.old.room (length (indices_of storage.old)) → IsOk result }
 {
     let _heard = storage.needs_room();
     match storage.clear() {

@@ -8,13 +8,13 @@ use crate::world_job::WorldJob;
 /// From a state where each index with a value lives, every run leads to such a state, with whatever jobs. A new world is in such a state, so
 /// each component that any run leaves in it belongs to a living entity.
 pub fn only_living<S: Storages, J: WorldJob<S>>()
-    ensures kept { KeepsOnlyLiving S.place S.allocates S.marks J.does }
-    ensures from_new { ReachesOnlyLiving S.place S.allocates S.marks J.does }
+    ensures kept { KeepsOnlyLiving S.place S.allocates S.marks J.does J.wants }
+    ensures from_new { ReachesOnlyLiving S.place S.allocates S.marks J.does J.wants }
 {}
 
 /// What died stays dead: an entity that was given and is not alive is never alive again, whatever a run and its jobs do.
 pub fn stays_dead<S: Storages, J: WorldJob<S>>()
-    ensures { StaysGone S.place S.allocates S.marks J.does }
+    ensures { StaysGone S.place S.allocates S.marks J.does J.wants }
 {}
 
 /// Let a slot be registered with its events on, a reader of it be registered, and the jobs that wait spare that reader, throughout a run. Then
@@ -22,12 +22,12 @@ pub fn stays_dead<S: Storages, J: WorldJob<S>>()
 /// what it had not read before; so, replayed, they give the indices of the values after, and each index at which a value changed stands in one
 /// of them.
 pub fn events_lead<S: Storages, J: WorldJob<S>>()
-    ensures follows { TellsWatched S.place S.allocates S.marks J.does J.spares S.Slot.eq Follows }
-    ensures replays { TellsWatched S.place S.allocates S.marks J.does J.spares S.Slot.eq Replays }
+    ensures follows { TellsWatched S.place S.allocates S.marks J.does J.wants J.spares S.Slot.eq Follows }
+    ensures replays { TellsWatched S.place S.allocates S.marks J.does J.wants J.spares S.Slot.eq Replays }
 {}
 
 /// Where no command ends a reader, turns its slot's events off or queues a job that does not spare the reader, a reader that follows the slot at
 /// the start does so throughout the run.
 pub fn quiet_runs<S: Storages, J: WorldJob<S>>()
-    ensures { StaysWatched S.place S.allocates S.marks J.does J.spares }
+    ensures { StaysWatched S.place S.allocates S.marks J.does J.wants J.spares }
 {}

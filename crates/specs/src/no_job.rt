@@ -14,6 +14,8 @@ impl<S: Storages> WorldJob<S> for NoJob {
 
     ghost does = { λ j old more new. DoesNothing old more new };
 
+    ghost wants = { λ j s. ⊥ };
+
     ghost spares = { λ j slot n. Unit {0} };
 
     fn update(

@@ -122,7 +122,7 @@ pub(crate) fn run_one<S: Storages, J: WorldJob<S>>(
     queue: &mut LazyUpdate<S, J>,
     job: Job<S, J>,
 ) -> Outcome<S, J>
-    ensures done { DoesOrKeeps S.place S.marks J.does (core_state S.table S.ids core.old) job result.refused result.kept (core_state S.table S.ids core.new)
+    ensures done { DoesOrKeeps S.place S.marks J.does J.wants (core_state S.table S.ids core.old) job result.refused result.kept (core_state S.table S.ids core.new)
         (queued queue.old) (queued queue.new) }
 {
     match job {
@@ -206,7 +206,7 @@ pub(crate) fn run_jobs<S: Storages, J: WorldJob<S>>(
     queue: &mut LazyUpdate<S, J>,
     limit: u64,
 ) -> Ending
-    ensures { RunsJobs S.place S.marks J.does result.stopped limit result.ran result.refused
+    ensures { RunsJobs S.place S.marks J.does J.wants result.stopped limit result.ran result.refused
         (core_state S.table S.ids core.old) (to_come first.old queue.old) (core_state S.table S.ids core.new) (to_come first.new queue.new) }
 {
     let mut ran = 0;

@@ -70,7 +70,7 @@ impl<S: Storages, J: WorldJob<S>> World<S, J> {
     /// those that jobs queue come last. It takes memory for the list of the dead, for events, and for what the jobs do. A refused call did
     /// nothing. A job that finds no memory ends the run and stays the first. Ports `WorldExt::maintain`.
     pub fn maintain(&mut self, limit: u64) -> Result<Maintained, AllocError>
-        ensures ok { IfOk result (λ m. Maintains S.place S.marks J.does (world_state S.table S.ids self.old) limit m (world_state S.table S.ids self.new)) }
+        ensures ok { IfOk result (λ m. Maintains S.place S.marks J.does J.wants (world_state S.table S.ids self.old) limit m (world_state S.table S.ids self.new)) }
         ensures gone { IfOk result (λ m. All (IsGone (state_of S.table S.ids self.new).people) m.deleted.items) }
         ensures idle { NoneMarked (state_of S.table S.ids self.old).people → IsOk result }
         ensures err { OnErr result (world_state S.table S.ids self.new ≡ world_state S.table S.ids self.old) }
@@ -105,7 +105,7 @@ impl<S: Storages, J: WorldJob<S>> World<S, J> {
 
     /// Does commands in order, with room for all replies got first. Where that room was refused, nothing was done. The empty list is not refused.
     pub fn run(&mut self, commands: Vec<Command<S, J>>) -> Result<Vec<Reply<S::Value>>, AllocError>
-        ensures run { IfOk result (λ replies. Run S.place S.allocates S.marks J.does (world_state S.table S.ids self.old) commands.items replies.items (world_state S.table S.ids self.new)) }
+        ensures run { IfOk result (λ replies. Run S.place S.allocates S.marks J.does J.wants (world_state S.table S.ids self.old) commands.items replies.items (world_state S.table S.ids self.new)) }
         ensures err { OnErr result (world_state S.table S.ids self.new ≡ world_state S.table S.ids self.old) }
         ensures idle { commands.items ≡ [] → IsOk result }
 

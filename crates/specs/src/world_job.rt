@@ -17,6 +17,9 @@ pub trait WorldJob<S: Storages>: Sized + Drop {
     /// What the job may do: from a state, with the further jobs that it queues, to a state.
     ghost does: { Self → State S.Slot S.Value → List (Job S Self S.Slot S.Value) → State S.Slot S.Value → Type 0 };
 
+    /// In which states the job may find no memory. A job that takes none says `⊥`, and is never handed back.
+    ghost wants: { Self → State S.Slot S.Value → Type 0 };
+
     /// The readers of slots that the job spares: it neither reads nor ends the reader, leaves the slot's events on, writes none by hand, and
     /// queues only jobs that spare it.
     ghost spares: { Self → S.Slot → ℕ → Type 0 };
@@ -29,6 +32,7 @@ pub trait WorldJob<S: Storages>: Sized + Drop {
     ) -> Result<(), (Self, AllocError)>
         ensures ok { OnOk result (QueuesMore queue.old queue.new (λ more. does self (core_state S.table S.ids core.old) more (core_state S.table S.ids core.new))) }
         ensures back { IfErr result (λ r. r.0 ≡ self) }
+        ensures wanted { OnErr result (wants self (core_state S.table S.ids core.old)) }
         ensures err_core { OnErr result (core_state S.table S.ids core.new ≡ core_state S.table S.ids core.old) }
         ensures err_queue { OnErr result (queued queue.new ≡ queued queue.old) };
 

@@ -1,11 +1,12 @@
 //! A storage of a core, to write to.
-ghost use Rattle.std.specs.Prelude.{◌≡◌, ◌↔◌, Some, None, Err, IsSome, IsTrue, IfSome, IfOk, IfErr, OnOk, OnErr, option_copied};
+ghost use Rattle.std.specs.Prelude.{◌≡◌, ◌↔◌, Some, None, Err, IsSome, IsTrue, IfSome, IfOk, IsOk, IfErr, OnOk, OnErr, length, option_copied};
 ghost use Rattle.std.specs.Borrow.{sem};
 ghost use Rattle.std.specs.Option.{option_map};
 ghost use Rattle.std.specs.FinMap as map;
+ghost use Rattle.storages.specs.Meaning.{HasRoom};
 ghost use Rattle.storages.specs.ReadView as reading;
 ghost use Rattle.storages.specs.Slot as masked;
-ghost use Rattle.specs.specs.Field.{FieldInserts, FieldGets, FieldRemoves, FieldClears, WriteIsRefused, Holds, column_of, field_column};
+ghost use Rattle.specs.specs.Field.{FieldInserts, FieldGets, FieldRemoves, FieldClears, WriteIsRefused, Holds, column_of, field_column, field_room};
 ghost use Rattle.specs.specs.Column.{wants_memory};
 ghost use Rattle.specs.specs.State.{OnTable, InsertsAlone, RemovesAlone};
 ghost use Rattle.specs.specs.Table.{Inserts, Gets, Removes, RemovalWantsMemory, Clears, ClearingWantsMemory};
@@ -72,6 +73,7 @@ impl<'a, S: Has<T, I>, T: Component, I> Writing<'a, S, T, I> {
         ensures field { IfOk result (λ before. FieldInserts (shown S.table S.ids self.old).people (field_column (S.part (storages_of self.old))) e component before (field_column (S.part (storages_of self.new)))) }
         ensures refused { IfErr result (WriteIsRefused (shown S.table S.ids self.old).people (field_column (S.part (storages_of self.old))) e component) }
         ensures err { OnErr result (shown S.table S.ids self.new ≡ shown S.table S.ids self.old) }
+        ensures succeeds { Holds (shown S.table S.ids self.old).people (field_column (S.part (storages_of self.old))) e → HasRoom (field_room (S.part (storages_of self.old))) 1 → IsOk result }
     {
         let Parts { entities, storages } = &mut self.core.parts;
         match by_type::insert(storages, entities, e, component) {
@@ -95,6 +97,7 @@ impl<'a, S: Has<T, I>, T: Component, I> Writing<'a, S, T, I> {
         ensures field { IfOk result (λ found. FieldRemoves (shown S.table S.ids self.old).people (field_column (S.part (storages_of self.old))) e found (field_column (S.part (storages_of self.new)))) }
         ensures refused { OnErr result (RemovalWantsMemory (shown S.table S.ids self.old).people (field_column (S.part (storages_of self.old))) e) }
         ensures err { OnErr result (shown S.table S.ids self.new ≡ shown S.table S.ids self.old) }
+        ensures succeeds { HasRoom (field_room (S.part (storages_of self.old))) 1 → IsOk result }
     {
         let Parts { entities, storages } = &mut self.core.parts;
         match by_type::remove(storages, entities, e) {
@@ -114,6 +117,7 @@ impl<'a, S: Has<T, I>, T: Component, I> Writing<'a, S, T, I> {
         ensures field { OnOk result (FieldClears (field_column (S.part (storages_of self.old))) (field_column (S.part (storages_of self.new)))) }
         ensures refused { OnErr result (ClearingWantsMemory (field_column (S.part (storages_of self.old)))) }
         ensures err { OnErr result (shown S.table S.ids self.new ≡ shown S.table S.ids self.old) }
+        ensures succeeds { IfSome (S.part (storages_of self.old)) (λ w. HasRoom w.room (length (masked.indices_of w))) → IsOk result }
     {
         match by_type::clear(&mut self.core.parts.storages) {
             Ok(()) => Ok(()),
@@ -129,6 +133,7 @@ impl<'a, S: Has<T, I>, T: Component, I> Writing<'a, S, T, I> {
         ensures value { IfOk result (λ x. FieldGets (shown S.table S.ids self.old).people (field_column (S.part (storages_of self.old))) e (Some x.now)) }
         ensures absent { (result ≡ Err NotLent.Absent) ↔ FieldGets (shown S.table S.ids self.old).people (field_column (S.part (storages_of self.old))) e None }
         ensures refused { result ≡ Err NotLent.OutOfMemory → RemovalWantsMemory (shown S.table S.ids self.old).people (field_column (S.part (storages_of self.old))) e }
+        ensures succeeds { Holds (shown S.table S.ids self.old).people (field_column (S.part (storages_of self.old))) e → HasRoom (field_room (S.part (storages_of self.old))) 1 → IsOk result }
     {
         if !self.core.parts.entities.is_alive(e) {
             return Err(NotLent::Absent);
@@ -161,6 +166,7 @@ fn component_mut<T: Component, S: Has<T, I>, I>(
     ensures value { IfOk result (λ x. option_map (λ (w : masked.Slot T). map.get w.map id) (S.part storages.old) ≡ Some (Some x.now)) }
     ensures absent { (result ≡ Err NotLent.Absent) ↔ (option_map (λ (w : masked.Slot T). map.get w.map id) (S.part storages.old) ≡ Some None) }
     ensures refused { result ≡ Err NotLent.OutOfMemory → IfSome (S.part storages.old) (λ w. IsSome (map.get w.map id) × IsTrue (wants_memory (column_of w))) }
+    ensures succeeds { IfSome (S.part storages.old) (λ w. IsSome (map.get w.map id) × HasRoom w.room 1) → IsOk result }
 {
     let storage = here(storages);
     let _heard = storage.needs_room();

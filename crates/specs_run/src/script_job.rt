@@ -20,6 +20,8 @@ impl<S: Storages> WorldJob<S> for ScriptJob {
 
     ghost does = { Does };
 
+    ghost wants = { λ j s. Unit {0} };
+
     ghost spares = { Spares };
 
     fn update(

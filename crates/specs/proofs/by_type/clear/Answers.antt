@@ -18,3 +18,6 @@ returns-in-Some-clause-ok g c =
     (laws.sees new ∙ ap (λ x. option_map (column_as value) (field_column x)) (g.met.S.Field.puts old w))
     (laws.only old w) in
     on_ok c.clear_in.result (λ r. shown_clears shows tt (field_clears _ _ r)) c.clear_in.ensures.ok
+
+pub returns-in-Some-clause-succeeds : goal.returns-in-Some-clause-succeeds
+returns-in-Some-clause-succeeds g c = λ there room. c.clear_in.ensures.succeeds (rw c.in-Some.ensures.value at room)

@@ -18,3 +18,6 @@ returns-in-Some-clause-ok g c =
     (laws.sees new ∙ ap (λ x. option_map (column_as value) (field_column x)) (g.met.S.Field.puts old w))
     (laws.only old w) in
     if_ok c.insert_in.result _ _ (λ before i. shown_inserts shows _ g.S.Storages.place _ c.args.e c.args.component before (laws.places c.args.component) (field_inserts _ _ _ c.args.e c.args.component before i)) c.insert_in.ensures.ok
+
+pub returns-in-Some-clause-succeeds : goal.returns-in-Some-clause-succeeds
+returns-in-Some-clause-succeeds g c = λ held room. c.insert_in.ensures.succeeds (rw c.in-Some.ensures.value at held) (rw c.in-Some.ensures.value at room)

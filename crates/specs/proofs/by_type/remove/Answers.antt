@@ -18,3 +18,6 @@ returns-in-Some-clause-ok g c =
     (laws.sees new ∙ ap (λ x. option_map (column_as value) (field_column x)) (g.met.S.Field.puts old w))
     (laws.only old w) in
     if_ok c.remove_in.result _ _ (λ found r. shown_removes shows _ tt c.args.e found (field_removes _ _ _ c.args.e found r)) c.remove_in.ensures.ok
+
+pub returns-in-Some-clause-succeeds : goal.returns-in-Some-clause-succeeds
+returns-in-Some-clause-succeeds g c = λ there room. c.remove_in.ensures.succeeds (rw c.in-Some.ensures.value at room)

@@ -17,5 +17,6 @@ returns g c =
         value = search rules;
         absent = rw c.here-storage.ensures.slot (λ h. ap Some (c.get_mut.ensures.absent.0 h), λ h. c.get_mut.ensures.absent.1 (same_Some _ _ h));
         refused = rw c.here-storage.ensures.slot (loan_refused slot c.args.id c.get_mut.result c.needs_room-heard.result c.get_mut.ensures.absent c.get_mut.ensures.succeeds c.needs_room-heard.ensures.told c.needs_room-heard.ensures.wanted);
+        succeeds = rw c.here-storage.ensures.slot (λ h. c.get_mut.ensures.succeeds h.0 h.1);
       },
     )

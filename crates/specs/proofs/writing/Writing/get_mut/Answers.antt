@@ -2,14 +2,14 @@ use Rattle.std.proofs.Common.{refl, sym, ◌∙◌, inl, inr}
 use Rattle.std.proofs.lemmas.Bool.{false≢true}
 use Rattle.entities.specs.Census.{population}
 use Rattle.entities.specs.Population.{IsAlive}
-use Rattle.specs.proofs.Values.{found_at, lacks_at, lacks_dead, loan_wants}
+use Rattle.specs.proofs.Values.{found_at, lacks_at, lacks_dead, loan_wants, loan_ready}
 use Rattle.specs.proofs.Shown.{if_ok}
 use Rattle.specs.proofs.writing.Writing.get_mut.Goals as goal
 
 pub returns-then-not-is_alive : goal.returns-then-not-is_alive
 returns-then-not-is_alive g c =
     let dead : IsAlive (population c.args.self.now.core.now.parts.entities) c.args.e → ⊥ = λ a. absurd (false≢true (sym c.if-not-is_alive.true ∙ c.is_alive.ensures.alive.1 a)) in
-    ((refl, (λ w. record { same_reference = refl; writes = λ ok. absurd (false≢true ok); rest = refl }), record { same_reference = refl; refuses = inr refl; rest = refl }), record { writes_back = tt; value = tt; absent = (λ _. lacks_dead (population c.args.self.now.core.now.parts.entities) c.args.e dead (g.S.Field.part c.args.self.now.core.now.parts.storages) c.requires, λ _. refl); refused = λ e. absurd (cc) })
+    ((refl, (λ w. record { same_reference = refl; writes = λ ok. absurd (false≢true ok); rest = refl }), record { same_reference = refl; refuses = inr refl; rest = refl }), record { writes_back = tt; value = tt; absent = (λ _. lacks_dead (population c.args.self.now.core.now.parts.entities) c.args.e dead (g.S.Field.part c.args.self.now.core.now.parts.storages) c.requires, λ _. refl); refused = λ e. absurd (cc); succeeds = λ h room. absurd (dead h.alive) })
 
 pub returns : goal.returns
 returns g c =
@@ -29,5 +29,6 @@ returns g c =
             let found = rw c.id.ensures at c.component_mut.ensures.absent in
             (λ h. lacks.0 (found.0 h), λ h. found.1 (lacks.1 h));
         refused = λ e. loan_wants (population core.parts.entities) c.args.e alive (g.S.Field.part core.parts.storages) c.requires ((rw c.id.ensures at c.component_mut.ensures.refused) e);
+        succeeds = λ h room. (rw c.id.ensures at c.component_mut.ensures.succeeds) (loan_ready (population core.parts.entities) c.args.e (g.S.Field.part core.parts.storages) h room);
       },
     )
