@@ -1,3 +1,2 @@
 pub mod Spreads
 pub mod Spot
-pub mod Done

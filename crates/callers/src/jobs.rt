@@ -2,14 +2,12 @@
 ghost use Rattle.std.specs.Prelude.{◌≡◌, ◌∷◌, [], ◌++◌, false, IfOk, OnOk, OnErr};
 ghost use Rattle.entities.specs.Population.{born};
 ghost use Rattle.specs.specs.People.{Births};
-ghost use Rattle.specs.specs.State.{core_state, OnPeople};
+ghost use Rattle.specs.specs.State.{State, core_state, OnPeople};
 ghost use Rattle.specs.specs.Steps.{world_state};
 ghost use Rattle.specs.specs.declared.job.Job.TheVariants.{Own};
 ghost use Rattle.callers.specs.Spreads.{Given};
 
-use specs::{
-    Core, CreateError, Entity, LazyUpdate, Maintained, NoJob, Parts, Storages, World, WorldJob,
-};
+use specs::{Core, CreateError, Entity, LazyUpdate, Maintained, Parts, Storages, World, WorldJob};
 use std::alloc::AllocError;
 
 /// Queues itself, so it runs again at each turn.
@@ -156,11 +154,18 @@ pub fn queue<S: Storages, J: WorldJob<S>>(
 }
 
 /// A job that takes no memory stops no run: where it is the only one that waits, it is done.
-pub fn is_done<S: Storages>(world: &mut World<S, NoJob>) -> Result<Maintained, AllocError>
-    requires { (world_state S.table S.ids world.old).jobs ≡ Own NoJob ∷ [] }
+pub fn is_done<S: Storages, J: WorldJob<S>>(
+    world: &mut World<S, J>,
+    job: J,
+) -> Result<Maintained, AllocError>
+    requires alone { (world_state S.table S.ids world.old).jobs ≡ [] }
+    requires takes_none { (s : State S.Slot S.Value) → J.wants job s → ⊥ }
     ensures goes_on { IfOk result (λ m. m.stopped ≡ false) }
     ensures done { IfOk result (λ m. m.ran ≡ 1) }
 {
+    if let Err((_job, refused)) = queue(world, job) {
+        return Err(refused);
+    }
     let kept = world.maintain(1)?;
     Ok(kept)
 }
