@@ -9,12 +9,20 @@ use specs::{ComponentEvent, EntitiesRes, Entity, MarkError, ReaderId, Refusal, S
 use std::alloc::{AllocError, Global};
 
 /// The storages of both. A call goes to the part that its slot or its value names, and costs what it costs there.
-#[derive(Drop)]
 pub struct Both<A, B> {
     /// The first storages.
     pub first: A,
     /// The rest of them.
     pub rest: B,
+}
+
+impl<A: Drop, B: Drop> Drop for Both<A, B> {
+    fn drop(self) {
+        let Both {
+            first: _first,
+            rest: _rest,
+        } = self;
+    }
 }
 
 impl<A: Storages, B: Storages> Storages for Both<A, B> {

@@ -10,12 +10,20 @@ use std::alloc::{AllocError, Global};
 use storages::MaybeTracked;
 
 /// One type of markers: their storage, or none where they are not registered, and what gives their ids, which outlives the markers.
-#[derive(Drop)]
 pub struct Marking<M: Marker, A> {
     /// The markers.
     pub markers: Only<M>,
     /// What gives their ids.
     pub allocator: A,
+}
+
+impl<M: Marker, A: Drop> Drop for Marking<M, A> {
+    fn drop(self) {
+        let Marking {
+            markers: _markers,
+            allocator: _allocator,
+        } = self;
+    }
 }
 
 impl<T> Marking<SimpleMarker<T>, SimpleMarkerAllocator<T>> {

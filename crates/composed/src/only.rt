@@ -7,10 +7,15 @@ use std::alloc::{AllocError, Global};
 use storages::{Component, MaskedStorage, MaybeTracked};
 
 /// One component type: its storage, or none where it is not registered.
-#[derive(Drop)]
 pub struct Only<T: Component> {
     /// The storage, or none where the component type is not registered.
     pub field: Option<MaskedStorage<T>>,
+}
+
+impl<T: Component> Drop for Only<T> {
+    fn drop(self) {
+        let Only { field: _field } = self;
+    }
 }
 
 /// The one slot of a struct of storages for one component type.

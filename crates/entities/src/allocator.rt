@@ -23,7 +23,6 @@ use std::marker::Model;
 /// again stand in a stack. Room is got for many indices at once, so that a birth mostly takes none, and a death or a mark never does.
 ///
 /// Ports `specs::world::Allocator`.
-#[derive(Drop)]
 pub struct Allocator {
     // By index, the current generation, of pending births too.
     generations: Vec<i32>,
@@ -34,6 +33,19 @@ pub struct Allocator {
     killed: BitSet,
     // Each part has room for the indices below this.
     room: usize,
+}
+
+impl Drop for Allocator {
+    fn drop(self) {
+        let Allocator {
+            generations: _generations,
+            free: _free,
+            alive: _alive,
+            raised: _raised,
+            killed: _killed,
+            room: _room,
+        } = self;
+    }
 }
 
 impl Model for Allocator {

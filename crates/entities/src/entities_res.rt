@@ -20,9 +20,16 @@ use std::marker::Model;
 /// The entities of a world. Births are pending and deaths are marks, which its allocator's `merge` takes up.
 ///
 /// Ports `specs::world::EntitiesRes`; the calls that change it take it alone (`&mut`), or go through a shared phase.
-#[derive(Drop)]
 pub struct EntitiesRes {
     allocator: Allocator,
+}
+
+impl Drop for EntitiesRes {
+    fn drop(self) {
+        let EntitiesRes {
+            allocator: _allocator,
+        } = self;
+    }
 }
 
 impl Model for EntitiesRes {

@@ -23,12 +23,22 @@ use std::marker::Model;
 /// A set of indices below `INDEX_LIMIT`, in four layers of words. Ports `hibitset::BitSet`.
 ///
 /// Room comes in blocks of 4096 indices. An index with room is added without memory, and room stays.
-#[derive(Drop)]
 pub struct BitSet {
     layer0: Vec<u64>,
     layer1: Vec<u64>,
     layer2: Vec<u64>,
     top: u64,
+}
+
+impl Drop for BitSet {
+    fn drop(self) {
+        let BitSet {
+            layer0: _layer0,
+            layer1: _layer1,
+            layer2: _layer2,
+            top: _top,
+        } = self;
+    }
 }
 
 impl Model for BitSet {

@@ -41,9 +41,14 @@ impl<T: Drop> Component for Change<T> {
 /// For each entity's index the values that were added there, combined in the order of the calls. Only the index of an entity counts.
 ///
 /// Contracts see it as a finite map from indices to values. Ports `specs::changeset::ChangeSet`.
-#[derive(Drop)]
 pub struct ChangeSet<T: Drop> {
     changes: MaskedStorage<Change<T>>,
+}
+
+impl<T: Drop> Drop for ChangeSet<T> {
+    fn drop(self) {
+        let ChangeSet { changes: _changes } = self;
+    }
 }
 
 impl<T: Drop> Model for ChangeSet<T> {

@@ -79,11 +79,20 @@ impl<T> Marker for SimpleMarker<T> {
 }
 
 /// Gives the numbers from 0 on as ids, each once. Ports `specs::saveload::SimpleMarkerAllocator`.
-#[derive(Drop)]
 pub struct SimpleMarkerAllocator<T> {
     next: u128,
     mapping: HashMap<u64, Entity>,
     kind: PhantomData<T>,
+}
+
+impl<T> Drop for SimpleMarkerAllocator<T> {
+    fn drop(self) {
+        let SimpleMarkerAllocator {
+            next: _next,
+            mapping: _mapping,
+            kind: _kind,
+        } = self;
+    }
 }
 
 impl<T> SimpleMarkerAllocator<T> {

@@ -89,10 +89,18 @@ impl<R> Marker for UuidMarker<R> {
 }
 
 /// Gives identifiers that a generator draws. Ports `specs::saveload::UuidMarkerAllocator`, into which the generator is handed.
-#[derive(Drop)]
 pub struct UuidMarkerAllocator<R> {
     generator: R,
     mapping: HashMap<Uuid, Entity>,
+}
+
+impl<R: Drop> Drop for UuidMarkerAllocator<R> {
+    fn drop(self) {
+        let UuidMarkerAllocator {
+            generator: _generator,
+            mapping: _mapping,
+        } = self;
+    }
 }
 
 impl<R> UuidMarkerAllocator<R> {

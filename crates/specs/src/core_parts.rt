@@ -41,7 +41,6 @@ impl From<DeleteError> for Refusal {
 }
 
 /// Entities and storages.
-#[derive(Drop)]
 pub struct Parts<S> {
     /// The entities.
     pub entities: EntitiesRes,
@@ -49,11 +48,28 @@ pub struct Parts<S> {
     pub storages: S,
 }
 
+impl<S: Drop> Drop for Parts<S> {
+    fn drop(self) {
+        let Parts {
+            entities: _entities,
+            storages: _storages,
+        } = self;
+    }
+}
+
 /// Entities and their components, without a queue of jobs.
-#[derive(Drop)]
 pub struct Core<S> {
     pub(crate) parts: Parts<S>,
     pub(crate) alloc: Global,
+}
+
+impl<S: Drop> Drop for Core<S> {
+    fn drop(self) {
+        let Core {
+            parts: _parts,
+            alloc: _alloc,
+        } = self;
+    }
 }
 
 impl<S: Storages> Core<S> {

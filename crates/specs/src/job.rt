@@ -30,15 +30,25 @@ pub enum Job<S: Storages, J = NoJob> {
 
 /// The queue of a world's jobs, which `World::maintain` does from the front. Where memory is refused, a call hands back what it was given, and
 /// the queue is as before. Each call takes memory for the jobs that it queues alone. Ports `specs::LazyUpdate`.
-#[derive(Drop)]
 pub struct LazyUpdate<S: Storages, J = NoJob> {
     jobs: VecDeque<Job<S, J>>,
 }
 
+impl<S: Storages, J: Drop> Drop for LazyUpdate<S, J> {
+    fn drop(self) {
+        let LazyUpdate { jobs: _jobs } = self;
+    }
+}
+
 /// Jobs in order, made where no queue is at hand, to be appended to one.
-#[derive(Drop)]
 pub struct JobList<S: Storages, J = NoJob> {
     jobs: VecDeque<Job<S, J>>,
+}
+
+impl<S: Storages, J: Drop> Drop for JobList<S, J> {
+    fn drop(self) {
+        let JobList { jobs: _jobs } = self;
+    }
 }
 
 impl<S: Storages, J: Drop> LazyUpdate<S, J> {

@@ -22,7 +22,6 @@ use crate::world_job::WorldJob;
 use std::alloc::{AllocError, Global};
 
 /// What a world lends: its entities with their components, and its queue of jobs.
-#[derive(Drop)]
 pub struct WorldParts<S: Storages, J = NoJob> {
     /// Entities and storages.
     pub core: Core<S>,
@@ -30,12 +29,29 @@ pub struct WorldParts<S: Storages, J = NoJob> {
     pub lazy: LazyUpdate<S, J>,
 }
 
+impl<S: Storages + Drop, J: Drop> Drop for WorldParts<S, J> {
+    fn drop(self) {
+        let WorldParts {
+            core: _core,
+            lazy: _lazy,
+        } = self;
+    }
+}
+
 /// Entities, their components, and jobs that wait, those of the user's of type `J`. Ports `specs::World` with `specs::WorldExt`.
-#[derive(Drop)]
 pub struct World<S: Storages, J = NoJob> {
     pub(crate) parts: WorldParts<S, J>,
     // A job that found no memory, which goes before the queue.
     pub(crate) kept: Option<Job<S, J>>,
+}
+
+impl<S: Storages + Drop, J: Drop> Drop for World<S, J> {
+    fn drop(self) {
+        let World {
+            parts: _parts,
+            kept: _kept,
+        } = self;
+    }
 }
 
 impl<S: Storages, J: WorldJob<S>> World<S, J> {

@@ -17,11 +17,20 @@ struct Reader<E> {
 }
 
 /// The events that each reader has not read. Ports `shrev::EventChannel`.
-#[derive(Drop)]
 pub struct EventChannel<E> {
     readers: Vec<Reader<E>>,
     registered: u64,
     alloc: Global,
+}
+
+impl<E: Drop> Drop for EventChannel<E> {
+    fn drop(self) {
+        let EventChannel {
+            readers: _readers,
+            registered: _registered,
+            alloc: _alloc,
+        } = self;
+    }
 }
 
 impl<E> Model for EventChannel<E> {

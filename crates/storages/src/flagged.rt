@@ -18,12 +18,22 @@ use std::alloc::{AllocError, Global};
 use std::marker::PhantomData;
 
 /// A storage that writes an event at each change. Ports `specs::storage::FlaggedStorage`.
-#[derive(Drop)]
 pub struct FlaggedStorage<C, T = DenseVecStorage<C>> {
     channel: EventChannel<ComponentEvent>,
     storage: T,
     event_emission: bool,
     phantom: PhantomData<C>,
+}
+
+impl<C, T: Drop> Drop for FlaggedStorage<C, T> {
+    fn drop(self) {
+        let FlaggedStorage {
+            channel: _channel,
+            storage: _storage,
+            event_emission: _event_emission,
+            phantom: _phantom,
+        } = self;
+    }
 }
 
 impl<C, T: TryDefault> TryDefault for FlaggedStorage<C, T> {

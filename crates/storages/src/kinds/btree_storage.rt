@@ -11,9 +11,14 @@ use std::collections::BTreeMap;
 /// Components in an ordered map: best where very few entities have one.
 ///
 /// Ports `specs::storage::BTreeStorage`.
-#[derive(Drop)]
 pub struct BTreeStorage<T> {
     map: BTreeMap<Index, T>,
+}
+
+impl<T: Drop> Drop for BTreeStorage<T> {
+    fn drop(self) {
+        let BTreeStorage { map: _map } = self;
+    }
 }
 
 impl<T> TryDefault for BTreeStorage<T> {

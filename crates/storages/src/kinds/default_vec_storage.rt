@@ -14,9 +14,14 @@ use std::mem;
 /// it was last cleared.
 ///
 /// Ports `specs::storage::DefaultVecStorage`.
-#[derive(Drop)]
 pub struct DefaultVecStorage<T> {
     items: Vec<T>,
+}
+
+impl<T: Drop> Drop for DefaultVecStorage<T> {
+    fn drop(self) {
+        let DefaultVecStorage { items: _items } = self;
+    }
 }
 
 impl<T> TryDefault for DefaultVecStorage<T> {

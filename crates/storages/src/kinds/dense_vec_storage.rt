@@ -9,7 +9,6 @@ use hibits::{BitSet, Index};
 use std::alloc::{AllocError, Global};
 
 /// Best where few entities have the component. The values have no gaps and no stated order.
-#[derive(Drop)]
 pub struct DenseVecStorage<T> {
     values: Vec<T>,
     // the id of each value
@@ -17,6 +16,16 @@ pub struct DenseVecStorage<T> {
     // the place of each id that has a value, and anything at the others
     places: Vec<u32>,
     ghost consistent: { IsConsistent (vec_len values) ids.items places.items },
+}
+
+impl<T: Drop> Drop for DenseVecStorage<T> {
+    fn drop(self) {
+        let DenseVecStorage {
+            values: _values,
+            ids: _ids,
+            places: _places,
+        } = self;
+    }
 }
 
 impl<T> TryDefault for DenseVecStorage<T> {

@@ -11,9 +11,14 @@ use std::collections::HashMap;
 /// Components in a hash map: best where very few entities have one.
 ///
 /// Ports `specs::storage::HashMapStorage`.
-#[derive(Drop)]
 pub struct HashMapStorage<T> {
     map: HashMap<Index, T>,
+}
+
+impl<T: Drop> Drop for HashMapStorage<T> {
+    fn drop(self) {
+        let HashMapStorage { map: _map } = self;
+    }
 }
 
 impl<T> TryDefault for HashMapStorage<T> {

@@ -16,9 +16,14 @@ pub trait NullComponent: Default + Drop {
 /// mask alone matters.
 ///
 /// Ports `specs::storage::NullStorage`.
-#[derive(Drop)]
 pub struct NullStorage<T> {
     value: T,
+}
+
+impl<T: Drop> Drop for NullStorage<T> {
+    fn drop(self) {
+        let NullStorage { value: _value } = self;
+    }
 }
 
 impl<T: NullComponent> TryDefault for NullStorage<T> {

@@ -12,9 +12,14 @@ use std::alloc::{AllocError, Global};
 /// index at that place, and ends at the greatest index that was inserted since it was last cleared.
 ///
 /// Ports `specs::storage::VecStorage`.
-#[derive(Drop)]
 pub struct VecStorage<T> {
     items: Vec<Option<T>>,
+}
+
+impl<T: Drop> Drop for VecStorage<T> {
+    fn drop(self) {
+        let VecStorage { items: _items } = self;
+    }
 }
 
 impl<T> TryDefault for VecStorage<T> {
