@@ -54,6 +54,10 @@ class Edit:
     def label(self):
         return f"{'right variant' if self.is_right else 'wrong body'} {self.name}"
 
+    def meaning(self):
+        """All that decides what the edit shows."""
+        return self.kind, self.crate, self.function, self.clauses, self.says, self.alone, self.changes
+
     def fault(self, explains=False):
         """Why the edit cannot be tried, if it cannot."""
         if self.strange:

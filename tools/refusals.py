@@ -74,7 +74,7 @@ def without(text, names):
 def judge(said, edit):
     """Whether a wrong body is refused as it must be, or a right one accepted, and what to say; nothing where a further look may tell more."""
     if said.line is None:
-        return False, "NOT SHOWN: the check has no line for its function"
+        return False, f"NOT {'ACCEPTED' if edit.is_right else 'SHOWN'}: the check has no line for its function"
     if edit.is_right:
         return judge_right(said, edit)
     if said.is_proved or not said.is_refused:

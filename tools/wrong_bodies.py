@@ -25,7 +25,7 @@ would build them again. There are as many lanes as processors, or RT_JOBS. A lan
 one group after another there. What a group's check proved and the next did not change is kept in the room. Where every crate has its lane, the next
 lane makes a second room for the crate that has the most left, so that all lanes end at about one time. The verdicts come as they are found.
 
-What an edit showed is kept on this machine, by the checksum of all that decides it: the kit, these scripts, the edit, and the files of its crate and
+What an edit showed is kept on this machine, by the checksum of all that decides it: the kit, these scripts, the edit but for its comments, and the files of its crate and
 of those below. So a later run tries what changed, and what stands above it, as `rt ci` proves it; --anew tries all.
 
 Run at the top of the repository; --alone tries each edit alone, --explain only tells which goals each leaves open, for writing its lines 'clause:', and --list
@@ -140,9 +140,9 @@ def files_of(crate):
 
 def place_of(edit):
     """Where it is kept what the edit showed."""
-    sums = hashlib.sha256(kit() + repr((edit.path, edit.clauses)).encode())
+    sums = hashlib.sha256(kit() + repr(edit.meaning()).encode())
     here = os.path.dirname(os.path.abspath(__file__))
-    for path in (*(f"{here}/{it}.py" for it in ("wrong_bodies", "edits", "refusals")), edit.path):
+    for path in (f"{here}/{it}.py" for it in ("wrong_bodies", "edits", "refusals")):
         with open(path, "rb") as it:
             sums.update(hashlib.sha256(it.read()).digest())
     for crate in sorted({edit.crate, *below(edit.crate)}):
