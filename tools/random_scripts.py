@@ -543,7 +543,8 @@ def unproved_runs(scripts):
         for k, script in enumerate(scripts):
             with open(f"{cases}/{k:06}", "w", encoding="utf-8") as it:
                 it.write(text_of(script))
-        words = ["rt", "try", "--seconds", "3600", "--cases", cases]
+        # with a step alone the interpreter leaves each run to the program that is built with checks
+        words = ["rt", "try", "--seconds", "3600", "--steps", "1", "--cases", cases]
         ran = subprocess.run(words, cwd=os.path.join(TOP, "crates/specs_run_main"), stdin=subprocess.DEVNULL, capture_output=True, text=True, check=False)
     printed = re.split(r"^== (\d{6})\n", ran.stdout, flags=re.M)[1:]
     ends = re.split(r"^case=(\d{6}) run=ended status=(\d+) [^\n]*\n", ran.stderr, flags=re.M)
