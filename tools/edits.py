@@ -68,6 +68,8 @@ class Edit:
             return why
         for file, old, new in self.changes:
             source = f"crates/{self.crate}/{file}"
+            if not file.startswith("src/"):
+                return f"{file} is no code: an edit of a proof or a definition shows nothing"
             if not os.path.isfile(source):
                 return f"there is no {source}"
             with open(source, encoding="utf-8") as it:

@@ -275,7 +275,7 @@ class WrongBodies(Tree):
     def test_edits_that_do_not_hold(self):
         for new, why in ((WRONG.replace("old:     1", "old:     3"), "its old text stands 0 times"), (WRONG.replace("clause: returns\n", ""), "a wrong body has lines"),
                          (WRONG.replace("returns", "invariant_of"), "is no name of a clause"), (WRONG.replace("clause:", "claus:"), "a line is none of"),
-                         (WRONG.replace("new:     2", "new:     1"), "it changes nothing"), (WRONG.replace("# two is not one\n", ""), "its first line is no comment")):
+                         (WRONG.replace("src/lib.rt", "proofs/one/Answers.antt"), "is no code"), (WRONG.replace("new:     2", "new:     1"), "it changes nothing"), (WRONG.replace("# two is not one\n", ""), "its first line is no comment")):
             self.write("crates/low/wrong/two.edit", new)
             self.refuses(self.tried("--list"), why)
 
