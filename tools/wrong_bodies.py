@@ -200,9 +200,12 @@ def room_for(crate, top):
 
 
 def tried(room, group):
-    """Each edit of the group with its verdict; what the group did not show is tried again alone."""
+    """Each edit of the group with its verdict. What the group did not show is tried again alone; a group of which the check looked at no function, in halves."""
     told = shown(room, group)
     if len(group) > 1:
+        half = len(group) // 2
+        if all(said.line is None for _, _, said in told.values()):
+            return [*tried(room, group[:half]), *tried(room, group[half:])]
         for edit in [it for it in group if not told[it][0]]:
             told |= shown(room, [edit])
     return [(it, *told[it][:2]) for it in group]
