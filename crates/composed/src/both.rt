@@ -5,7 +5,7 @@ ghost use Rattle.composed.specs.declared.either.Either.TheVariants.{First, Rest}
 
 use crate::either::Either;
 use hibits::BitSet;
-use specs::{ComponentEvent, EntitiesRes, Entity, MarkError, ReaderId, Refusal, Storages};
+use specs::{ComponentEvent, EntitiesRes, Entity, Held, MarkError, ReaderId, Refusal, Storages};
 use std::alloc::{AllocError, Global};
 
 /// The storages of both. A call goes to the part that its slot or its value names, and costs what it costs there.
@@ -25,7 +25,7 @@ impl<A: Drop, B: Drop> Drop for Both<A, B> {
     }
 }
 
-impl<A: Storages, B: Storages> Storages for Both<A, B> {
+impl<A: Held, B: Held> Held for Both<A, B> {
     ghost use Rattle.std.specs.Prelude.{refl};
     ghost use Rattle.composed.specs.Exact.{exact_by};
     ghost use Rattle.composed.specs.Both.{table_of_both, place_of_both, of_either, markers_of_both};
@@ -39,17 +39,24 @@ impl<A: Storages, B: Storages> Storages for Both<A, B> {
 
     ghost room = { λ s. of_either (A.room s.first) (B.room s.rest) };
 
-    ghost exact = { exact_by _ A.Slot.eq B.Slot.eq (λ x y. refl) (λ x y. refl) (λ x y. refl) (λ x y. refl) A.exact B.exact };
-
     ghost marks = { markers_of_both A.marks B.marks };
 
     ghost ids = { λ s. of_either (A.ids s.first) (B.ids s.rest) };
 
-    ghost idless = { λ s. idless_of_both A.marks.holds B.marks.holds (A.ids s.first) (B.ids s.rest) (A.idless s.first) (B.idless s.rest) };
-
     ghost place = { place_of_both A.place B.place };
 
     ghost allocates = { of_either A.allocates B.allocates };
+}
+
+impl<A: Storages, B: Storages> Storages for Both<A, B> {
+    ghost use Rattle.std.specs.Prelude.{refl};
+    ghost use Rattle.composed.specs.Exact.{exact_by};
+    ghost use Rattle.composed.specs.Both.{table_of_both, place_of_both, of_either, markers_of_both};
+    ghost use Rattle.composed.specs.Places.{idless_of_both};
+
+    ghost exact = { exact_by _ A.Slot.eq B.Slot.eq (λ x y. refl) (λ x y. refl) (λ x y. refl) (λ x y. refl) A.exact B.exact };
+
+    ghost idless = { λ s. idless_of_both A.marks.holds B.marks.holds (A.ids s.first) (B.ids s.rest) (A.idless s.first) (B.idless s.rest) };
 
     fn slot_of(value: &Self::Value) -> Self::Slot {
         match value {

@@ -6,7 +6,7 @@ use crate::either::Either;
 use crate::marking::Marking;
 use crate::only::{Only, Sole};
 use saveload::{Marker, MarkerAllocator};
-use specs::{Duplicate, Field, Has, Storages};
+use specs::{Duplicate, Field, Has, Held};
 use std::marker::PhantomData;
 use storages::{Component, MaskedStorage, MaybeTracked};
 
@@ -176,7 +176,7 @@ where
     ghost places = { λ t. refl };
 }
 
-impl<T: Component, I, A: Has<T, I>, B: Storages> Has<T, InFirst<I>> for Both<A, B> {
+impl<T: Component, I, A: Has<T, I>, B: Held> Has<T, InFirst<I>> for Both<A, B> {
     ghost use Rattle.composed.specs.declared.either.Either.TheVariants.{First, Rest};
     ghost use Rattle.composed.specs.Both.{of_either};
     ghost use Rattle.composed.specs.Places.{sees_first, only_first};
@@ -213,7 +213,7 @@ impl<T: Component, I, A: Has<T, I>, B: Storages> Has<T, InFirst<I>> for Both<A, 
     ghost places = { λ t. ap First (A.places t) };
 }
 
-impl<T: Component, I, A: Storages, B: Has<T, I>> Has<T, InRest<I>> for Both<A, B> {
+impl<T: Component, I, A: Held, B: Has<T, I>> Has<T, InRest<I>> for Both<A, B> {
     ghost use Rattle.composed.specs.declared.either.Either.TheVariants.{First, Rest};
     ghost use Rattle.composed.specs.Both.{of_either};
     ghost use Rattle.composed.specs.Places.{sees_rest, only_rest};

@@ -1,7 +1,8 @@
 //! A struct of storages for one component type.
 use hibits::BitSet;
 use specs::{
-    ComponentEvent, Duplicate, EntitiesRes, Entity, MarkError, ReaderId, Refusal, Storages, field,
+    ComponentEvent, Duplicate, EntitiesRes, Entity, Held, MarkError, ReaderId, Refusal, Storages,
+    field,
 };
 use std::alloc::{AllocError, Global};
 use storages::{Component, MaskedStorage, MaybeTracked};
@@ -36,7 +37,7 @@ impl<T: Component> Only<T> {
     }
 }
 
-impl<T: Component + Duplicate> Storages for Only<T>
+impl<T: Component + Duplicate> Held for Only<T>
 where
     T::Storage: MaybeTracked<T>,
 {
@@ -54,17 +55,28 @@ where
 
     ghost room = { λ s _. field_room s.field };
 
-    ghost exact = { λ a b. (λ _. sole_is a b, λ _. refl) };
-
     ghost marks = { no_markers };
 
     ghost ids = { λ _ _. Some 0 };
 
-    ghost idless = { λ _ _ _. refl };
-
     ghost place = { λ _. Sole };
 
     ghost allocates = { λ _. T.allocates };
+}
+
+impl<T: Component + Duplicate> Storages for Only<T>
+where
+    T::Storage: MaybeTracked<T>,
+{
+    ghost use Rattle.std.specs.Prelude.{refl, false, Some};
+    ghost use Rattle.composed.specs.Exact.{sole_is};
+    ghost use Rattle.specs.specs.Field.{field_column, field_room};
+    ghost use Rattle.specs.specs.Marks.{no_markers};
+    ghost use Rattle.composed.specs.declared.only.Sole.TheVariants.{Sole};
+
+    ghost exact = { λ a b. (λ _. sole_is a b, λ _. refl) };
+
+    ghost idless = { λ _ _ _. refl };
 
     fn slot_of(_value: &T) -> Sole {
         Sole::Sole
