@@ -43,14 +43,8 @@ impl<T> Marking<SimpleMarker<T>, SimpleMarkerAllocator<T>> {
     }
 }
 
-impl<M: Marker + Duplicate, A: MarkerAllocator<M>> Held for Marking<M, A>
-where
-    M::Storage: MaybeTracked<M>,
-{
-    ghost use Rattle.std.specs.Prelude.{refl, true};
-    ghost use Rattle.std.proofs.Common.{true≢false};
-    ghost use Rattle.composed.specs.Exact.{sole_is};
-    ghost use Rattle.specs.specs.Field.{field_column, field_room};
+impl<M: Marker, A: MarkerAllocator<M>> Held for Marking<M, A> {
+    ghost use Rattle.specs.specs.Field.{field_column};
     ghost use Rattle.composed.specs.declared.only.Sole.TheVariants.{Sole};
 
     type Slot = Sole;
@@ -59,15 +53,9 @@ where
 
     ghost table = { λ s _. field_column s.markers.field };
 
-    ghost room = { λ s _. field_room s.markers.field };
-
-    ghost marks = { record { holds = λ _. true; comes = λ _ left m. A.ComesNext left (M.id_of m) } };
-
-    ghost ids = { λ s _. A.ids s.allocator };
-
     ghost place = { λ _. Sole };
 
-    ghost allocates = { λ _. M.allocates };
+    ghost ids = { λ s _. A.ids s.allocator };
 }
 
 impl<M: Marker + Duplicate, A: MarkerAllocator<M>> Storages for Marking<M, A>
@@ -77,8 +65,13 @@ where
     ghost use Rattle.std.specs.Prelude.{refl, true};
     ghost use Rattle.std.proofs.Common.{true≢false};
     ghost use Rattle.composed.specs.Exact.{sole_is};
-    ghost use Rattle.specs.specs.Field.{field_column, field_room};
-    ghost use Rattle.composed.specs.declared.only.Sole.TheVariants.{Sole};
+    ghost use Rattle.specs.specs.Field.{field_room};
+
+    ghost room = { λ s _. field_room s.markers.field };
+
+    ghost allocates = { λ _. M.allocates };
+
+    ghost marks = { record { holds = λ _. true; comes = λ _ left m. A.ComesNext left (M.id_of m) } };
 
     ghost exact = { λ a b. (λ _. sole_is a b, λ _. refl) };
 

@@ -37,14 +37,9 @@ impl<T: Component> Only<T> {
     }
 }
 
-impl<T: Component + Duplicate> Held for Only<T>
-where
-    T::Storage: MaybeTracked<T>,
-{
-    ghost use Rattle.std.specs.Prelude.{refl, false, Some};
-    ghost use Rattle.composed.specs.Exact.{sole_is};
-    ghost use Rattle.specs.specs.Field.{field_column, field_room};
-    ghost use Rattle.specs.specs.Marks.{no_markers};
+impl<T: Component + Drop> Held for Only<T> {
+    ghost use Rattle.std.specs.Prelude.{Some};
+    ghost use Rattle.specs.specs.Field.{field_column};
     ghost use Rattle.composed.specs.declared.only.Sole.TheVariants.{Sole};
 
     type Slot = Sole;
@@ -53,26 +48,25 @@ where
 
     ghost table = { λ s _. field_column s.field };
 
-    ghost room = { λ s _. field_room s.field };
-
-    ghost marks = { no_markers };
-
-    ghost ids = { λ _ _. Some 0 };
-
     ghost place = { λ _. Sole };
 
-    ghost allocates = { λ _. T.allocates };
+    ghost ids = { λ _ _. Some 0 };
 }
 
 impl<T: Component + Duplicate> Storages for Only<T>
 where
     T::Storage: MaybeTracked<T>,
 {
-    ghost use Rattle.std.specs.Prelude.{refl, false, Some};
+    ghost use Rattle.std.specs.Prelude.{refl};
     ghost use Rattle.composed.specs.Exact.{sole_is};
-    ghost use Rattle.specs.specs.Field.{field_column, field_room};
+    ghost use Rattle.specs.specs.Field.{field_room};
     ghost use Rattle.specs.specs.Marks.{no_markers};
-    ghost use Rattle.composed.specs.declared.only.Sole.TheVariants.{Sole};
+
+    ghost room = { λ s _. field_room s.field };
+
+    ghost allocates = { λ _. T.allocates };
+
+    ghost marks = { no_markers };
 
     ghost exact = { λ a b. (λ _. sole_is a b, λ _. refl) };
 

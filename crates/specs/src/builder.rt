@@ -8,13 +8,13 @@ ghost use Rattle.specs.specs.Marking.{HasMarkerThen, GetsNoMarker};
 use crate::command::Refusal;
 use crate::core_parts::Core;
 use crate::has::{Field, Has};
-use crate::slots::Storages;
+use crate::slots::{Held, Storages};
 use entities::Entity;
 use saveload::MarkError;
 use storages::Component;
 
 /// Puts components at an entity that is being built. Ports `specs::Builder`.
-pub trait Builder<S: Storages>: Sized {
+pub trait Builder<S: Held>: Sized {
     /// The builder again, once the component is at its entity. A refused call drops the builder, and hands the component back.
     fn with<T: Component + Drop, I>(self, component: T) -> Result<Self, (Refusal, T)>
     where
@@ -71,7 +71,7 @@ impl<'a, S: Storages> EntityBuilder<'a, S> {
     }
 }
 
-impl<'a, S: Storages> Builder<S> for EntityBuilder<'a, S> {
+impl<'a, S: Held> Builder<S> for EntityBuilder<'a, S> {
     #[inline(always)]
     fn with<T: Component + Drop, I>(self, component: T) -> Result<Self, (Refusal, T)>
     where

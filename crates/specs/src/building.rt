@@ -17,12 +17,12 @@ use crate::command::Refusal;
 use crate::core_parts::{Core, Parts};
 use crate::create_iter::CreateIter;
 use crate::has::{Field, Has};
-use crate::slots::Storages;
+use crate::slots::{Held, Storages};
 use entities::{CreateError, Entity};
 use saveload::MarkError;
 use storages::Component;
 
-impl<S: Storages> Core<S> {
+impl<S: Held> Core<S> {
     /// The birth of an entity, at once, with a builder for it. Ports `WorldExt::create_entity`.
     #[inline(always)]
     pub fn create_entity(&mut self) -> Result<EntityBuilder<'_, S>, CreateError>
@@ -66,7 +66,9 @@ impl<S: Storages> Core<S> {
         put_or_mark(&mut self.parts, entity, component)?;
         Ok(EntityBuilder { core: self, entity })
     }
+}
 
+impl<S: Storages> Core<S> {
     // `EntityBuilder::marked`, of the core and the entity that it held.
     pub(crate) fn build_marked(
         &mut self,

@@ -17,10 +17,10 @@ use saveload::MarkError;
 use std::alloc::{AllocError, Global};
 use storages::{ComponentEvent, ReaderId};
 
-/// What a struct of storages holds, in the words of contracts.
+/// What a struct of storages holds, in the words of contracts. It has no function, so that a bound by it costs a proof next to nothing.
 pub trait Held {
     /// One value for each component type.
-    type Slot: Copy + Eq;
+    type Slot: Drop;
 
     /// One variant for each component type.
     type Value: Drop;
@@ -28,11 +28,17 @@ pub trait Held {
     /// The values of each slot with the channel of its events, or nothing where the slot is not registered.
     ghost table: { Self → Self.Slot → Option (Column Self.Value) };
 
-    /// For how many events a slot has room, and nothing where no event needs any.
-    ghost room: { Self → Self.Slot → Option ℕ };
-
     /// The slot of a value.
     ghost place: { Self.Value → Self.Slot };
+
+    /// How many new ids a slot's markers can still get, and none where that can't be told.
+    ghost ids: { Self → Self.Slot → Option ℕ };
+}
+
+/// A struct with a storage, or none, for each component type. A call touches the one slot that it names, and a refused call changes nothing.
+pub trait Storages: Held<Slot: Copy + Eq> {
+    /// For how many events a slot has room, and nothing where no event needs any.
+    ghost room: { Self → Self.Slot → Option ℕ };
 
     /// Whether a copy of a value of the slot may take memory.
     ghost allocates: { Self.Slot → Bool };
@@ -40,12 +46,6 @@ pub trait Held {
     /// Whether the slot is of markers.
     ghost marks: { Markers Self.Slot Self.Value };
 
-    /// How many new ids a slot's markers can still get, and none where that can't be told.
-    ghost ids: { Self → Self.Slot → Option ℕ };
-}
-
-/// A struct with a storage, or none, for each component type. A call touches the one slot that it names, and a refused call changes nothing.
-pub trait Storages: Held {
     /// The slot of a value.
     fn slot_of(value: &Self::Value) -> Self::Slot
         ensures { result ≡ Self.place value.now };
@@ -86,7 +86,7 @@ pub trait Storages: Held {
         e: Entity,
     ) -> Result<Option<Self::Value>, Refusal>
         ensures ok { IfOk result (λ found. Gets (population entities.now) (Self.table self.now) slot e found) }
-        ensures refused { IfErr result (GetIsRefused Self.allocates (population entities.now) (Self.table self.now) slot e) };
+        ensures refused { IfErr result (GetIsRefused allocates (population entities.now) (Self.table self.now) slot e) };
 
     /// Removes the value of an entity and answers it, or none where the entity is not alive. It takes memory for an event alone.
     fn remove(
@@ -115,10 +115,10 @@ pub trait Storages: Held {
         slot: Self::Slot,
         e: Entity,
     ) -> Result<Option<bool>, MarkError>
-        ensures ok { IfOk result (λ given. GivesMarker (Self.marks.comes slot (Self.ids self.old slot)) (population entities.now) (Self.table self.old) slot e given (Self.table self.new)) }
+        ensures ok { IfOk result (λ given. GivesMarker (marks.comes slot (Self.ids self.old slot)) (population entities.now) (Self.table self.old) slot e given (Self.table self.new)) }
         ensures ids { IfOk result (λ given. IdsAfter given (Self.ids self.old) slot (Self.ids self.new)) }
-        ensures marker { OnOk result (Self.marks.holds slot ≡ true) }
-        ensures refused { IfErr result (MarkerIsRefused (Self.marks.holds slot) (Self.ids self.old slot) (population entities.now) (Self.table self.old) slot e) }
+        ensures marker { OnOk result (marks.holds slot ≡ true) }
+        ensures refused { IfErr result (MarkerIsRefused (marks.holds slot) (Self.ids self.old slot) (population entities.now) (Self.table self.old) slot e) }
         ensures err { OnErr result (Self.table self.new ≡ Self.table self.old) }
         ensures err_ids { OnErr result (Self.ids self.new ≡ Self.ids self.old) };
 
@@ -155,13 +155,13 @@ pub trait Storages: Held {
     fn reserve_drop(&mut self, count: usize) -> Result<(), AllocError>
         ensures same { Self.table self.new ≡ Self.table self.old }
         ensures ids { Self.ids self.new ≡ Self.ids self.old }
-        ensures ok { OnOk result ((s : Self.Slot) → HasRoom (Self.room self.new s) count) }
+        ensures ok { OnOk result ((s : Self.Slot) → HasRoom (room self.new s) count) }
         ensures none { count ≡ 0 → IsOk result }
         ensures unheard { ((s : Self.Slot) → WantsNone (Self.table self.old s)) → IsOk result };
 
     /// Removes the values at the indices of a list of entities, of each slot, in room that is there for the events.
     fn drop_all(&mut self, es: &[Entity])
-        requires { (s : Self.Slot) → HasRoom (Self.room self.old s) (length es.now) }
+        requires { (s : Self.Slot) → HasRoom (room self.old s) (length es.now) }
         ensures values { (s : Self.Slot) → Self.table self.new s ≡ option_map (without_values es.now) (Self.table self.old s) }
         ensures ids { Self.ids self.new ≡ Self.ids self.old };
 
@@ -169,5 +169,5 @@ pub trait Storages: Held {
     ghost exact: { (a b : Self.Slot) → Decides (Self.Slot.eq a b) (a ≡ b) };
 
     /// A slot without markers has no id to give.
-    ghost idless: { (s : Self) (k : Self.Slot) → Self.marks.holds k ≡ false → Self.ids s k ≡ Some 0 };
+    ghost idless: { (s : Self) (k : Self.Slot) → marks.holds k ≡ false → Self.ids s k ≡ Some 0 };
 }

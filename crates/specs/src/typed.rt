@@ -10,7 +10,7 @@ ghost use Rattle.specs.specs.Writing.{lent, RestsUnregistered};
 use crate::by_type;
 use crate::core_parts::Core;
 use crate::has::{Field, Has};
-use crate::slots::Storages;
+use crate::slots::Held;
 use crate::writing::Writing;
 use std::alloc::AllocError;
 use std::marker::PhantomData;
@@ -22,7 +22,7 @@ use thiserror::Error;
 #[error("the component type is not registered")]
 pub struct Unregistered;
 
-impl<S: Storages> Core<S> {
+impl<S: Held> Core<S> {
     /// Makes an empty storage for a component type where none was, else changes nothing. Where the first value of the storage's kind takes no
     /// memory, as of each kind of `storages`, it is not refused. Ports `WorldExt::register`.
     pub fn register<T: Component, I>(&mut self) -> Result<(), AllocError>

@@ -22,7 +22,7 @@ drop_all-requires g c = λ s.
     let counted = c.count.ensures.walk ∙ ap (λ has. length (left has 0)) (fun_ext c.marked.ensures) in
     let dead = ap length (c.as_slice.ensures.value ∙ c.in_ok-dead.ensures.dead) ∙ count_marked (population c.alloc_mut.result.now) in
     let same = ap (λ p. length (left p.marked 0)) (ap population c.alloc_mut.ensures.value) in
-    subst (λ (n : ℕ). HasRoom (g.S.Held.room c.reserve_drop.new.self s) n) (counted ∙ sym same ∙ sym dead) (c.in_ok-reserve_drop.ensures.ok s)
+    subst (λ (n : ℕ). HasRoom (g.S.Storages.room c.reserve_drop.new.self s) n) (counted ∙ sym same ∙ sym dead) (c.in_ok-reserve_drop.ensures.ok s)
 
 pub returns-clause-gone : goal.returns-clause-gone
 returns-clause-gone g c =
