@@ -8,10 +8,11 @@ ghost use Rattle.specs.specs.State.{state_of};
 
 use crate::worlds::new_world;
 use composed::Of5;
-use specs::{Command, EntitiesRes, Entity, Has, Refusal, Storages, World, by_type, slot, value};
+use specs::{Command, EntitiesRes, Entity, Has, Held, Refusal, World, by_type, slot, value};
 use std::alloc::Global;
 use storages::{
-    Component, DenseVecStorage, HashMapStorage, NullComponent, NullStorage, VecStorage,
+    Component, DenseVecStorage, HashMapStorage, NullComponent, NullStorage, UnprotectedStorage,
+    VecStorage,
 };
 
 /// Where an entity is.
@@ -66,13 +67,13 @@ pub type Game = World<Parts>;
 
 /// A game that begins: each component belongs to a living entity, and a run keeps that.
 pub fn new_game(alloc: Global) -> Game
-    ensures { OnlyLiving (state_of ⟦<Parts as Storages>⟧.table ⟦<Parts as Storages>⟧.ids result) }
+    ensures { OnlyLiving (state_of ⟦<Parts as Held>⟧.table ⟦<Parts as Held>⟧.ids result) }
 {
     new_world(alloc)
 }
 
 /// The slot of a component type, by the type's name.
-pub fn load_slot() -> <Parts as Storages>::Slot
+pub fn load_slot() -> <Parts as Held>::Slot
     ensures { result ≡ Rest (First TheSole) }
 {
     slot::<Load, Parts, _>()
@@ -93,6 +94,8 @@ pub fn put_and_found<T: Component + Copy, S: Has<T, I>, I>(
     e: Entity,
     component: T,
 ) -> Result<Option<T>, Refusal>
+where
+    T::Storage: UnprotectedStorage<T>,
     ensures { IfOk result (λ found. found ≡ Some component) }
 {
     match by_type::insert(storages, entities, e, component) {

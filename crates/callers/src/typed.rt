@@ -6,7 +6,7 @@ ghost use Rattle.specs.specs.State.{core_state, state_of};
 
 use specs::{Builder, Core, Entity, Has, Storages, Unregistered, World};
 use std::alloc::AllocError;
-use storages::Component;
+use storages::{Component, UnprotectedStorage};
 
 /// A component that was written through a view is found through it.
 #[tactic(auto, using(specs::specs::Finds::found_put))]
@@ -15,6 +15,8 @@ pub fn written_and_found<T: Component + Copy, S: Has<T, I>, I>(
     e: Entity,
     component: T,
 ) -> Result<Option<T>, Unregistered>
+where
+    T::Storage: UnprotectedStorage<T>,
     ensures found { IfOk result (λ found. MatchOption found (Unit {0}) (λ x. x ≡ component)) }
     ensures people { (core_state S.table S.ids core.new).people ≡ (core_state S.table S.ids core.old).people }
     ensures err { OnErr result (core.new ≡ core.old) }
@@ -34,6 +36,8 @@ pub fn two_written<T: Component + Drop, S: Has<T, I>, I>(
     x: T,
     y: T,
 ) -> Result<(), Unregistered>
+where
+    T::Storage: UnprotectedStorage<T>,
     ensures entities { core.new.parts.entities ≡ core.old.parts.entities }
     ensures err { OnErr result (core.new ≡ core.old) }
 {
@@ -52,6 +56,8 @@ pub fn written_in_world<T: Component + Drop, S: Has<T, I>, I>(
     x: T,
     y: T,
 ) -> Result<(), Unregistered>
+where
+    T::Storage: UnprotectedStorage<T>,
     ensures people { (state_of S.table S.ids world.new).people ≡ (state_of S.table S.ids world.old).people }
     ensures err { OnErr result (world.new ≡ world.old) }
 {
@@ -64,6 +70,8 @@ pub fn overwritten<T: Component + Drop, S: Has<T, I>, I>(
     e: Entity,
     component: T,
 ) -> Result<bool, Unregistered>
+where
+    T::Storage: UnprotectedStorage<T>,
     ensures entities { core.new.parts.entities ≡ core.old.parts.entities }
     ensures err { OnErr result (core.new ≡ core.old) }
 {
@@ -82,6 +90,8 @@ pub fn built_with<T: Component + Drop, S: Has<T, I>, I>(
     core: &mut Core<S>,
     component: T,
 ) -> Option<Entity>
+where
+    T::Storage: UnprotectedStorage<T>,
     ensures { MatchOption result (Unit {0}) (λ e. Births born (core_state S.table S.ids core.old).people e (core_state S.table S.ids core.new).people) }
 {
     let Ok(builder) = core.create_entity() else {
@@ -106,6 +116,8 @@ pub fn taken_in_room<T: Component + Drop, S: Has<T, I>, I>(
     core: &mut Core<S>,
     e: Entity,
 ) -> Result<Option<T>, AllocError>
+where
+    T::Storage: UnprotectedStorage<T>,
     ensures entities { core.new.parts.entities ≡ core.old.parts.entities }
 {
     let Ok(mut view) = core.write_storage::<T, I>() else {

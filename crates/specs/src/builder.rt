@@ -11,19 +11,21 @@ use crate::has::{Field, Has};
 use crate::slots::{Held, Storages};
 use entities::Entity;
 use saveload::MarkError;
-use storages::Component;
+use storages::{Component, UnprotectedStorage};
 
 /// Puts components at an entity that is being built. Ports `specs::Builder`.
 pub trait Builder<S: Held>: Sized {
     /// The builder again, once the component is at its entity. A refused call drops the builder, and hands the component back.
     fn with<T: Component + Drop, I>(self, component: T) -> Result<Self, (Refusal, T)>
     where
-        S: Has<T, I>;
+        S: Has<T, I>,
+        T::Storage: UnprotectedStorage<T>;
 
     /// The same for a component that is there, and without one the builder again.
     fn maybe_with<T: Component + Drop, I>(self, component: Option<T>) -> Result<Self, (Refusal, T)>
     where
-        S: Has<T, I>;
+        S: Has<T, I>,
+        T::Storage: UnprotectedStorage<T>;
 
     /// The entity, which then is as it is: nothing marks it.
     fn build(self) -> Entity;
@@ -76,6 +78,7 @@ impl<'a, S: Held> Builder<S> for EntityBuilder<'a, S> {
     fn with<T: Component + Drop, I>(self, component: T) -> Result<Self, (Refusal, T)>
     where
         S: Has<T, I>,
+        T::Storage: UnprotectedStorage<T>,
         ensures* rests { sem 𝓛 (RestsMarked S.row S.table S.ids self.entry result) }
         ensures same_reference { IfOk result (λ b. (lent_to b).ghost_name ≡ (lent_to self.entry).ghost_name) }
         ensures entity { IfOk result (λ b. built b ≡ built self.entry) }
@@ -90,6 +93,7 @@ impl<'a, S: Held> Builder<S> for EntityBuilder<'a, S> {
     fn maybe_with<T: Component + Drop, I>(self, component: Option<T>) -> Result<Self, (Refusal, T)>
     where
         S: Has<T, I>,
+        T::Storage: UnprotectedStorage<T>,
         ensures* rests { sem 𝓛 (RestsMarked S.row S.table S.ids self.entry result) }
         ensures same_reference { IfOk result (λ b. (lent_to b).ghost_name ≡ (lent_to self.entry).ghost_name) }
         ensures entity { IfOk result (λ b. built b ≡ built self.entry) }

@@ -14,7 +14,7 @@ use crate::slots::Held;
 use crate::writing::Writing;
 use std::alloc::AllocError;
 use std::marker::PhantomData;
-use storages::{Component, ReadStorage};
+use storages::{Component, ReadStorage, UnprotectedStorage};
 use thiserror::Error;
 
 /// No storage is registered for the component type. Nothing changed.
@@ -28,6 +28,7 @@ impl<S: Held> Core<S> {
     pub fn register<T: Component, I>(&mut self) -> Result<(), AllocError>
     where
         S: Has<T, I>,
+        T::Storage: UnprotectedStorage<T>,
         ensures ok { OnOk result (OnTable (λ t t'. Registers t S.the_slot t') (core_state S.table S.ids self.old) (core_state S.table S.ids self.new)) }
         ensures succeeds { T.Storage.TakesNone → IsOk result }
         ensures memory { OnErr result ((core_state S.table S.ids self.old).table S.the_slot ≡ None) }
