@@ -11,7 +11,7 @@ ghost use Rattle.specs.specs.Marks.{FieldGivesId, FieldMarkerIsRefused};
 use crate::field::Field;
 use entities::{EntitiesRes, Entity};
 use saveload::{MarkError, Marker, MarkerAllocator};
-use storages::{MaskedStorage, UnprotectedStorage, WriteStorage};
+use storages::{MaskedStorage, WriteStorage};
 
 /// Gives an entity a marker of a new id, if it is alive and has none. The answer is whether the marker is new, and none for an entity that is not
 /// alive. Where memory for the marker was refused, an id may stay mapped.
@@ -21,8 +21,6 @@ pub fn mark<M: Marker, A: MarkerAllocator<M>>(
     entities: &EntitiesRes,
     e: Entity,
 ) -> Result<Option<bool>, MarkError>
-where
-    M::Storage: UnprotectedStorage<M>,
     ensures ok { IfOk result (λ given. FieldGivesId M.id_of M.Identifier.eq (A.MayBeNew allocator.old) (A.mapping allocator.old) (A.mapping allocator.new)
         (population entities.now) (field_column field.old) e given (field_column field.new)) }
     ensures refused { IfErr result (FieldMarkerIsRefused (A.ids allocator.old) (population entities.now) (field_column field.old) e) }
@@ -46,8 +44,6 @@ fn mark_in<M: Marker, A: MarkerAllocator<M>>(
     entities: &EntitiesRes,
     e: Entity,
 ) -> Result<Option<bool>, MarkError>
-where
-    M::Storage: UnprotectedStorage<M>,
     ensures ok { IfOk result (λ given. FieldGivesId M.id_of M.Identifier.eq (A.MayBeNew allocator.old) (A.mapping allocator.old) (A.mapping allocator.new)
         (population entities.now) (Some (column_of storage.old)) e given (Some (column_of storage.new))) }
     ensures refused { IfErr result (FieldMarkerIsRefused (A.ids allocator.old) (population entities.now) (Some (column_of storage.old)) e) }
@@ -75,8 +71,6 @@ fn give<M: Marker, A: MarkerAllocator<M>>(
     entities: &EntitiesRes,
     e: Entity,
 ) -> Result<Option<bool>, MarkError>
-where
-    M::Storage: UnprotectedStorage<M>,
     ensures alive { IfOk result (λ given. is_some given ≡ is_alive (population entities.now) e) }
     ensures was { IfOk result (λ given. given ≡ Some false → is_some (found_in entities.now storage.old e) ≡ true) }
     ensures new { IfOk result (λ given. given ≡ Some true → MarksNew M.id_of M.Identifier.eq (A.MayBeNew allocator.old) e (A.mapping allocator.old) (A.mapping allocator.new) storage.old storage.new) }
