@@ -69,13 +69,6 @@ impl<A: Storages, B: Storages> Storages for Both<A, B> {
         }
     }
 
-    fn is_registered(&self, slot: Self::Slot) -> bool {
-        match slot {
-            Either::First(slot) => self.first.is_registered(slot),
-            Either::Rest(slot) => self.rest.is_registered(slot),
-        }
-    }
-
     fn mask(&self, slot: Self::Slot) -> Option<&BitSet> {
         match slot {
             Either::First(slot) => self.first.mask(slot),

@@ -85,10 +85,6 @@ where
         self.markers.register(alloc, slot)
     }
 
-    fn is_registered(&self, slot: Sole) -> bool {
-        self.markers.is_registered(slot)
-    }
-
     fn mask(&self, slot: Sole) -> Option<&BitSet> {
         self.markers.mask(slot)
     }

@@ -83,10 +83,6 @@ where
         Ok(())
     }
 
-    fn is_registered(&self, _slot: Sole) -> bool {
-        self.field.is_some()
-    }
-
     fn mask(&self, _slot: Sole) -> Option<&BitSet> {
         field::mask(&self.field)
     }

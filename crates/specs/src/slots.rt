@@ -57,13 +57,16 @@ pub trait Storages: Held<Slot: Copy + Eq> {
         ensures err { OnErr result (Self.table self.new ≡ Self.table self.old) }
         ensures ids { Self.ids self.new ≡ Self.ids self.old };
 
-    /// Whether the slot has a storage.
-    fn is_registered(&self, slot: Self::Slot) -> bool
-        ensures { IsTrue result ↔ IsSome (Self.table self.now slot) };
-
     /// The indices with a value in a slot, or none where it is not registered.
     fn mask(&self, slot: Self::Slot) -> Option<&BitSet>
         ensures { MatchOption result (Self.table self.now slot ≡ None) (λ m. IsMask (Self.table self.now slot) m.now) };
+
+    /// Whether the slot has a storage.
+    final fn is_registered(&self, slot: Self::Slot) -> bool
+        ensures { IsTrue result ↔ IsSome (Self.table self.now slot) }
+    {
+        self.mask(slot).is_some()
+    }
 
     /// Puts a value at an entity that is alive, in the value's slot, and answers the one before. A refused value is handed back.
     fn insert(
