@@ -88,7 +88,7 @@ pub fn loaded(e: Entity, load: Load) -> Command<Parts>
 
 /// A component that was put at an entity is found there, in whichever struct of storages.
 #[tactic(auto, using(specs::specs::Finds::found_put))]
-pub fn put_and_found<T: Component + Copy, S: Has<T, I>, I>(
+pub fn put_and_found<T: Component<Storage: UnprotectedStorage<T>> + Copy, S: Has<T, I>, I>(
     storages: &mut S,
     entities: &EntitiesRes,
     e: Entity,
