@@ -94,8 +94,6 @@ pub fn put_and_found<T: Component<Storage: UnprotectedStorage<T>> + Copy, S: Has
     e: Entity,
     component: T,
 ) -> Result<Option<T>, Refusal>
-where
-    T::Storage: UnprotectedStorage<T>,
     ensures { IfOk result (λ found. found ≡ Some component) }
 {
     match by_type::insert(storages, entities, e, component) {

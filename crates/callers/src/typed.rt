@@ -15,8 +15,6 @@ pub fn written_and_found<T: Component<Storage: UnprotectedStorage<T>> + Copy, S:
     e: Entity,
     component: T,
 ) -> Result<Option<T>, Unregistered>
-where
-    T::Storage: UnprotectedStorage<T>,
     ensures found { IfOk result (λ found. MatchOption found (Unit {0}) (λ x. x ≡ component)) }
     ensures people { (core_state S.table S.ids core.new).people ≡ (core_state S.table S.ids core.old).people }
     ensures err { OnErr result (core.new ≡ core.old) }
@@ -36,8 +34,6 @@ pub fn two_written<T: Component<Storage: UnprotectedStorage<T>> + Drop, S: Has<T
     x: T,
     y: T,
 ) -> Result<(), Unregistered>
-where
-    T::Storage: UnprotectedStorage<T>,
     ensures entities { core.new.parts.entities ≡ core.old.parts.entities }
     ensures err { OnErr result (core.new ≡ core.old) }
 {
@@ -56,8 +52,6 @@ pub fn written_in_world<T: Component<Storage: UnprotectedStorage<T>> + Drop, S: 
     x: T,
     y: T,
 ) -> Result<(), Unregistered>
-where
-    T::Storage: UnprotectedStorage<T>,
     ensures people { (state_of S.table S.ids world.new).people ≡ (state_of S.table S.ids world.old).people }
     ensures err { OnErr result (world.new ≡ world.old) }
 {
@@ -70,8 +64,6 @@ pub fn overwritten<T: Component<Storage: UnprotectedStorage<T>> + Drop, S: Has<T
     e: Entity,
     component: T,
 ) -> Result<bool, Unregistered>
-where
-    T::Storage: UnprotectedStorage<T>,
     ensures entities { core.new.parts.entities ≡ core.old.parts.entities }
     ensures err { OnErr result (core.new ≡ core.old) }
 {
@@ -90,8 +82,6 @@ pub fn built_with<T: Component<Storage: UnprotectedStorage<T>> + Drop, S: Has<T,
     core: &mut Core<S>,
     component: T,
 ) -> Option<Entity>
-where
-    T::Storage: UnprotectedStorage<T>,
     ensures { MatchOption result (Unit {0}) (λ e. Births born (core_state S.table S.ids core.old).people e (core_state S.table S.ids core.new).people) }
 {
     let Ok(builder) = core.create_entity() else {
@@ -116,8 +106,6 @@ pub fn taken_in_room<T: Component<Storage: UnprotectedStorage<T>> + Drop, S: Has
     core: &mut Core<S>,
     e: Entity,
 ) -> Result<Option<T>, AllocError>
-where
-    T::Storage: UnprotectedStorage<T>,
     ensures entities { core.new.parts.entities ≡ core.old.parts.entities }
 {
     let Ok(mut view) = core.write_storage::<T, I>() else {
