@@ -1,7 +1,7 @@
 //! Commands and their replies.
 use crate::job::Job;
 use crate::no_job::NoJob;
-use crate::slots::Storages;
+use crate::slots::Held;
 use entities::{Entity, Index, WrongGeneration};
 use storages::{ComponentEvent, ReaderId};
 
@@ -24,7 +24,7 @@ pub enum SetExpr<K> {
 
 /// What a world over the storages `S`, with jobs `J` of the user's, is asked to do.
 #[derive(Drop)]
-pub enum Command<S: Storages, J = NoJob> {
+pub enum Command<S: Held, J = NoJob> {
     /// Makes an empty storage for a slot that has none.
     Register(S::Slot),
     /// A birth at once.

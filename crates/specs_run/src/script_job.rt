@@ -3,7 +3,7 @@ ghost use Rattle.std.specs.Prelude.{◌≡◌, OnOk, OnErr};
 ghost use Rattle.specs.specs.State.{core_state};
 ghost use Rattle.specs_run.specs.Jobs.{MayRaise};
 
-use specs::{Core, CreateError, LazyUpdate, Storages, WorldJob};
+use specs::{Core, CreateError, Held, LazyUpdate, WorldJob};
 use std::alloc::AllocError;
 
 /// A job of a script's own.
@@ -15,7 +15,7 @@ pub enum ScriptJob {
     Create,
 }
 
-impl<S: Storages> WorldJob<S> for ScriptJob {
+impl<S: Held> WorldJob<S> for ScriptJob {
     ghost use Rattle.specs_run.specs.Jobs.{Does, Spares, grows, lives_on, tells};
 
     ghost does = { Does };
@@ -46,7 +46,7 @@ impl<S: Storages> WorldJob<S> for ScriptJob {
 }
 
 /// A pending birth, or nothing where no index is left.
-fn raise<S: Storages>(core: &mut Core<S>) -> Result<(), AllocError>
+fn raise<S: Held>(core: &mut Core<S>) -> Result<(), AllocError>
     ensures ok { OnOk result (MayRaise (core_state S.table S.ids core.old) (core_state S.table S.ids core.new)) }
     ensures err { OnErr result (core_state S.table S.ids core.new ≡ core_state S.table S.ids core.old) }
 {
