@@ -11,7 +11,8 @@ use composed::Of5;
 use specs::{Command, EntitiesRes, Entity, Has, Refusal, Storages, World, by_type, slot, value};
 use std::alloc::Global;
 use storages::{
-    Component, DenseVecStorage, HashMapStorage, NullComponent, NullStorage, VecStorage,
+    Component, DenseVecStorage, HashMapStorage, NullComponent, NullStorage, UnprotectedStorage,
+    VecStorage,
 };
 
 /// Where an entity is.
@@ -87,7 +88,7 @@ pub fn loaded(e: Entity, load: Load) -> Command<Parts>
 
 /// A component that was put at an entity is found there, in whichever struct of storages.
 #[tactic(auto, using(specs::specs::Finds::found_put))]
-pub fn put_and_found<T: Component + Copy, S: Has<T, I>, I>(
+pub fn put_and_found<T: Component<Storage: UnprotectedStorage<T>> + Copy, S: Has<T, I>, I>(
     storages: &mut S,
     entities: &EntitiesRes,
     e: Entity,

@@ -18,7 +18,7 @@ use saveload::{
 };
 use specs::{EntitiesRes, Entity};
 use std::alloc::Global;
-use storages::{Component, MaskedStorage, ReadStorage, WriteStorage};
+use storages::{Component, MaskedStorage, ReadStorage, UnprotectedStorage, WriteStorage};
 
 /// Loads a list where nobody lives and no id is mapped. Wherever it was saved whole, with distinct ids, it is renamed, one to one.
 pub fn taken_up<M: Marker, P: DeserializeComponents<M>>(
@@ -50,8 +50,8 @@ pub fn taken_up_in_two<M: Marker, A, B>(
 ) -> Result<(), LoadError>
 where
     M::Allocator: MarkerAllocator<M>,
-    A: Component + Drop + ConvertSaveload<M>,
-    B: Component + Drop + ConvertSaveload<M>,
+    A: Component<Storage: UnprotectedStorage<A>> + Drop + ConvertSaveload<M>,
+    B: Component<Storage: UnprotectedStorage<B>> + Drop + ConvertSaveload<M>,
     requires { (m n : M) → M.is_clone m n → m ≡ n }
     ensures first { IsTold masked.old.0.now masked.new.0.now }
     ensures second { IsTold masked.old.1.now masked.new.1.now }

@@ -6,11 +6,11 @@ ghost use Rattle.specs.specs.State.{core_state, state_of};
 
 use specs::{Builder, Core, Entity, Has, Storages, Unregistered, World};
 use std::alloc::AllocError;
-use storages::Component;
+use storages::{Component, UnprotectedStorage};
 
 /// A component that was written through a view is found through it.
 #[tactic(auto, using(specs::specs::Finds::found_put))]
-pub fn written_and_found<T: Component + Copy, S: Has<T, I>, I>(
+pub fn written_and_found<T: Component<Storage: UnprotectedStorage<T>> + Copy, S: Has<T, I>, I>(
     core: &mut Core<S>,
     e: Entity,
     component: T,
@@ -27,7 +27,7 @@ pub fn written_and_found<T: Component + Copy, S: Has<T, I>, I>(
 }
 
 /// Through a view nobody is born or dies.
-pub fn two_written<T: Component + Drop, S: Has<T, I>, I>(
+pub fn two_written<T: Component<Storage: UnprotectedStorage<T>> + Drop, S: Has<T, I>, I>(
     core: &mut Core<S>,
     e: Entity,
     f: Entity,
@@ -45,7 +45,7 @@ pub fn two_written<T: Component + Drop, S: Has<T, I>, I>(
 }
 
 /// The same in a world, whose core is passed on.
-pub fn written_in_world<T: Component + Drop, S: Has<T, I>, I>(
+pub fn written_in_world<T: Component<Storage: UnprotectedStorage<T>> + Drop, S: Has<T, I>, I>(
     world: &mut World<S>,
     e: Entity,
     f: Entity,
@@ -59,7 +59,7 @@ pub fn written_in_world<T: Component + Drop, S: Has<T, I>, I>(
 }
 
 /// A component that is written in its place is the one found there, and the core's entities stay.
-pub fn overwritten<T: Component + Drop, S: Has<T, I>, I>(
+pub fn overwritten<T: Component<Storage: UnprotectedStorage<T>> + Drop, S: Has<T, I>, I>(
     core: &mut Core<S>,
     e: Entity,
     component: T,
@@ -78,7 +78,7 @@ pub fn overwritten<T: Component + Drop, S: Has<T, I>, I>(
 }
 
 /// An entity that is built with a component is a birth.
-pub fn built_with<T: Component + Drop, S: Has<T, I>, I>(
+pub fn built_with<T: Component<Storage: UnprotectedStorage<T>> + Drop, S: Has<T, I>, I>(
     core: &mut Core<S>,
     component: T,
 ) -> Option<Entity>
@@ -102,7 +102,7 @@ pub fn stripped<S: Storages>(core: &mut Core<S>, e: Entity) -> Result<bool, Allo
 }
 
 /// The component of an entity, taken out in room that was got for the event before: there is nothing left to go wrong.
-pub fn taken_in_room<T: Component + Drop, S: Has<T, I>, I>(
+pub fn taken_in_room<T: Component<Storage: UnprotectedStorage<T>> + Drop, S: Has<T, I>, I>(
     core: &mut Core<S>,
     e: Entity,
 ) -> Result<Option<T>, AllocError>

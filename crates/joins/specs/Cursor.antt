@@ -6,8 +6,7 @@ use mir.Syntax.{named}
 use Rattle.hibits.specs.Left.{left}
 use Rattle.hibits.specs.WalkOf.{position}
 use Rattle.hibits.specs.declared.layers.Layers as layers
-use Rattle.storages.specs.declared.unprotected.UnprotectedStorage as unprotected
-use Rattle.storages.specs.declared.unprotected.TryDefault as default
+use Rattle.storages.specs.declared.unprotected.Kind as kind
 use Rattle.storages.specs.declared.event.ComponentEvent.TheVariants.{Modified}
 use Rattle.storages.specs.Slot.{Slot, IsSame, Becomes}
 use Rattle.joins.specs.Beside.{Gives}
@@ -15,32 +14,32 @@ use Rattle.joins.specs.declared.join.Join as join
 use Rattle.joins.specs.declared.cursors.write_join.WriteJoin.{WriteJoin}
 use Rattle.joins.specs.contracts.cursors.write_join.WriteJoin.{the_row}
 
-module _ {T J S X V M : Type 0} {u : unprotected.Ghosts S T} {d : default.Ghosts S} {j : join.Ghosts J X V M} {l : layers.Ghosts M} where
+module _ {T J S X V M : Type 0} {u : kind.Ghosts S T} {j : join.Ghosts J X V M} {l : layers.Ghosts M} where
   -- the storage behind the cursor, and which reference to it the cursor holds
-  abbrev pub slot : WriteJoin T J S X V M u d j l → Slot T
+  abbrev pub slot : WriteJoin T J S X V M u j l → Slot T
   slot c = c.storage.now
 
-  abbrev pub storage_name : WriteJoin T J S X V M u d j l → GName
+  abbrev pub storage_name : WriteJoin T J S X V M u j l → GName
   storage_name c = c.storage.ghost_name
 
   -- the index at which it stands
-  abbrev pub here : WriteJoin T J S X V M u d j l → Option ℕ
+  abbrev pub here : WriteJoin T J S X V M u j l → Option ℕ
   here c = c.steps.current
 
   -- whether what is beside that index was given
-  abbrev pub is_given : WriteJoin T J S X V M u d j l → Bool
+  abbrev pub is_given : WriteJoin T J S X V M u j l → Bool
   is_given c = c.steps.given
 
   -- the indices that are left, ascending
-  abbrev pub rest : WriteJoin T J S X V M u d j l → List ℕ
+  abbrev pub rest : WriteJoin T J S X V M u j l → List ℕ
   rest c = left (λ i. map.contains_key (slot c).map i && l.has c.steps.mask 0 i) (position c.steps.walk)
 
   -- r is what stands beside the index, which was neither passed nor given
-  abbrev pub gives : WriteJoin T J S X V M u d j l → ℕ → X → Type 0
+  abbrev pub gives : WriteJoin T J S X V M u j l → ℕ → X → Type 0
   gives c i r = Gives c.steps i r
 
   -- the cursor stands where it stood, with the same before it and beside it
-  pub record Stays (c c' : WriteJoin T J S X V M u d j l) : Type 0 where
+  pub record Stays (c c' : WriteJoin T J S X V M u j l) : Type 0 where
     pub same_reference : storage_name c' ≡ storage_name c
     pub here : here c' ≡ here c
     pub rest : rest c' ≡ rest c
@@ -48,19 +47,19 @@ module _ {T J S X V M : Type 0} {u : unprotected.Ghosts S T} {d : default.Ghosts
     pub gives : (i : ℕ) (r : X) → gives c' i r → gives c i r
 
   -- what the cursor is after a write of x through the reference that the call answered, if it did
-  pub record Writes {B E : Type 0} (r : Result B E) (c c' : WriteJoin T J S X V M u d j l) (x : T) : Type 0 where
+  pub record Writes {B E : Type 0} (r : Result B E) (c c' : WriteJoin T J S X V M u j l) (x : T) : Type 0 where
     pub stays : Stays c c'
     pub becomes : IsOk r → IfSome (c.steps.current) (λ i. Becomes (slot c) (slot c') (map.insert (slot c).map i x) (Modified i))
 
   -- what the cursor is after the call answered an error, if it did
-  pub record Refuses {B E : Type 0} (r : Result B E) (c c' : WriteJoin T J S X V M u d j l) : Type 0 where
+  pub record Refuses {B E : Type 0} (r : Result B E) (c c' : WriteJoin T J S X V M u j l) : Type 0 where
     pub stays : Stays c c'
     pub same : OnErr r (IsSame (slot c) (slot c'))
 
-module _ (T J S X V M : RattleType) {u : unprotected.Ghosts S.Denot T.Denot} {d : default.Ghosts S.Denot} {j : join.Ghosts J.Denot X.Denot V.Denot M.Denot} {l : layers.Ghosts M.Denot} where
+module _ (T J S X V M : RattleType) {u : kind.Ghosts S.Denot T.Denot} {j : join.Ghosts J.Denot X.Denot V.Denot M.Denot} {l : layers.Ghosts M.Denot} where
   -- once the borrow r ends, the current index has the last value written through it
-  abbrev pub lends_item : {E : Type 0} → MutBor (WriteJoin T.Denot J.Denot S.Denot X.Denot V.Denot M.Denot u d j l) → Result (MutBor T.Denot) E → Fml
+  abbrev pub lends_item : {E : Type 0} → MutBor (WriteJoin T.Denot J.Denot S.Denot X.Denot V.Denot M.Denot u j l) → Result (MutBor T.Denot) E → Fml
   lends_item c r =
-      follows_so (the_row (record { mir = named 1; lft = [] }) T J S X V M u d j l) T c.ghost_name (name_if_ok (λ x. x.ghost_name) r)
+      follows_so (the_row (record { mir = named 1; lft = [] }) T J S X V M u j l) T c.ghost_name (name_if_ok (λ x. x.ghost_name) r)
       (λ x n. Writes r c.now n x)
       (λ n. Refuses r c.now n)

@@ -2,8 +2,7 @@
 use Rattle.std.specs.Prelude.{ℕ, Option}
 use Rattle.entities.specs.Census.{Census}
 use Rattle.entities.specs.declared.entity.Entity.{Entity}
-use Rattle.storages.specs.declared.unprotected.UnprotectedStorage as unprotected
-use Rattle.storages.specs.declared.unprotected.TryDefault as default
+use Rattle.storages.specs.declared.unprotected.Kind as kind
 use Rattle.storages.specs.Found.{found_in}
 use Rattle.storages.specs.Slot.{Slot}
 use Rattle.joins.specs.declared.restricted.RestrictedStorage.{RestrictedStorage}
@@ -17,16 +16,16 @@ module _ {T S : Type 0} where
   abbrev pub entities_of : RestrictedStorage T S → Census
   entities_of v = v.entities.now
 
-module _ {T S : Type 0} {u : unprotected.Ghosts S T} {d : default.Ghosts S} where
+module _ {T S : Type 0} {u : kind.Ghosts S T} where
   -- of a storage with an index: the storage, the entities, the index, and the component of an entity that is alive
-  abbrev pub paired_slot : PairedStorage T S u d → Slot T
+  abbrev pub paired_slot : PairedStorage T S u → Slot T
   paired_slot p = p.storage.now
 
-  abbrev pub paired_entities : PairedStorage T S u d → Census
+  abbrev pub paired_entities : PairedStorage T S u → Census
   paired_entities p = p.entities.now
 
-  abbrev pub paired_index : PairedStorage T S u d → ℕ
+  abbrev pub paired_index : PairedStorage T S u → ℕ
   paired_index p = p.id
 
-  abbrev pub paired_found : PairedStorage T S u d → Entity → Option T
+  abbrev pub paired_found : PairedStorage T S u → Entity → Option T
   paired_found p e = found_in (paired_entities p) (paired_slot p) e

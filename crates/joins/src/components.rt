@@ -11,7 +11,10 @@ use crate::join::Join;
 use hibits::{BitSet, Index};
 use storages::{Component, MaskedStorage, ReadStorage, UnprotectedStorage, WriteStorage};
 
-impl<'a, T: Component> Join for &'a MaskedStorage<T> {
+impl<'a, T: Component> Join for &'a MaskedStorage<T>
+where
+    T::Storage: UnprotectedStorage<T>,
+{
     type Type = &'a T;
 
     type Value = &'a MaskedStorage<T>;
@@ -51,7 +54,10 @@ impl<'a, T: Component> Join for &'a MaskedStorage<T> {
     }
 }
 
-impl<'a, 'b, T: Component> Join for &'b ReadStorage<'a, T> {
+impl<'a, 'b, T: Component> Join for &'b ReadStorage<'a, T>
+where
+    T::Storage: UnprotectedStorage<T>,
+{
     type Type = &'b T;
 
     type Value = &'b ReadStorage<'a, T>;
@@ -91,7 +97,10 @@ impl<'a, 'b, T: Component> Join for &'b ReadStorage<'a, T> {
     }
 }
 
-impl<'a, 'b, T: Component> Join for &'b WriteStorage<'a, T> {
+impl<'a, 'b, T: Component> Join for &'b WriteStorage<'a, T>
+where
+    T::Storage: UnprotectedStorage<T>,
+{
     type Type = &'b T;
 
     type Value = &'b WriteStorage<'a, T>;

@@ -54,6 +54,8 @@ impl<'a, T: Component> IndexedStorage<'a, T> {
     /// The component of the index, which is there: nothing is looked up.
     #[inline(always)]
     pub fn get_unchecked(&self) -> &T
+    where
+        T::Storage: UnprotectedStorage<T>,
         ensures { map.get self.now.slot.map self.now.index ≡ Some result.now }
     {
         self.storage.unprotected_storage().get(self.index)
@@ -62,6 +64,8 @@ impl<'a, T: Component> IndexedStorage<'a, T> {
     /// The component of an entity, if it is alive and has one.
     #[inline(always)]
     pub fn get(&self, entity: Entity, entities: &EntitiesRes) -> Option<&T>
+    where
+        T::Storage: UnprotectedStorage<T>,
         ensures present { IfSome result (λ r. IsAlive (population entities.now) entity × (map.get self.now.slot.map (index_of entity) ≡ Some r.now)) }
         ensures absent { IfNone result (IsAlive (population entities.now) entity → map.get self.now.slot.map (index_of entity) ≡ None) }
     {

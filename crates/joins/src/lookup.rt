@@ -27,7 +27,10 @@ pub trait Lookup<T> {
         ensures { finds self.now id result };
 }
 
-impl<'a, T: Component> Lookup<&'a T> for &'a MaskedStorage<T> {
+impl<'a, T: Component> Lookup<&'a T> for &'a MaskedStorage<T>
+where
+    T::Storage: UnprotectedStorage<T>,
+{
     ghost can_look = { λ v i. map.contains_key v.now.map i };
 
     ghost finds = { λ v i r. map.get v.now.map i ≡ Some r.now };
@@ -39,7 +42,10 @@ impl<'a, T: Component> Lookup<&'a T> for &'a MaskedStorage<T> {
     }
 }
 
-impl<'a, 'b, T: Component> Lookup<&'b T> for &'b ReadStorage<'a, T> {
+impl<'a, 'b, T: Component> Lookup<&'b T> for &'b ReadStorage<'a, T>
+where
+    T::Storage: UnprotectedStorage<T>,
+{
     ghost can_look = { λ v i. map.contains_key (slot v.now).map i };
 
     ghost finds = { λ v i r. map.get (slot v.now).map i ≡ Some r.now };
@@ -51,7 +57,10 @@ impl<'a, 'b, T: Component> Lookup<&'b T> for &'b ReadStorage<'a, T> {
     }
 }
 
-impl<'a, 'b, T: Component> Lookup<&'b T> for &'b WriteStorage<'a, T> {
+impl<'a, 'b, T: Component> Lookup<&'b T> for &'b WriteStorage<'a, T>
+where
+    T::Storage: UnprotectedStorage<T>,
+{
     ghost can_look = { λ v i. map.contains_key (writing.slot v.now).map i };
 
     ghost finds = { λ v i r. map.get (writing.slot v.now).map i ≡ Some r.now };

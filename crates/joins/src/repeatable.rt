@@ -9,7 +9,9 @@ use crate::lookup::Lookup;
 use crate::optional::MaybeJoin;
 use entities::EntitiesRes;
 use hibits::{BitSet, BitSetAll, BitSetAnd, BitSetLike, BitSetNot, BitSetOr, BitSetXor, Layers};
-use storages::{AntiStorage, Component, MaskedStorage, ReadStorage, WriteStorage};
+use storages::{
+    AntiStorage, Component, MaskedStorage, ReadStorage, UnprotectedStorage, WriteStorage,
+};
 
 /// A join that gives at each index as often as it is asked, since its values are looked up. It has no method of its own.
 pub trait RepeatableJoin: Join
@@ -23,7 +25,10 @@ where
     ghost same: { (v : Self.Value) (i : ℕ) (r : Self.Type) → Self.Value.finds v i r → Self.value_gives v i r };
 }
 
-impl<'a, T: Component> RepeatableJoin for &'a MaskedStorage<T> {
+impl<'a, T: Component> RepeatableJoin for &'a MaskedStorage<T>
+where
+    T::Storage: UnprotectedStorage<T>,
+{
     ghost again = { refl };
 
     ghost ready = { λ v i h. h };
@@ -31,7 +36,10 @@ impl<'a, T: Component> RepeatableJoin for &'a MaskedStorage<T> {
     ghost same = { λ v i r h. h };
 }
 
-impl<'a, 'b, T: Component> RepeatableJoin for &'b ReadStorage<'a, T> {
+impl<'a, 'b, T: Component> RepeatableJoin for &'b ReadStorage<'a, T>
+where
+    T::Storage: UnprotectedStorage<T>,
+{
     ghost again = { refl };
 
     ghost ready = { λ v i h. h };
@@ -39,7 +47,10 @@ impl<'a, 'b, T: Component> RepeatableJoin for &'b ReadStorage<'a, T> {
     ghost same = { λ v i r h. h };
 }
 
-impl<'a, 'b, T: Component> RepeatableJoin for &'b WriteStorage<'a, T> {
+impl<'a, 'b, T: Component> RepeatableJoin for &'b WriteStorage<'a, T>
+where
+    T::Storage: UnprotectedStorage<T>,
+{
     ghost again = { refl };
 
     ghost ready = { λ v i h. h };

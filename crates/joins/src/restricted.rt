@@ -38,7 +38,10 @@ impl<'a, T: Component> RestrictedStorage<'a, T> {
     }
 }
 
-impl<'a, T: Component> PairedStorage<'a, T> {
+impl<'a, T: Component> PairedStorage<'a, T>
+where
+    T::Storage: UnprotectedStorage<T>,
+{
     ghost use Rattle.joins.specs.Restricted.{paired_slot, paired_index, paired_found};
 
     /// The component at the index that the join gave this for.

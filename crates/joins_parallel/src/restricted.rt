@@ -14,7 +14,7 @@ use joins::{IndexedStorage, Lookup, RepeatableJoin};
 use rayon::prelude::*;
 use std::alloc::{Alloc, AllocError, Global};
 use std::thread::Threads;
-use storages::{Component, MaskedStorage};
+use storages::{Component, MaskedStorage, UnprotectedStorage};
 
 /// What makes a component of a storage paired with an index, and of a join's item there. It stands for a closure.
 pub trait Remake<T: Component, I> {
@@ -84,7 +84,7 @@ where
 /// As `par_update`, where `f` is given the storage paired with the index, to read. After an error nothing has changed. Stands for
 /// `specs::storage::Storage::par_restrict_mut`.
 pub fn par_restrict_mut<
-    T: Component + Drop + Send + Sync,
+    T: Component<Storage: UnprotectedStorage<T>> + Drop + Send + Sync,
     J: RepeatableJoin,
     F: Remake<T, J::Type> + Sync + Drop,
 >(

@@ -33,7 +33,11 @@ pub(crate) fn count_values<T>(made: &[Option<T>]) -> usize
 
 /// Puts a value at an index that has a component, in room that is there for the event.
 #[inline(always)]
-pub(crate) fn replace<T: Component + Drop>(storage: &mut MaskedStorage<T>, id: Index, value: T)
+pub(crate) fn replace<T: Component<Storage: UnprotectedStorage<T>> + Drop>(
+    storage: &mut MaskedStorage<T>,
+    id: Index,
+    value: T,
+)
     requires present { IsSome (map.get storage.old.map id) }
     requires room { HasRoom storage.old.room 1 }
     ensures becomes { Becomes storage.old storage.new (map.insert storage.old.map id value) (ComponentEvent.Modified id) }
@@ -46,7 +50,7 @@ pub(crate) fn replace<T: Component + Drop>(storage: &mut MaskedStorage<T>, id: I
 }
 
 /// Puts each value at its index, in turn, in room that is there for the events.
-pub(crate) fn write_all<T: Component + Drop>(
+pub(crate) fn write_all<T: Component<Storage: UnprotectedStorage<T>> + Drop>(
     storage: &mut MaskedStorage<T>,
     list: &[Index],
     made: Vec<Option<T>>,
@@ -67,7 +71,12 @@ pub(crate) fn write_all<T: Component + Drop>(
 }
 
 /// What `f` makes of the component and of what is looked up, at each index of a part of a list.
-fn made_piece<T: Component + Drop, I, V: Lookup<I>, F: Fn(&T, I) -> Option<T>>(
+fn made_piece<
+    T: Component<Storage: UnprotectedStorage<T>> + Drop,
+    I,
+    V: Lookup<I>,
+    F: Fn(&T, I) -> Option<T>,
+>(
     alloc: Global,
     part: &[Index],
     storage: &MaskedStorage<T>,
@@ -90,7 +99,7 @@ fn made_piece<T: Component + Drop, I, V: Lookup<I>, F: Fn(&T, I) -> Option<T>>(
 
 /// What `f` makes of the component and of what is looked up, at each index of a list, by a piece for each processor.
 fn made_of<
-    T: Component + Drop + Send + Sync,
+    T: Component<Storage: UnprotectedStorage<T>> + Drop + Send + Sync,
     I,
     V: Lookup<I> + Sync,
     F: Fn(&T, I) -> Option<T> + Sync,
@@ -135,7 +144,7 @@ where
 /// it is not refused. Stands for
 /// `specs::join::ParJoin::par_join` over a storage to write to.
 pub fn par_update<
-    T: Component + Drop + Send + Sync,
+    T: Component<Storage: UnprotectedStorage<T>> + Drop + Send + Sync,
     J: RepeatableJoin,
     F: Fn(&T, J::Type) -> Option<T> + Sync + Drop,
 >(

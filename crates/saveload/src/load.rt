@@ -19,7 +19,7 @@ use crate::error::LoadError;
 use crate::marker::{Marker, MarkerAllocator};
 use entities::{EntitiesRes, Entity};
 use std::alloc::{AllocError, Global};
-use storages::{Component, InsertError, MaskedStorage, WriteStorage};
+use storages::{Component, InsertError, MaskedStorage, UnprotectedStorage, WriteStorage};
 
 /// A tuple of one to six storages that are lent for a load.
 ///
@@ -95,7 +95,7 @@ pub(crate) fn add_mentions<M: Marker, T: ConvertSaveload<M>>(
 // Stores a place of an entity.
 pub(crate) fn store_place<
     M: Marker,
-    T: Component + Drop + ConvertSaveload<M>,
+    T: Component<Storage: UnprotectedStorage<T>> + Drop + ConvertSaveload<M>,
     F: Fn(M) -> Option<Entity>,
 >(
     alloc: Global,
@@ -130,7 +130,7 @@ pub(crate) fn store_place<
 // Stores a first place of an entity, and the rest of its row.
 pub(crate) fn store_with_rest<
     M: Marker,
-    A: Component + Drop + ConvertSaveload<M>,
+    A: Component<Storage: UnprotectedStorage<A>> + Drop + ConvertSaveload<M>,
     R: DeserializeComponents<M>,
     F: Fn(M) -> Option<Entity>,
 >(
@@ -159,7 +159,7 @@ pub(crate) fn store_with_rest<
 }
 
 // Puts a component at an entity that is alive.
-fn put_at<T: Component + Drop>(
+fn put_at<T: Component<Storage: UnprotectedStorage<T>> + Drop>(
     entities: &EntitiesRes,
     masked: &mut MaskedStorage<T>,
     entity: Entity,
@@ -178,7 +178,7 @@ fn put_at<T: Component + Drop>(
 }
 
 // Takes the component of an entity that is alive out.
-fn take_out<T: Component + Drop>(
+fn take_out<T: Component<Storage: UnprotectedStorage<T>> + Drop>(
     entities: &EntitiesRes,
     masked: &mut MaskedStorage<T>,
     entity: Entity,

@@ -11,11 +11,11 @@ use crate::load::{DeserializeComponents, add_mentions, store_place, store_with_r
 use crate::marker::Marker;
 use entities::{EntitiesRes, Entity};
 use std::alloc::{AllocError, Global};
-use storages::{Component, MaskedStorage};
+use storages::{Component, MaskedStorage, UnprotectedStorage};
 
 impl<M: Marker, A> DeserializeComponents<M> for (&mut MaskedStorage<A>,)
 where
-    A: Component + Drop + ConvertSaveload<M>,
+    A: Component<Storage: UnprotectedStorage<A>> + Drop + ConvertSaveload<M>,
 {
     type Row = (Option<A>,);
 
@@ -57,8 +57,8 @@ where
 
 impl<M: Marker, A, B> DeserializeComponents<M> for (&mut MaskedStorage<A>, &mut MaskedStorage<B>)
 where
-    A: Component + Drop + ConvertSaveload<M>,
-    B: Component + Drop + ConvertSaveload<M>,
+    A: Component<Storage: UnprotectedStorage<A>> + Drop + ConvertSaveload<M>,
+    B: Component<Storage: UnprotectedStorage<B>> + Drop + ConvertSaveload<M>,
 {
     type Row = (Option<A>, Option<B>);
 
@@ -110,9 +110,9 @@ impl<M: Marker, A, B, C> DeserializeComponents<M>
         &mut MaskedStorage<C>,
     )
 where
-    A: Component + Drop + ConvertSaveload<M>,
-    B: Component + Drop + ConvertSaveload<M>,
-    C: Component + Drop + ConvertSaveload<M>,
+    A: Component<Storage: UnprotectedStorage<A>> + Drop + ConvertSaveload<M>,
+    B: Component<Storage: UnprotectedStorage<B>> + Drop + ConvertSaveload<M>,
+    C: Component<Storage: UnprotectedStorage<C>> + Drop + ConvertSaveload<M>,
 {
     type Row = (Option<A>, Option<B>, Option<C>);
 
@@ -175,10 +175,10 @@ impl<M: Marker, A, B, C, D> DeserializeComponents<M>
         &mut MaskedStorage<D>,
     )
 where
-    A: Component + Drop + ConvertSaveload<M>,
-    B: Component + Drop + ConvertSaveload<M>,
-    C: Component + Drop + ConvertSaveload<M>,
-    D: Component + Drop + ConvertSaveload<M>,
+    A: Component<Storage: UnprotectedStorage<A>> + Drop + ConvertSaveload<M>,
+    B: Component<Storage: UnprotectedStorage<B>> + Drop + ConvertSaveload<M>,
+    C: Component<Storage: UnprotectedStorage<C>> + Drop + ConvertSaveload<M>,
+    D: Component<Storage: UnprotectedStorage<D>> + Drop + ConvertSaveload<M>,
 {
     type Row = (Option<A>, Option<B>, Option<C>, Option<D>);
 
@@ -244,11 +244,11 @@ impl<M: Marker, A, B, C, D, E> DeserializeComponents<M>
         &mut MaskedStorage<E>,
     )
 where
-    A: Component + Drop + ConvertSaveload<M>,
-    B: Component + Drop + ConvertSaveload<M>,
-    C: Component + Drop + ConvertSaveload<M>,
-    D: Component + Drop + ConvertSaveload<M>,
-    E: Component + Drop + ConvertSaveload<M>,
+    A: Component<Storage: UnprotectedStorage<A>> + Drop + ConvertSaveload<M>,
+    B: Component<Storage: UnprotectedStorage<B>> + Drop + ConvertSaveload<M>,
+    C: Component<Storage: UnprotectedStorage<C>> + Drop + ConvertSaveload<M>,
+    D: Component<Storage: UnprotectedStorage<D>> + Drop + ConvertSaveload<M>,
+    E: Component<Storage: UnprotectedStorage<E>> + Drop + ConvertSaveload<M>,
 {
     type Row = (Option<A>, Option<B>, Option<C>, Option<D>, Option<E>);
 
@@ -317,12 +317,12 @@ impl<M: Marker, A, B, C, D, E, G> DeserializeComponents<M>
         &mut MaskedStorage<G>,
     )
 where
-    A: Component + Drop + ConvertSaveload<M>,
-    B: Component + Drop + ConvertSaveload<M>,
-    C: Component + Drop + ConvertSaveload<M>,
-    D: Component + Drop + ConvertSaveload<M>,
-    E: Component + Drop + ConvertSaveload<M>,
-    G: Component + Drop + ConvertSaveload<M>,
+    A: Component<Storage: UnprotectedStorage<A>> + Drop + ConvertSaveload<M>,
+    B: Component<Storage: UnprotectedStorage<B>> + Drop + ConvertSaveload<M>,
+    C: Component<Storage: UnprotectedStorage<C>> + Drop + ConvertSaveload<M>,
+    D: Component<Storage: UnprotectedStorage<D>> + Drop + ConvertSaveload<M>,
+    E: Component<Storage: UnprotectedStorage<E>> + Drop + ConvertSaveload<M>,
+    G: Component<Storage: UnprotectedStorage<G>> + Drop + ConvertSaveload<M>,
 {
     type Row = (
         Option<A>,

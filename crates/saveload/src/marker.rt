@@ -16,12 +16,12 @@ use crate::mark_error::MarkError;
 use entities::{CreateError, EntitiesRes, Entity};
 use hibits::Index;
 use std::alloc::{AllocError, Global};
-use storages::{Component, MaskedStorage, WriteStorage};
+use storages::{Component, MaskedStorage, UnprotectedStorage, WriteStorage};
 
 /// A component that names its entity by an id. Two markers of one id may differ in what else they hold.
 ///
 /// Ports `specs::saveload::Marker`, whose `Allocator` here need not be one: who calls it asks for that.
-pub trait Marker: Component + Clone + Drop + Sized {
+pub trait Marker: Component<Storage: UnprotectedStorage<Self>> + Clone + Drop + Sized {
     /// The type of the ids.
     type Identifier: Copy + Eq;
 

@@ -38,13 +38,13 @@ abbrev pub with_storages : {S : Type 0} → Core S → S → Core S
 with_storages c s = let p = c.parts in record c { parts = record p { storages = s } }
 
 -- it has the storage as it was left
-abbrev pub LendsMasked : (S T I K : RattleType) (meaning : K.Denot → Meaning T.Denot) (IsDefault : K.Denot → Type 0) (TakesNone : Type 0) → MutBor (Writing S.Denot T.Denot I.Denot) → MutBor (Slot T.Denot) → (Slot T.Denot → S.Denot) → Fml
-LendsMasked S T I K meaning IsDefault TakesNone v r F =
-    Lends (view.the_row (record { mir = named 1; lft = [] }) S T I) (masked.the_row T K (record { meaning = meaning }) (record { IsDefault = IsDefault; TakesNone = TakesNone })) v r
+abbrev pub LendsMasked : (S T I K : RattleType) (meaning : K.Denot → Meaning T.Denot) → MutBor (Writing S.Denot T.Denot I.Denot) → MutBor (Slot T.Denot) → (Slot T.Denot → S.Denot) → Fml
+LendsMasked S T I K meaning v r F =
+    Lends (view.the_row (record { mir = named 1; lft = [] }) S T I) (masked.the_row T K (record { meaning = meaning })) v r
     (λ w. let b = lent v.now in record v.now { core = record b { now = with_storages b.now (F w) } })
 
-abbrev pub LendsHere : (S T K : RattleType) (meaning : K.Denot → Meaning T.Denot) (IsDefault : K.Denot → Type 0) (TakesNone : Type 0) → MutBor S.Denot → MutBor (Slot T.Denot) → (Slot T.Denot → S.Denot) → Fml
-LendsHere S T K meaning IsDefault TakesNone s r F = Lends S (masked.the_row T K (record { meaning = meaning }) (record { IsDefault = IsDefault; TakesNone = TakesNone })) s r F
+abbrev pub LendsHere : (S T K : RattleType) (meaning : K.Denot → Meaning T.Denot) → MutBor S.Denot → MutBor (Slot T.Denot) → (Slot T.Denot → S.Denot) → Fml
+LendsHere S T K meaning s r F = Lends S (masked.the_row T K (record { meaning = meaning })) s r F
 
 -- what a struct is after a write of x through the reference that the call answered, if it did
 pub record ValueWrites {S T B E : Type 0} (part : S → Option (Slot T)) (with_part : S → Slot T → S) (r : Result B E) (old new : S) (id : ℕ) (x : T) : Type 0 where

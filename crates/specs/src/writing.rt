@@ -146,7 +146,7 @@ impl<'a, S: Has<T, I>, T: Component, I> Writing<'a, S, T, I> {
     /// The storage without the entities: its components to write to, its channel, its cursors.
     pub fn masked_mut(&mut self) -> &mut MaskedStorage<T>
         requires { IsSome (S.part (storages_of self.old)) }
-        ensures* lends { sem 𝓛 (LendsMasked S.row T.row I.row T.Storage.row T.Storage.meaning T.Storage.IsDefault T.Storage.TakesNone self.entry result (S.with_part (storages_of self.old))) }
+        ensures* lends { sem 𝓛 (LendsMasked S.row T.row I.row T.Storage.row T.Storage.meaning self.entry result (S.with_part (storages_of self.old))) }
         ensures slot { S.part (storages_of self.old) ≡ Some result.now }
     {
         let core = &mut *self.core;
@@ -176,7 +176,7 @@ fn component_mut<T: Component, S: Has<T, I>, I>(
 // The storage of a component type that is registered.
 fn here<T: Component, S: Has<T, I>, I>(storages: &mut S) -> &mut MaskedStorage<T>
     requires { IsSome (S.part storages.old) }
-    ensures* lends { sem 𝓛 (LendsHere S.row T.row T.Storage.row T.Storage.meaning T.Storage.IsDefault T.Storage.TakesNone storages.entry result (S.with_part storages.old)) }
+    ensures* lends { sem 𝓛 (LendsHere S.row T.row T.Storage.row T.Storage.meaning storages.entry result (S.with_part storages.old)) }
     ensures slot { S.part storages.old ≡ Some result.now }
 {
     storages.field_mut().unwrap()

@@ -18,30 +18,30 @@ pub record SlotRefuses {T B E : Type 0} (r : Result B E) (s s' : Slot T) : Type 
   pub keys : SameKeys s s'
   pub same : OnErr r (IsSame s s')
 
-module _ (T S : RattleType) (meaning : S.Denot → Meaning T.Denot) (IsDefault : S.Denot → Type 0) (TakesNone : Type 0) {E : Type 0} (s : MutBor (Slot T.Denot)) (id : ℕ) where
+module _ (T S : RattleType) (meaning : S.Denot → Meaning T.Denot) {E : Type 0} (s : MutBor (Slot T.Denot)) (id : ℕ) where
   -- once the borrow r ends, the index has the last value written through it, and after an error the slot is the same
   abbrev pub lends_present : Result (MutBor T.Denot) E → Fml
   lends_present r =
-      follows_so (the_row T S (record { meaning = meaning }) (record { IsDefault = IsDefault; TakesNone = TakesNone })) T s.ghost_name (name_if_ok (λ x. x.ghost_name) r)
+      follows_so (the_row T S (record { meaning = meaning })) T s.ghost_name (name_if_ok (λ x. x.ghost_name) r)
       (λ x n. SlotWrites r s.now n id x)
       (λ n. SlotRefuses r s.now n)
 
   -- the same after an insertion
   abbrev pub lends_inserted : Result (MutBor T.Denot) E → Fml
   lends_inserted r =
-      LendsSoOk (the_row T S (record { meaning = meaning }) (record { IsDefault = IsDefault; TakesNone = TakesNone })) T s r
+      LendsSoOk (the_row T S (record { meaning = meaning })) T s r
       (λ n x. Inserts s.now n id x)
       (λ n. IsSame s.now n)
 
   -- the same after a write, or an insertion and a write
   abbrev pub lends_filled : Result (MutBor T.Denot) E → Fml
   lends_filled r =
-      LendsSoOk (the_row T S (record { meaning = meaning }) (record { IsDefault = IsDefault; TakesNone = TakesNone })) T s r
+      LendsSoOk (the_row T S (record { meaning = meaning })) T s r
       (λ n x. Fills s.now n id x)
       (λ n. IsSame s.now n)
 
 -- once the borrow r ends, each index that has a component has what was left at its place, and nothing else changed
-abbrev pub lends_slice : (T S : RattleType) (meaning : S.Denot → Meaning T.Denot) (IsDefault : S.Denot → Type 0) (TakesNone : Type 0) (item_at : List ℕ → List T.Denot → ℕ → Option T.Denot)
+abbrev pub lends_slice : (T S : RattleType) (meaning : S.Denot → Meaning T.Denot) (item_at : List ℕ → List T.Denot → ℕ → Option T.Denot)
     → MutBor (Slot T.Denot) → MutBor (List T.Denot) → Fml
-lends_slice T S meaning IsDefault TakesNone item_at s r =
-    Lends (the_row T S (record { meaning = meaning }) (record { IsDefault = IsDefault; TakesNone = TakesNone })) (Array T 0) s r (λ xs. with_slice item_at s.now (left_as r.now xs))
+lends_slice T S meaning item_at s r =
+    Lends (the_row T S (record { meaning = meaning })) (Array T 0) s r (λ xs. with_slice item_at s.now (left_as r.now xs))

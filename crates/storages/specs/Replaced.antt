@@ -14,6 +14,6 @@ module _ {T S : Type 0} where
   before_of r = r.before
 
 -- where nothing was put, the slot stays
-abbrev pub rests_if_refused : (T S : RattleType) (meaning : S.Denot → Meaning T.Denot) (IsDefault : S.Denot → Type 0) (TakesNone : Type 0) {E : Type 0} → MutBor (Slot T.Denot) → Result (Replaced T.Denot S.Denot) E → Fml
-rests_if_refused T S meaning IsDefault TakesNone s r =
-    RestsIfErr (the_row T S (record { meaning = meaning }) (record { IsDefault = IsDefault; TakesNone = TakesNone })) s (λ p. (storage_of p).ghost_name) r (λ n. IsSame s.now n)
+abbrev pub rests_if_refused : (T S : RattleType) (meaning : S.Denot → Meaning T.Denot) {E : Type 0} → MutBor (Slot T.Denot) → Result (Replaced T.Denot S.Denot) E → Fml
+rests_if_refused T S meaning s r =
+    RestsIfErr (the_row T S (record { meaning = meaning })) s (λ p. (storage_of p).ghost_name) r (λ n. IsSame s.now n)

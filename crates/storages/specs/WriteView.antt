@@ -66,34 +66,34 @@ pub record ViewStays {T S B E : Type 0} (r : Result B E) (v v' : WriteStorage T 
   pub entities : v'.entities ≡ v.entities
   pub same : OnErr r (IsSame (slot v) (slot v'))
 
-module _ (T S : RattleType) (meaning : S.Denot → Meaning T.Denot) (IsDefault : S.Denot → Type 0) (TakesNone : Type 0) (v : MutBor (WriteStorage T.Denot S.Denot)) where
+module _ (T S : RattleType) (meaning : S.Denot → Meaning T.Denot) (v : MutBor (WriteStorage T.Denot S.Denot)) where
   -- once the borrow r ends, the entity has the last value written through it
   abbrev pub lends_found : {E : Type 0} → Entity → Result (MutBor T.Denot) E → Fml
   lends_found e r =
-      follows_so (the_row (record { mir = named 1; lft = [] }) T S (record { meaning = meaning }) (record { IsDefault = IsDefault; TakesNone = TakesNone })) T v.ghost_name (name_if_ok (λ x. x.ghost_name) r)
+      follows_so (the_row (record { mir = named 1; lft = [] }) T S (record { meaning = meaning })) T v.ghost_name (name_if_ok (λ x. x.ghost_name) r)
       (λ x n. ViewWrites r v.now n (index_of e) x)
       (λ n. ViewRefuses r v.now n)
 
   -- once the borrow ends, the view has the slot that was left there
   abbrev pub lends_masked : MutBor (Slot T.Denot) → Fml
   lends_masked r =
-      Lends (the_row (record { mir = named 1; lft = [] }) T S (record { meaning = meaning }) (record { IsDefault = IsDefault; TakesNone = TakesNone })) (masked.the_row T S (record { meaning = meaning }) (record { IsDefault = IsDefault; TakesNone = TakesNone })) v r (with_slot v.now)
+      Lends (the_row (record { mir = named 1; lft = [] }) T S (record { meaning = meaning })) (masked.the_row T S (record { meaning = meaning })) v r (with_slot v.now)
 
   -- the same where the call answered a reference, and else the view stays
   abbrev pub lends_live : {E : Type 0} → Result (MutBor (Slot T.Denot)) E → Fml
   lends_live r =
-      LendsIfOk (the_row (record { mir = named 1; lft = [] }) T S (record { meaning = meaning }) (record { IsDefault = IsDefault; TakesNone = TakesNone })) (masked.the_row T S (record { meaning = meaning }) (record { IsDefault = IsDefault; TakesNone = TakesNone })) v r (with_slot v.now) v.now
+      LendsIfOk (the_row (record { mir = named 1; lft = [] }) T S (record { meaning = meaning })) (masked.the_row T S (record { meaning = meaning })) v r (with_slot v.now) v.now
 
   -- once the borrow r ends, the entity has the last value written through it, if it is alive
   abbrev pub lends_filled : {E : Type 0} → Entity → Result (MutBor T.Denot) E → Fml
   lends_filled e r =
-      follows_so (the_row (record { mir = named 1; lft = [] }) T S (record { meaning = meaning }) (record { IsDefault = IsDefault; TakesNone = TakesNone })) T v.ghost_name (name_if_ok (λ x. x.ghost_name) r)
+      follows_so (the_row (record { mir = named 1; lft = [] }) T S (record { meaning = meaning })) T v.ghost_name (name_if_ok (λ x. x.ghost_name) r)
       (λ x n. ViewFills r v.now n (index_of e) x)
       (λ n. ViewStays r v.now n)
 
 -- once the borrow r ends, each index that has a component has what was left at its place, and nothing else changed
-abbrev pub lends_slice : (T S : RattleType) (meaning : S.Denot → Meaning T.Denot) (IsDefault : S.Denot → Type 0) (TakesNone : Type 0) (item_at : List ℕ → List T.Denot → ℕ → Option T.Denot)
+abbrev pub lends_slice : (T S : RattleType) (meaning : S.Denot → Meaning T.Denot) (item_at : List ℕ → List T.Denot → ℕ → Option T.Denot)
     → MutBor (WriteStorage T.Denot S.Denot) → MutBor (List T.Denot) → Fml
-lends_slice T S meaning IsDefault TakesNone item_at v r =
-    Lends (the_row (record { mir = named 1; lft = [] }) T S (record { meaning = meaning }) (record { IsDefault = IsDefault; TakesNone = TakesNone })) (Array T 0) v r
+lends_slice T S meaning item_at v r =
+    Lends (the_row (record { mir = named 1; lft = [] }) T S (record { meaning = meaning })) (Array T 0) v r
     (λ xs. with_slot v.now (with_slice item_at (slot v.now) (left_as r.now xs)))

@@ -4,7 +4,7 @@ ghost use Rattle.entities.specs.declared.entity.Entity.{Entity};
 ghost use Rattle.storages.specs.Meaning.{HasRoom};
 
 use crate::masked::MaskedStorage;
-use crate::unprotected::Component;
+use crate::unprotected::{Component, UnprotectedStorage};
 use entities::Entity;
 use std::alloc::AllocError;
 
@@ -32,7 +32,10 @@ pub trait AnyStorage {
         ensures { HasLost self.old self.new list.now };
 }
 
-impl<T: Component> AnyStorage for MaskedStorage<T> {
+impl<T: Component> AnyStorage for MaskedStorage<T>
+where
+    T::Storage: UnprotectedStorage<T>,
+{
     ghost use Rattle.storages.specs.Slot.{IsSame};
     ghost use Rattle.storages.specs.Removals.{Loses};
 
@@ -51,7 +54,10 @@ impl<T: Component> AnyStorage for MaskedStorage<T> {
     }
 }
 
-impl<T: Component> MaskedStorage<T> {
+impl<T: Component> MaskedStorage<T>
+where
+    T::Storage: UnprotectedStorage<T>,
+{
     ghost use Rattle.storages.specs.Removals.{Loses};
 
     /// Takes the components of the indices of these entities out, in the list's order, in room that is there for the

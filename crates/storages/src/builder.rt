@@ -8,7 +8,7 @@ ghost use Rattle.storages.specs.Meaning.{HasRoom};
 ghost use Rattle.storages.specs.Slot.{IsSame, Puts};
 
 use crate::masked::MaskedStorage;
-use crate::unprotected::Component;
+use crate::unprotected::{Component, UnprotectedStorage};
 use entities::EntityResBuilder;
 use std::alloc::AllocError;
 
@@ -22,7 +22,9 @@ pub trait WithComponent: Sized {
         self,
         masked: &mut MaskedStorage<T>,
         component: T,
-    ) -> Result<Self, (AllocError, T)>;
+    ) -> Result<Self, (AllocError, T)>
+    where
+        T::Storage: UnprotectedStorage<T>;
 }
 
 impl<'a> WithComponent for EntityResBuilder<'a> {
@@ -31,6 +33,8 @@ impl<'a> WithComponent for EntityResBuilder<'a> {
         masked: &mut MaskedStorage<T>,
         component: T,
     ) -> Result<Self, (AllocError, T)>
+    where
+        T::Storage: UnprotectedStorage<T>,
         ensures* rests { sem 𝓛 (KeptRests self.entry result) }
         ensures same_reference { IfOk result (λ b. (lent_to_builder b).ghost_name ≡ (lent_to_builder self.entry).ghost_name) }
         ensures entity { IfOk result (λ b. entity_built b ≡ entity_built self.entry) }
@@ -51,6 +55,8 @@ fn put_at<T: Component + Drop>(
     masked: &mut MaskedStorage<T>,
     component: T,
 ) -> Result<(), (AllocError, T)>
+where
+    T::Storage: UnprotectedStorage<T>,
     ensures ok { OnOk result (Puts masked.old masked.new (index_of (entity_built builder.now)) component (map.contains_key masked.old.map (index_of (entity_built builder.now)))) }
     ensures err { OnErr result (IsSame masked.old masked.new) }
     ensures refused { IfErr result (λ e. e.1 ≡ component) }

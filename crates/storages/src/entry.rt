@@ -7,7 +7,7 @@ ghost use Rattle.storages.specs.Slot.{IsSame, Puts, Takes};
 ghost use Rattle.storages.specs.Limit.{IsIndex};
 
 use crate::masked::{MaskedStorage, Replaced};
-use crate::unprotected::Component;
+use crate::unprotected::{Component, UnprotectedStorage};
 use hibits::Index;
 use std::alloc::AllocError;
 use std::mem;
@@ -59,7 +59,10 @@ impl<T: Component> MaskedStorage<T> {
     }
 }
 
-impl<'a, T: Component> OccupiedEntry<'a, T> {
+impl<'a, T: Component> OccupiedEntry<'a, T>
+where
+    T::Storage: UnprotectedStorage<T>,
+{
     ghost use Rattle.storages.specs.Entry.{slot_at, id_at, name_at, lends_occupied, lends_within, rests_occupied};
     ghost use Rattle.storages.specs.Replaced.{storage_of, before_of};
 
@@ -90,7 +93,7 @@ impl<'a, T: Component> OccupiedEntry<'a, T> {
     /// event; then nothing has changed.
     #[inline]
     pub fn into_mut(self) -> Result<&'a mut T, AllocError>
-        ensures* writes_back { sem 𝓛 (lends_occupied T.row T.Storage.row T.Storage.meaning T.Storage.IsDefault T.Storage.TakesNone self.entry result) }
+        ensures* writes_back { sem 𝓛 (lends_occupied T.row T.Storage.row T.Storage.meaning self.entry result) }
         ensures value { IfOk result (λ x. map.get (slot_at self.entry).map (id_at self.entry) ≡ Some x.now) }
         ensures succeeds { HasRoom (slot_at self.entry).room 1 → IsOk result }
     {
@@ -103,7 +106,7 @@ impl<'a, T: Component> OccupiedEntry<'a, T> {
     fn into_mut_or(self, value: T) -> Result<&'a mut T, (AllocError, T)>
     where
         T: Drop,
-        ensures* writes_back { sem 𝓛 (lends_occupied T.row T.Storage.row T.Storage.meaning T.Storage.IsDefault T.Storage.TakesNone self.entry result) }
+        ensures* writes_back { sem 𝓛 (lends_occupied T.row T.Storage.row T.Storage.meaning self.entry result) }
         ensures value { IfOk result (λ x. map.get (slot_at self.entry).map (id_at self.entry) ≡ Some x.now) }
         ensures value_returned { IfErr result (λ e. e.1 ≡ value) }
         ensures succeeds { HasRoom (slot_at self.entry).room 1 → IsOk result }
@@ -115,7 +118,7 @@ impl<'a, T: Component> OccupiedEntry<'a, T> {
     // `into_mut`, with an error that can hand a component back.
     #[inline]
     fn into_mut_or_none(self) -> Result<&'a mut T, (AllocError, Option<T>)>
-        ensures* writes_back { sem 𝓛 (lends_occupied T.row T.Storage.row T.Storage.meaning T.Storage.IsDefault T.Storage.TakesNone self.entry result) }
+        ensures* writes_back { sem 𝓛 (lends_occupied T.row T.Storage.row T.Storage.meaning self.entry result) }
         ensures value { IfOk result (λ x. map.get (slot_at self.entry).map (id_at self.entry) ≡ Some x.now) }
         ensures nothing { IfErr result (λ e. e.1 ≡ None) }
         ensures succeeds { HasRoom (slot_at self.entry).room 1 → IsOk result }
@@ -169,7 +172,10 @@ impl<'a, T: Component> OccupiedEntry<'a, T> {
     }
 }
 
-impl<'a, T: Component> VacantEntry<'a, T> {
+impl<'a, T: Component> VacantEntry<'a, T>
+where
+    T::Storage: UnprotectedStorage<T>,
+{
     ghost use Rattle.storages.specs.Entry.{lends_vacant, rests_vacant, vacant_slot, vacant_id, vacant_name};
     ghost use Rattle.storages.specs.Replaced.{storage_of, before_of};
 
@@ -177,7 +183,7 @@ impl<'a, T: Component> VacantEntry<'a, T> {
     /// Where memory is refused nothing has changed, and the component is handed back.
     #[inline]
     pub fn insert(self, value: T) -> Result<&'a mut T, (AllocError, T)>
-        ensures* writes_back { sem 𝓛 (lends_vacant T.row T.Storage.row T.Storage.meaning T.Storage.IsDefault T.Storage.TakesNone self.entry result) }
+        ensures* writes_back { sem 𝓛 (lends_vacant T.row T.Storage.row T.Storage.meaning self.entry result) }
         ensures value { IfOk result (λ x. x.now ≡ value) }
         ensures value_returned { IfErr result (λ e. e.1 ≡ value) }
     {
@@ -201,7 +207,7 @@ impl<'a, T: Component> VacantEntry<'a, T> {
     // `insert`, with an error that hands the component back as an option.
     #[inline]
     fn insert_or_some(self, value: T) -> Result<&'a mut T, (AllocError, Option<T>)>
-        ensures* writes_back { sem 𝓛 (lends_vacant T.row T.Storage.row T.Storage.meaning T.Storage.IsDefault T.Storage.TakesNone self.entry result) }
+        ensures* writes_back { sem 𝓛 (lends_vacant T.row T.Storage.row T.Storage.meaning self.entry result) }
         ensures value { IfOk result (λ x. x.now ≡ value) }
         ensures value_returned { IfErr result (λ e. e.1 ≡ Some value) }
     {
@@ -213,7 +219,7 @@ impl<'a, T: Component> VacantEntry<'a, T> {
     #[inline]
     fn insert_made<F: FnOnce() -> T>(self, make: F) -> Result<&'a mut T, (AllocError, Option<T>)>
         requires { F.pre make }
-        ensures* writes_back { sem 𝓛 (lends_vacant T.row T.Storage.row T.Storage.meaning T.Storage.IsDefault T.Storage.TakesNone self.entry result) }
+        ensures* writes_back { sem 𝓛 (lends_vacant T.row T.Storage.row T.Storage.meaning self.entry result) }
         ensures value { IfOk result (λ x. F.post make x.now) }
         ensures value_returned { IfErr result (λ e. (x : T) × (e.1 ≡ Some x) × F.post make x) }
     {
@@ -222,7 +228,10 @@ impl<'a, T: Component> VacantEntry<'a, T> {
     }
 }
 
-impl<'a, T: Component> StorageEntry<'a, T> {
+impl<'a, T: Component> StorageEntry<'a, T>
+where
+    T::Storage: UnprotectedStorage<T>,
+{
     ghost use Rattle.storages.specs.Entry.{entry_ref, entry_id, is_occupied, lends_entry, rests_entry};
     ghost use Rattle.storages.specs.Replaced.{storage_of, before_of};
 

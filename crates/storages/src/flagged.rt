@@ -12,7 +12,7 @@ use crate::event::ComponentEvent;
 use crate::kinds::DenseVecStorage;
 use crate::reader_id::{ReaderId, UnknownReader};
 use crate::tracked::Tracked;
-use crate::unprotected::{TryDefault, UnprotectedStorage};
+use crate::unprotected::{Kind, TryDefault, UnprotectedStorage};
 use hibits::{BitSet, Index};
 use std::alloc::{AllocError, Global};
 use std::marker::PhantomData;
@@ -53,10 +53,14 @@ impl<C, T: TryDefault> TryDefault for FlaggedStorage<C, T> {
     }
 }
 
-impl<C: Drop, T: UnprotectedStorage<C>> UnprotectedStorage<C> for FlaggedStorage<C, T> {
-    ghost use Rattle.storages.specs.Flagged.{flagged, new_of_new, wanted_by_readers};
+impl<C: Drop, T: Kind<C>> Kind<C> for FlaggedStorage<C, T> {
+    ghost use Rattle.storages.specs.Flagged.{flagged};
 
     ghost meaning = { λ s. flagged s.event_emission s.channel (T.meaning s.storage) };
+}
+
+impl<C: Drop, T: UnprotectedStorage<C>> UnprotectedStorage<C> for FlaggedStorage<C, T> {
+    ghost use Rattle.storages.specs.Flagged.{flagged, new_of_new, wanted_by_readers};
 
     fn clean(&mut self, has: &BitSet) -> Result<(), AllocError> {
         if !self.event_emission || !self.channel.has_readers() {

@@ -14,7 +14,7 @@ ghost use Rattle.storages.specs.WriteView.{IsInsertError};
 
 use crate::masked::NotLent;
 use crate::read_storage::ReadStorage;
-use crate::unprotected::Component;
+use crate::unprotected::{Component, UnprotectedStorage};
 use crate::write_storage::{INSERT, InsertError, WriteStorage};
 use entities::Entity;
 use std::alloc::AllocError;
@@ -32,7 +32,10 @@ pub trait GenericReadStorage {
         ensures { option_copied result ≡ found self.now entity };
 }
 
-impl<'a, T: Component> GenericReadStorage for ReadStorage<'a, T> {
+impl<'a, T: Component> GenericReadStorage for ReadStorage<'a, T>
+where
+    T::Storage: UnprotectedStorage<T>,
+{
     type Component = T;
 
     ghost use Rattle.storages.specs.ReadView.{found as found_by};
@@ -45,7 +48,10 @@ impl<'a, T: Component> GenericReadStorage for ReadStorage<'a, T> {
     }
 }
 
-impl<'a, T: Component> GenericReadStorage for WriteStorage<'a, T> {
+impl<'a, T: Component> GenericReadStorage for WriteStorage<'a, T>
+where
+    T::Storage: UnprotectedStorage<T>,
+{
     type Component = T;
 
     ghost use Rattle.storages.specs.WriteView.{found as found_by};
@@ -131,7 +137,10 @@ pub trait GenericWriteStorage {
         ensures succeeds { HasRoom (sight self.old).slot.room 1 → IsOk result };
 }
 
-impl<'a, T: Component + Drop> GenericWriteStorage for WriteStorage<'a, T> {
+impl<'a, T: Component + Drop> GenericWriteStorage for WriteStorage<'a, T>
+where
+    T::Storage: UnprotectedStorage<T>,
+{
     type Component = T;
 
     ghost use Rattle.storages.specs.WriteView.{slot, entities_of, storage_name};

@@ -60,9 +60,7 @@ pub struct Replaced<'a, T: Component> {
 }
 
 impl<T: Component> MaskedStorage<T> {
-    ghost use Rattle.storages.specs.Replaced.{storage_of, before_of, rests_if_refused};
-    ghost use Rattle.storages.specs.Slot.{IsSame, Puts, Takes, Clears, indices_of};
-    ghost use Rattle.storages.specs.Lending.{lends_present, lends_inserted, lends_filled};
+    ghost use Rattle.storages.specs.Slot.{indices_of};
 
     /// A storage without components, over one that is empty.
     pub fn new(alloc: Global, inner: T::Storage) -> Self
@@ -140,6 +138,15 @@ impl<T: Component> MaskedStorage<T> {
     {
         self.mask.contains(id)
     }
+}
+
+impl<T: Component> MaskedStorage<T>
+where
+    T::Storage: UnprotectedStorage<T>,
+{
+    ghost use Rattle.storages.specs.Replaced.{storage_of, before_of, rests_if_refused};
+    ghost use Rattle.storages.specs.Slot.{IsSame, Puts, Takes, Clears, indices_of};
+    ghost use Rattle.storages.specs.Lending.{lends_present, lends_inserted, lends_filled};
 
     /// The component of an index.
     #[inline(always)]
@@ -157,7 +164,7 @@ impl<T: Component> MaskedStorage<T> {
     #[inline(always)]
     pub fn present_mut(&mut self, id: Index) -> Result<&mut T, AllocError>
         requires { IsSome (map.get self.old.map id) }
-        ensures* writes_back { sem 𝓛 (lends_present T.row T.Storage.row T.Storage.meaning T.Storage.IsDefault T.Storage.TakesNone self.entry id result) }
+        ensures* writes_back { sem 𝓛 (lends_present T.row T.Storage.row T.Storage.meaning self.entry id result) }
         ensures value { IfOk result (λ x. map.get self.old.map id ≡ Some x.now) }
         ensures succeeds { HasRoom self.old.room 1 → IsOk result }
     {
@@ -168,7 +175,7 @@ impl<T: Component> MaskedStorage<T> {
     #[inline(always)]
     pub fn lend_present(&mut self, id: Index) -> Result<&mut T, NotLent>
         requires { IsSome (map.get self.old.map id) }
-        ensures* writes_back { sem 𝓛 (lends_present T.row T.Storage.row T.Storage.meaning T.Storage.IsDefault T.Storage.TakesNone self.entry id result) }
+        ensures* writes_back { sem 𝓛 (lends_present T.row T.Storage.row T.Storage.meaning self.entry id result) }
         ensures value { IfOk result (λ x. map.get self.old.map id ≡ Some x.now) }
         ensures refused { IfErr result (λ e. e ≡ NotLent.OutOfMemory) }
         ensures succeeds { HasRoom self.old.room 1 → IsOk result }
@@ -185,7 +192,7 @@ impl<T: Component> MaskedStorage<T> {
     where
         T: Drop,
         requires { IsSome (map.get self.old.map id) }
-        ensures* writes_back { sem 𝓛 (lends_present T.row T.Storage.row T.Storage.meaning T.Storage.IsDefault T.Storage.TakesNone self.entry id result) }
+        ensures* writes_back { sem 𝓛 (lends_present T.row T.Storage.row T.Storage.meaning self.entry id result) }
         ensures value { IfOk result (λ x. map.get self.old.map id ≡ Some x.now) }
         ensures value_returned { IfErr result (λ e. e.1 ≡ value) }
         ensures succeeds { HasRoom self.old.room 1 → IsOk result }
@@ -203,7 +210,7 @@ impl<T: Component> MaskedStorage<T> {
         id: Index,
     ) -> Result<&mut T, (AllocError, Option<T>)>
         requires { IsSome (map.get self.old.map id) }
-        ensures* writes_back { sem 𝓛 (lends_present T.row T.Storage.row T.Storage.meaning T.Storage.IsDefault T.Storage.TakesNone self.entry id result) }
+        ensures* writes_back { sem 𝓛 (lends_present T.row T.Storage.row T.Storage.meaning self.entry id result) }
         ensures value { IfOk result (λ x. map.get self.old.map id ≡ Some x.now) }
         ensures nothing { IfErr result (λ e. e.1 ≡ None) }
         ensures succeeds { HasRoom self.old.room 1 → IsOk result }
@@ -217,7 +224,7 @@ impl<T: Component> MaskedStorage<T> {
     /// The component of an index, to write to.
     #[inline(always)]
     pub fn get_mut(&mut self, id: Index) -> Result<&mut T, NotLent>
-        ensures* writes_back { sem 𝓛 (lends_present T.row T.Storage.row T.Storage.meaning T.Storage.IsDefault T.Storage.TakesNone self.entry id result) }
+        ensures* writes_back { sem 𝓛 (lends_present T.row T.Storage.row T.Storage.meaning self.entry id result) }
         ensures value { IfOk result (λ x. map.get self.old.map id ≡ Some x.now) }
         ensures absent { (result ≡ Err NotLent.Absent) ↔ (map.get self.old.map id ≡ None) }
         ensures succeeds { IsSome (map.get self.old.map id) → HasRoom self.old.room 1 → IsOk result }
@@ -284,7 +291,7 @@ impl<T: Component> MaskedStorage<T> {
         value: T,
     ) -> Result<Replaced<'_, T>, (AllocError, T)>
         requires { IsIndex id }
-        ensures* rests { sem 𝓛 (rests_if_refused T.row T.Storage.row T.Storage.meaning T.Storage.IsDefault T.Storage.TakesNone self.entry result) }
+        ensures* rests { sem 𝓛 (rests_if_refused T.row T.Storage.row T.Storage.meaning self.entry result) }
         ensures same_reference { IfOk result (λ r. (storage_of r).ghost_name ≡ self.entry.ghost_name) }
         ensures before { IfOk result (λ r. before_of r ≡ map.get self.old.map id) }
         ensures ok { IfOk result (λ r. Puts self.old (storage_of r).now id value (map.contains_key self.old.map id)) }
@@ -306,7 +313,7 @@ impl<T: Component> MaskedStorage<T> {
     pub fn insert_mut(&mut self, id: Index, value: T) -> Result<&mut T, (AllocError, T)>
         requires absent { map.get self.old.map id ≡ None }
         requires limit { IsIndex id }
-        ensures* writes_back { sem 𝓛 (lends_inserted T.row T.Storage.row T.Storage.meaning T.Storage.IsDefault T.Storage.TakesNone self.entry id result) }
+        ensures* writes_back { sem 𝓛 (lends_inserted T.row T.Storage.row T.Storage.meaning self.entry id result) }
         ensures value { IfOk result (λ x. x.now ≡ value) }
         ensures value_returned { IfErr result (λ e. e.1 ≡ value) }
     {
@@ -332,7 +339,7 @@ impl<T: Component> MaskedStorage<T> {
     where
         T: Default + Drop,
         requires { IsIndex id }
-        ensures* writes_back { sem 𝓛 (lends_filled T.row T.Storage.row T.Storage.meaning T.Storage.IsDefault T.Storage.TakesNone self.entry id result) }
+        ensures* writes_back { sem 𝓛 (lends_filled T.row T.Storage.row T.Storage.meaning self.entry id result) }
         ensures old { IfOk result (λ x. (y : T) → map.get self.old.map id ≡ Some y → x.now ≡ y) }
         ensures new { map.get self.old.map id ≡ None → IfOk result (λ x. T.is_default x.now) }
         ensures refused { IfErr result (λ e. e ≡ NotLent.OutOfMemory) }
@@ -351,7 +358,7 @@ impl<T: Component> MaskedStorage<T> {
         T: Default + Drop,
         requires absent { map.get self.old.map id ≡ None }
         requires limit { IsIndex id }
-        ensures* writes_back { sem 𝓛 (lends_inserted T.row T.Storage.row T.Storage.meaning T.Storage.IsDefault T.Storage.TakesNone self.entry id result) }
+        ensures* writes_back { sem 𝓛 (lends_inserted T.row T.Storage.row T.Storage.meaning self.entry id result) }
         ensures value { IfOk result (λ x. T.is_default x.now) }
         ensures refused { IfErr result (λ e. e ≡ NotLent.OutOfMemory) }
     {
@@ -373,7 +380,7 @@ impl<T: Component> MaskedStorage<T> {
     ) -> Result<&mut T, (AllocError, Option<T>)>
         requires absent { map.get self.old.map id ≡ None }
         requires limit { IsIndex id }
-        ensures* writes_back { sem 𝓛 (lends_inserted T.row T.Storage.row T.Storage.meaning T.Storage.IsDefault T.Storage.TakesNone self.entry id result) }
+        ensures* writes_back { sem 𝓛 (lends_inserted T.row T.Storage.row T.Storage.meaning self.entry id result) }
         ensures value { IfOk result (λ x. x.now ≡ value) }
         ensures value_returned { IfErr result (λ e. e.1 ≡ Some value) }
     {

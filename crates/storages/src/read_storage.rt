@@ -55,18 +55,6 @@ impl<'a, T: Component> ReadStorage<'a, T> {
         is_living(self.entities, entity) && self.data.contains(entity.id())
     }
 
-    /// The component of an entity that is alive.
-    #[inline(always)]
-    pub fn get(&self, entity: Entity) -> Option<&T>
-        ensures { option_copied result ≡ found self.now entity }
-    {
-        if is_living(self.entities, entity) {
-            self.data.get(entity.id())
-        } else {
-            None
-        }
-    }
-
     /// The storage without the entities, to read.
     #[inline(always)]
     pub fn storage(&self) -> &MaskedStorage<T>
@@ -117,5 +105,24 @@ impl<'a, T: Component> ReadStorage<'a, T> {
         ensures { result.now ≡ entities_of self.now }
     {
         self.entities
+    }
+}
+
+impl<'a, T: Component> ReadStorage<'a, T>
+where
+    T::Storage: UnprotectedStorage<T>,
+{
+    ghost use Rattle.storages.specs.ReadView.{found};
+
+    /// The component of an entity that is alive.
+    #[inline(always)]
+    pub fn get(&self, entity: Entity) -> Option<&T>
+        ensures { option_copied result ≡ found self.now entity }
+    {
+        if is_living(self.entities, entity) {
+            self.data.get(entity.id())
+        } else {
+            None
+        }
     }
 }

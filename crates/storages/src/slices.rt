@@ -61,7 +61,7 @@ where
     /// The components as a slice, to write to: what is left at an index's place is its component, and no component
     /// comes or goes. It takes no memory and emits no event.
     pub fn as_mut_slice(&mut self) -> &mut [T]
-        ensures* writes_back { sem 𝓛 (lends_slice T.row T.Storage.row T.Storage.meaning T.Storage.IsDefault T.Storage.TakesNone T.Storage.item_at self.entry result) }
+        ensures* writes_back { sem 𝓛 (lends_slice T.row T.Storage.row T.Storage.meaning T.Storage.item_at self.entry result) }
         ensures value { T.Storage.IsSlice (map.get self.old.map) self.old.extent self.old.order result.now }
         ensures places { (q : ℕ) → IsSome (map.get self.old.map q) → T.Storage.item_at self.old.order result.now q ≡ map.get self.old.map q }
         ensures each { (xs : List T) (q : ℕ) → map.get (with_slice T.Storage.item_at self.old xs).map q ≡ cond (map.contains_key self.old.map q) (T.Storage.item_at self.old.order xs q) None }
@@ -107,7 +107,7 @@ where
     /// The components as a slice, to write to: what is left at an index's place is its component, and no component
     /// comes or goes. It takes no memory and emits no event.
     pub fn as_mut_slice(&mut self) -> &mut [T]
-        ensures* writes_back { sem 𝓛 (lends_slice T.row T.Storage.row T.Storage.meaning T.Storage.IsDefault T.Storage.TakesNone T.Storage.item_at self.entry result) }
+        ensures* writes_back { sem 𝓛 (lends_slice T.row T.Storage.row T.Storage.meaning T.Storage.item_at self.entry result) }
         ensures value { T.Storage.IsSlice (map.get (slot self.old).map) (slot self.old).extent (slot self.old).order result.now }
         ensures places { (q : ℕ) → IsSome (map.get (slot self.old).map q) → T.Storage.item_at (slot self.old).order result.now q ≡ map.get (slot self.old).map q }
         ensures each { (xs : List T) (q : ℕ) → map.get (with_slice T.Storage.item_at (slot self.old) xs).map q ≡ cond (map.contains_key (slot self.old).map q) (T.Storage.item_at (slot self.old).order xs q) None }

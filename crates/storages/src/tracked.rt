@@ -118,7 +118,7 @@ where
 
     /// The channel, to write to.
     pub fn channel_mut(&mut self) -> Option<&mut EventChannel<ComponentEvent>>
-        ensures* writes_back { sem 𝓛 (lends_slot_channel T.row T.Storage.row T.Storage.meaning T.Storage.IsDefault T.Storage.TakesNone self.entry result) }
+        ensures* writes_back { sem 𝓛 (lends_slot_channel T.row T.Storage.row T.Storage.meaning self.entry result) }
         ensures value { IfSome result (λ c. emitting self.old.channel.emission c.now ≡ self.old.channel) }
         ensures room { IfSome result (λ c. self.old.room ≡ room_with self.old.channel.emission c.now self.old.inner_room) }
         ensures there { is_some result ≡ true }

@@ -28,81 +28,84 @@ pub trait TryDefault: Sized {
         ensures succeeds { TakesNone → IsOk result };
 }
 
+/// What the states of a storage mean. It has no functions, so that a type which names its storage alone brings none.
+pub trait Kind<T>: Drop {
+    // What a state means.
+    ghost meaning: { Self → Meaning T };
+}
+
 /// A finite map from indices to components, without the set of its indices. Whoever holds one knows which indices have
 /// a component, and calls accordingly: that is asked by condition and not tested.
 ///
 /// Ports `specs::storage::UnprotectedStorage`.
-pub trait UnprotectedStorage<T>: TryDefault + Drop {
-    // What a state means.
-    ghost meaning: { Self → Meaning T };
-
+pub trait UnprotectedStorage<T>: Kind<T> + TryDefault {
     /// Takes every component out, where `has` is the set of the indices that have one. A tracked storage emits one
     /// removal for each, ascending. After an error nothing has changed.
     fn clean(&mut self, has: &BitSet) -> Result<(), AllocError>
-        requires { Masks has.now.members (meaning self.old) }
-        ensures ok { OnOk result (Empties (meaning self.old) (meaning self.new) (left (λ i. set.contains has.now.members i) 0)) }
-        ensures err { OnErr result (Keeps (meaning self.old) (meaning self.new)) }
-        ensures succeeds { HasRoom (meaning self.old).room (length (left (λ i. set.contains has.now.members i) 0)) → IsOk result };
+        requires { Masks has.now.members (Self.meaning self.old) }
+        ensures ok { OnOk result (Empties (Self.meaning self.old) (Self.meaning self.new) (left (λ i. set.contains has.now.members i) 0)) }
+        ensures err { OnErr result (Keeps (Self.meaning self.old) (Self.meaning self.new)) }
+        ensures succeeds { HasRoom (Self.meaning self.old).room (length (left (λ i. set.contains has.now.members i) 0)) → IsOk result };
 
     /// The component of an index that has one.
     fn get(&self, id: Index) -> &T
-        requires { IsTrue (is_some ((meaning self.now).at id)) }
-        ensures { (meaning self.now).at id ≡ Some result.now };
+        requires { IsTrue (is_some ((Self.meaning self.now).at id)) }
+        ensures { (Self.meaning self.now).at id ≡ Some result.now };
 
     /// The component of an index that has one, to write to. A tracked storage emits a modification, for which memory
     /// may be refused; then nothing has changed.
     fn get_mut(&mut self, id: Index) -> Result<&mut T, AllocError>
-        requires { IsTrue (is_some ((meaning self.old).at id)) }
-        ensures* writes_back { sem 𝓛 (lends_at Self.row T.row meaning self.entry id result) }
-        ensures value { IfOk result (λ x. (meaning self.old).at id ≡ Some x.now) }
-        ensures succeeds { IsReady (meaning self.old) → IsOk result };
+        requires { IsTrue (is_some ((Self.meaning self.old).at id)) }
+        ensures* writes_back { sem 𝓛 (lends_at Self.row T.row Self.meaning self.entry id result) }
+        ensures value { IfOk result (λ x. (Self.meaning self.old).at id ≡ Some x.now) }
+        ensures succeeds { IsReady (Self.meaning self.old) → IsOk result };
 
     /// Puts a component at an index that has none. Where memory is refused nothing has changed, and the component is
     /// handed back. Where the place of the index is there already, memory is asked for the event alone.
     fn insert(&mut self, id: Index, value: T) -> Result<(), (AllocError, T)>
-        requires free { (meaning self.old).is_free id ≡ true }
+        requires free { (Self.meaning self.old).is_free id ≡ true }
         requires limit { IsIndex id }
-        ensures ok { OnOk result (Puts (meaning self.old) (meaning self.new) id value (ComponentEvent.Inserted id)) }
-        ensures err { OnErr result (Keeps (meaning self.old) (meaning self.new)) }
+        ensures ok { OnOk result (Puts (Self.meaning self.old) (Self.meaning self.new) id value (ComponentEvent.Inserted id)) }
+        ensures err { OnErr result (Keeps (Self.meaning self.old) (Self.meaning self.new)) }
         ensures value_returned { IfErr result (λ e. e.1 ≡ value) }
-        ensures succeeds { has_place (meaning self.old) id ≡ true → IsReady (meaning self.old) → IsOk result };
+        ensures succeeds { has_place (Self.meaning self.old) id ≡ true → IsReady (Self.meaning self.old) → IsOk result };
 
     /// Takes the component of an index that has one out. Memory may be refused for a tracked storage's event; then
     /// nothing has changed.
     fn remove(&mut self, id: Index) -> Result<T, AllocError>
-        requires { IsTrue (is_some ((meaning self.old).at id)) }
-        ensures value { IfOk result (λ x. (meaning self.old).at id ≡ Some x) }
-        ensures ok { OnOk result (Frees (meaning self.old) (meaning self.new) id) }
-        ensures err { OnErr result (Keeps (meaning self.old) (meaning self.new)) }
-        ensures succeeds { IsReady (meaning self.old) → IsOk result };
+        requires { IsTrue (is_some ((Self.meaning self.old).at id)) }
+        ensures value { IfOk result (λ x. (Self.meaning self.old).at id ≡ Some x) }
+        ensures ok { OnOk result (Frees (Self.meaning self.old) (Self.meaning self.new) id) }
+        ensures err { OnErr result (Keeps (Self.meaning self.old) (Self.meaning self.new)) }
+        ensures succeeds { IsReady (Self.meaning self.old) → IsOk result };
 
     /// Takes the component of an index that has one out and lets it go, in room that is there for the event.
     fn drop(&mut self, id: Index)
-        requires present { IsTrue (is_some ((meaning self.old).at id)) }
-        requires ready { IsReady (meaning self.old) }
-        ensures { Frees (meaning self.old) (meaning self.new) id };
+        requires present { IsTrue (is_some ((Self.meaning self.old).at id)) }
+        requires ready { IsReady (Self.meaning self.old) }
+        ensures { Frees (Self.meaning self.old) (Self.meaning self.new) id };
 
     /// Makes room for the events of the next `n` calls of `insert`, `get_mut`, `remove` and `drop`, of which then only
     /// an `insert` can be refused.
     fn reserve_events(&mut self, n: usize) -> Result<(), AllocError>
-        ensures keeps { Keeps (meaning self.old) (meaning self.new) }
-        ensures ok { OnOk result (HasRoom (meaning self.new).room n) }
-        ensures succeeds { HasRoom (meaning self.old).room n → IsOk result };
+        ensures keeps { Keeps (Self.meaning self.old) (Self.meaning self.new) }
+        ensures ok { OnOk result (HasRoom (Self.meaning self.new).room n) }
+        ensures succeeds { HasRoom (Self.meaning self.old).room n → IsOk result };
 
     /// Whether a call that emits an event can be refused.
     fn needs_room(&self) -> bool
-        ensures { result ≡ is_some (meaning self.now).room };
+        ensures { result ≡ is_some (Self.meaning self.now).room };
 
     // A call that emits an event can be refused exactly while the inner storage's can, or a reader is registered and
     // events are emitted.
-    ghost room_is_wanted: { (s : Self) → IsWanted (meaning s) };
+    ghost room_is_wanted: { (s : Self) → IsWanted (Self.meaning s) };
 
     // A first value is empty and has no reader; one that is tracked emits its events.
-    ghost default_is_new: { (s : Self) → Self.IsDefault s → IsNew (meaning s) };
+    ghost default_is_new: { (s : Self) → Self.IsDefault s → IsNew (Self.meaning s) };
 }
 
 /// A type whose values belong to entities, and the storage that they are kept in. Ports `specs::Component`.
 pub trait Component {
     /// The kind of storage.
-    type Storage: UnprotectedStorage<Self>;
+    type Storage: Kind<Self>;
 }

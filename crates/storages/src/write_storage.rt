@@ -61,7 +61,7 @@ pub struct WriteStorage<'a, T: Component> {
 }
 
 impl<'a, T: Component> WriteStorage<'a, T> {
-    ghost use Rattle.storages.specs.WriteView.{slot, entities_of, storage_name, found, lends_found, lends_filled, lends_masked, lends_live, IsInsertError};
+    ghost use Rattle.storages.specs.WriteView.{slot, entities_of, storage_name, found, lends_masked, lends_live};
 
     /// A view of a storage.
     pub fn new(entities: &'a EntitiesRes, masked: &'a mut MaskedStorage<T>) -> Self
@@ -83,6 +83,95 @@ impl<'a, T: Component> WriteStorage<'a, T> {
         is_living(self.entities, entity) && self.data.contains(entity.id())
     }
 
+    /// The storage without the entities, to read.
+    #[inline(always)]
+    pub fn storage(&self) -> &MaskedStorage<T>
+        ensures { result.now ≡ slot self.now }
+    {
+        self.data
+    }
+
+    /// The indices that have a component.
+    #[inline(always)]
+    pub fn mask(&self) -> &BitSet
+        ensures { (q : ℕ) → set.contains result.now.members q ≡ map.contains_key (slot self.now).map q }
+    {
+        self.data.mask()
+    }
+
+    /// How many indices have a component. It reads the words of the mask.
+    pub fn count(&self) -> usize
+        ensures { result ≡ length (indices_of (slot self.now)) }
+    {
+        self.data.count()
+    }
+
+    /// Whether no index has a component.
+    #[inline(always)]
+    pub fn is_empty(&self) -> bool
+        ensures { IsTrue result ↔ ((slot self.now).map ≡ map.empty) }
+    {
+        self.data.is_empty()
+    }
+
+    /// The storage without its mask.
+    pub fn unprotected_storage(&self) -> &T::Storage
+        ensures present { (q : ℕ) → IsSome (map.get (slot self.now).map q) → (T.Storage.meaning result.now).at q ≡ map.get (slot self.now).map q }
+        ensures absent { (q : ℕ) → map.get (slot self.now).map q ≡ None → (T.Storage.meaning result.now).is_free q ≡ true }
+        ensures extent { (T.Storage.meaning result.now).extent ≡ (slot self.now).extent }
+        ensures order { (T.Storage.meaning result.now).order ≡ (slot self.now).order }
+        ensures channel { (T.Storage.meaning result.now).channel ≡ (slot self.now).channel }
+        ensures room { (T.Storage.meaning result.now).room ≡ (slot self.now).room }
+        ensures inner_room { (T.Storage.meaning result.now).inner_room ≡ (slot self.now).inner_room }
+    {
+        self.data.unprotected_storage()
+    }
+
+    /// The entities.
+    #[inline(always)]
+    pub fn fetched_entities(&self) -> &'a EntitiesRes
+        ensures { result.now ≡ entities_of self.now }
+    {
+        self.entities
+    }
+
+    /// The storage without the entities.
+    #[inline(always)]
+    pub fn masked_mut(&mut self) -> &mut MaskedStorage<T>
+        ensures* lends { sem 𝓛 (lends_masked T.row T.Storage.row T.Storage.meaning self.entry result) }
+        ensures slot { result.now ≡ slot self.old }
+    {
+        &mut *self.data
+    }
+
+    /// The storage without the entities, if the entity is alive: its `entry` then has the component of the entity's
+    /// index. It stands for `specs::Storage::entry`.
+    ///
+    /// Where a place that the storage lent was written to, the view is known to have it once the storage is looked at
+    /// again: a caller writes `let _masked = &*masked;` after the last write.
+    #[inline(always)]
+    pub fn live(&mut self, entity: Entity) -> Result<&mut MaskedStorage<T>, WrongGeneration>
+        ensures* lends { sem 𝓛 (lends_live T.row T.Storage.row T.Storage.meaning self.entry result) }
+        ensures alive { is_ok result ≡ is_alive (population (entities_of self.old)) entity }
+        ensures slot { IfOk result (λ r. r.now ≡ slot self.old) }
+        ensures limit { OnOk result (IsIndex (index_of entity)) }
+        ensures entity { IfErr result (λ w. w.entity ≡ entity) }
+        ensures action { IfErr result (λ w. w.action.now ≡ ENTRY.now) }
+        ensures actual { IfErr result (λ w. number_of w.actual_gen ≡ generation_reported (population (entities_of self.old)) (index_of entity)) }
+    {
+        if !is_living(self.entities, entity) {
+            return Err(self.entities.wrong_generation(ENTRY, entity));
+        }
+        Ok(&mut *self.data)
+    }
+}
+
+impl<'a, T: Component> WriteStorage<'a, T>
+where
+    T::Storage: UnprotectedStorage<T>,
+{
+    ghost use Rattle.storages.specs.WriteView.{slot, entities_of, storage_name, found, lends_found, lends_filled, IsInsertError};
+
     /// The component of an entity that is alive.
     #[inline(always)]
     pub fn get(&self, entity: Entity) -> Option<&T>
@@ -98,7 +187,7 @@ impl<'a, T: Component> WriteStorage<'a, T> {
     /// The component of an entity that is alive, to write to.
     #[inline(always)]
     pub fn get_mut(&mut self, entity: Entity) -> Result<&mut T, NotLent>
-        ensures* writes_back { sem 𝓛 (lends_found T.row T.Storage.row T.Storage.meaning T.Storage.IsDefault T.Storage.TakesNone self.entry entity result) }
+        ensures* writes_back { sem 𝓛 (lends_found T.row T.Storage.row T.Storage.meaning self.entry entity result) }
         ensures value { IfOk result (λ x. found self.old entity ≡ Some x.now) }
         ensures absent { (result ≡ Err NotLent.Absent) ↔ (found self.old entity ≡ None) }
         ensures succeeds { IsSome (found self.old entity) → HasRoom (slot self.old).room 1 → IsOk result }
@@ -115,7 +204,7 @@ impl<'a, T: Component> WriteStorage<'a, T> {
     pub fn get_mut_or_default(&mut self, entity: Entity) -> Result<&mut T, NotLent>
     where
         T: Default + Drop,
-        ensures* writes_back { sem 𝓛 (lends_filled T.row T.Storage.row T.Storage.meaning T.Storage.IsDefault T.Storage.TakesNone self.entry entity result) }
+        ensures* writes_back { sem 𝓛 (lends_filled T.row T.Storage.row T.Storage.meaning self.entry entity result) }
         ensures old { IfOk result (λ x. (y : T) → found self.old entity ≡ Some y → x.now ≡ y) }
         ensures new { found self.old entity ≡ None → IfOk result (λ x. T.is_default x.now) }
         ensures absent { (result ≡ Err NotLent.Absent) ↔ (is_alive (population (entities_of self.old)) entity ≡ false) }
@@ -188,87 +277,5 @@ impl<'a, T: Component> WriteStorage<'a, T> {
         ensures succeeds { HasRoom (slot self.old).room (length (indices_of (slot self.old))) → IsOk result }
     {
         self.data.clear()
-    }
-
-    /// The storage without the entities, to read.
-    #[inline(always)]
-    pub fn storage(&self) -> &MaskedStorage<T>
-        ensures { result.now ≡ slot self.now }
-    {
-        self.data
-    }
-
-    /// The indices that have a component.
-    #[inline(always)]
-    pub fn mask(&self) -> &BitSet
-        ensures { (q : ℕ) → set.contains result.now.members q ≡ map.contains_key (slot self.now).map q }
-    {
-        self.data.mask()
-    }
-
-    /// How many indices have a component. It reads the words of the mask.
-    pub fn count(&self) -> usize
-        ensures { result ≡ length (indices_of (slot self.now)) }
-    {
-        self.data.count()
-    }
-
-    /// Whether no index has a component.
-    #[inline(always)]
-    pub fn is_empty(&self) -> bool
-        ensures { IsTrue result ↔ ((slot self.now).map ≡ map.empty) }
-    {
-        self.data.is_empty()
-    }
-
-    /// The storage without its mask.
-    pub fn unprotected_storage(&self) -> &T::Storage
-        ensures present { (q : ℕ) → IsSome (map.get (slot self.now).map q) → (T.Storage.meaning result.now).at q ≡ map.get (slot self.now).map q }
-        ensures absent { (q : ℕ) → map.get (slot self.now).map q ≡ None → (T.Storage.meaning result.now).is_free q ≡ true }
-        ensures extent { (T.Storage.meaning result.now).extent ≡ (slot self.now).extent }
-        ensures order { (T.Storage.meaning result.now).order ≡ (slot self.now).order }
-        ensures channel { (T.Storage.meaning result.now).channel ≡ (slot self.now).channel }
-        ensures room { (T.Storage.meaning result.now).room ≡ (slot self.now).room }
-        ensures inner_room { (T.Storage.meaning result.now).inner_room ≡ (slot self.now).inner_room }
-    {
-        self.data.unprotected_storage()
-    }
-
-    /// The entities.
-    #[inline(always)]
-    pub fn fetched_entities(&self) -> &'a EntitiesRes
-        ensures { result.now ≡ entities_of self.now }
-    {
-        self.entities
-    }
-
-    /// The storage without the entities.
-    #[inline(always)]
-    pub fn masked_mut(&mut self) -> &mut MaskedStorage<T>
-        ensures* lends { sem 𝓛 (lends_masked T.row T.Storage.row T.Storage.meaning T.Storage.IsDefault T.Storage.TakesNone self.entry result) }
-        ensures slot { result.now ≡ slot self.old }
-    {
-        &mut *self.data
-    }
-
-    /// The storage without the entities, if the entity is alive: its `entry` then has the component of the entity's
-    /// index. It stands for `specs::Storage::entry`.
-    ///
-    /// Where a place that the storage lent was written to, the view is known to have it once the storage is looked at
-    /// again: a caller writes `let _masked = &*masked;` after the last write.
-    #[inline(always)]
-    pub fn live(&mut self, entity: Entity) -> Result<&mut MaskedStorage<T>, WrongGeneration>
-        ensures* lends { sem 𝓛 (lends_live T.row T.Storage.row T.Storage.meaning T.Storage.IsDefault T.Storage.TakesNone self.entry result) }
-        ensures alive { is_ok result ≡ is_alive (population (entities_of self.old)) entity }
-        ensures slot { IfOk result (λ r. r.now ≡ slot self.old) }
-        ensures limit { OnOk result (IsIndex (index_of entity)) }
-        ensures entity { IfErr result (λ w. w.entity ≡ entity) }
-        ensures action { IfErr result (λ w. w.action.now ≡ ENTRY.now) }
-        ensures actual { IfErr result (λ w. number_of w.actual_gen ≡ generation_reported (population (entities_of self.old)) (index_of entity)) }
-    {
-        if !is_living(self.entities, entity) {
-            return Err(self.entities.wrong_generation(ENTRY, entity));
-        }
-        Ok(&mut *self.data)
     }
 }

@@ -10,7 +10,7 @@ use crate::cursors::steps::Steps;
 use crate::join::Join;
 use hibits::{Index, Layers};
 use std::alloc::AllocError;
-use storages::{Component, MaskedStorage};
+use storages::{Component, MaskedStorage, UnprotectedStorage};
 
 /// Walks the indices that a storage and a join share, ascending, and takes the storage's component out where it is asked to. Ports
 /// `specs::storage::Drain`, which takes each out.
@@ -76,6 +76,8 @@ impl<'a, T: Component, J: Join> Drain<'a, T, J> {
     /// Takes the component at the current index out, if it was not taken before. After an error it is there as before.
     #[inline(always)]
     pub fn item(&mut self) -> Result<Option<T>, AllocError>
+    where
+        T::Storage: UnprotectedStorage<T>,
         ensures same_reference { storage_name self.new ≡ storage_name self.old }
         ensures here { here self.new ≡ here self.old }
         ensures rest { rest self.new ≡ rest self.old }

@@ -110,6 +110,8 @@ impl<'a, 'b, T: Component, J: Join> RestrictedStorageMut<'a, 'b, T, J> {
     /// The component at the current index.
     #[inline(always)]
     pub fn get_unchecked(&self) -> Option<&T>
+    where
+        T::Storage: UnprotectedStorage<T>,
         ensures { option_copied result ≡ component self.now }
     {
         let id = self.steps.current?;
@@ -119,6 +121,8 @@ impl<'a, 'b, T: Component, J: Join> RestrictedStorageMut<'a, 'b, T, J> {
     /// The component of any entity that is alive.
     #[inline(always)]
     pub fn get(&self, entity: Entity) -> Option<&T>
+    where
+        T::Storage: UnprotectedStorage<T>,
         ensures { option_copied result ≡ found self.now entity }
     {
         if is_living(self.entities, entity) {
@@ -131,6 +135,8 @@ impl<'a, 'b, T: Component, J: Join> RestrictedStorageMut<'a, 'b, T, J> {
     /// The component at the current index, to write to.
     #[inline(always)]
     pub fn get_mut_unchecked(&mut self) -> Result<&mut T, NotLent>
+    where
+        T::Storage: UnprotectedStorage<T>,
         ensures* writes_back { sem 𝓛 (lends_at T.row J.row T.Storage.row J.Type.row J.Value.row J.Mask.row self.entry (here self.old) result) }
         ensures absent { (result ≡ Err NotLent.Absent) ↔ (here self.old ≡ None) }
         ensures value { IfOk result (λ x. component self.old ≡ Some x.now) }
@@ -145,6 +151,8 @@ impl<'a, 'b, T: Component, J: Join> RestrictedStorageMut<'a, 'b, T, J> {
     /// The component of any entity that is alive, to write to.
     #[inline(always)]
     pub fn get_mut(&mut self, entity: Entity) -> Result<&mut T, NotLent>
+    where
+        T::Storage: UnprotectedStorage<T>,
         ensures* writes_back { sem 𝓛 (lends_at T.row J.row T.Storage.row J.Type.row J.Value.row J.Mask.row self.entry (Some (index_of entity)) result) }
         ensures absent { (result ≡ Err NotLent.Absent) ↔ (found self.old entity ≡ None) }
         ensures value { IfOk result (λ x. found self.old entity ≡ Some x.now) }

@@ -11,7 +11,7 @@ ghost use Rattle.storages.specs.Limit.{IsIndex};
 use crate::cursors::steps::Steps;
 use crate::join::Join;
 use hibits::{Index, Layers};
-use storages::{Component, MaskedStorage, NotLent};
+use storages::{Component, MaskedStorage, NotLent, UnprotectedStorage};
 
 /// Walks the indices that a storage and a join share, ascending, and lends the storage's component for writing.
 ///
@@ -63,6 +63,8 @@ impl<'a, T: Component, J: Join> WriteJoin<'a, T, J> {
     /// The component at the current index, to write to.
     #[inline(always)]
     pub fn item(&mut self) -> Result<&mut T, NotLent>
+    where
+        T::Storage: UnprotectedStorage<T>,
         ensures* writes_back { sem 𝓛 (lends_item T.row J.row T.Storage.row J.Type.row J.Value.row J.Mask.row self.entry result) }
         ensures absent { (result ≡ Err NotLent.Absent) ↔ (here self.old ≡ None) }
         ensures value { IfOk result (λ x. IfSome (here self.old) (λ i. map.get (slot self.old).map i ≡ Some x.now)) }

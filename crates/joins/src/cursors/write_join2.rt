@@ -11,7 +11,7 @@ ghost use Rattle.storages.specs.Limit.{IsIndex};
 use crate::cursors::steps::Steps;
 use crate::join::Join;
 use hibits::{BitSetAnd, Index, Layers};
-use storages::{Component, MaskedStorage, NotLent};
+use storages::{Component, MaskedStorage, NotLent, UnprotectedStorage};
 
 /// Walks the indices that two storages and a join share, ascending, and lends the components of both storages for writing. It stands for
 /// `(&mut a, &mut b, join).join()` of specs.
@@ -76,6 +76,8 @@ impl<'a, 'b, A: Component, B: Component, J: Join> WriteJoin2<'a, 'b, A, B, J> {
     /// The component of the first storage at the current index, to write to.
     #[inline(always)]
     pub fn first(&mut self) -> Result<&mut A, NotLent>
+    where
+        A::Storage: UnprotectedStorage<A>,
         ensures* writes_back { sem 𝓛 (lends_first A.row B.row J.row A.Storage.row B.Storage.row J.Type.row J.Value.row J.Mask.row self.entry result) }
         ensures absent { (result ≡ Err NotLent.Absent) ↔ (here self.old ≡ None) }
         ensures value { IfOk result (λ x. IfSome (here self.old) (λ i. map.get (first_slot self.old).map i ≡ Some x.now)) }
@@ -90,6 +92,8 @@ impl<'a, 'b, A: Component, B: Component, J: Join> WriteJoin2<'a, 'b, A, B, J> {
     /// The component of the second storage at the current index, to write to.
     #[inline(always)]
     pub fn second(&mut self) -> Result<&mut B, NotLent>
+    where
+        B::Storage: UnprotectedStorage<B>,
         ensures* writes_back { sem 𝓛 (lends_second A.row B.row J.row A.Storage.row B.Storage.row J.Type.row J.Value.row J.Mask.row self.entry result) }
         ensures absent { (result ≡ Err NotLent.Absent) ↔ (here self.old ≡ None) }
         ensures value { IfOk result (λ x. IfSome (here self.old) (λ i. map.get (second_slot self.old).map i ≡ Some x.now)) }

@@ -3,7 +3,7 @@ ghost use Rattle.std.specs.Prelude.{refl, ◌≡◌, ℕ, [], Some, IsOk, ⊤};
 ghost use Rattle.std.specs.BTreeMap.{IsEmpty};
 ghost use Rattle.storages.specs.Maps.{meaning_of_tree};
 
-use crate::unprotected::{TryDefault, UnprotectedStorage};
+use crate::unprotected::{Kind, TryDefault, UnprotectedStorage};
 use hibits::{BitSet, Index};
 use std::alloc::{AllocError, Global};
 use std::collections::BTreeMap;
@@ -33,10 +33,12 @@ impl<T> TryDefault for BTreeStorage<T> {
     }
 }
 
+impl<T: Drop> Kind<T> for BTreeStorage<T> {
+    ghost meaning = { λ s. meaning_of_tree s.map };
+}
+
 impl<T: Drop> UnprotectedStorage<T> for BTreeStorage<T> {
     ghost use Rattle.storages.specs.Maps.{new_of_no_tree};
-
-    ghost meaning = { λ s. meaning_of_tree s.map };
 
     fn clean(&mut self, _has: &BitSet) -> Result<(), AllocError> {
         self.map.clear();

@@ -4,7 +4,7 @@ ghost use Rattle.storages.specs.DefaultVec.{meaning_of};
 
 use crate::kinds::room::make_room;
 use crate::slices::{SliceAccess, SliceAccessMut};
-use crate::unprotected::{TryDefault, UnprotectedStorage};
+use crate::unprotected::{Kind, TryDefault, UnprotectedStorage};
 use hibits::{BitSet, Index};
 use std::alloc::{AllocError, Global};
 use std::mem;
@@ -36,11 +36,13 @@ impl<T> TryDefault for DefaultVecStorage<T> {
     }
 }
 
+impl<T: Drop> Kind<T> for DefaultVecStorage<T> {
+    ghost meaning = { λ s. meaning_of s.items.items };
+}
+
 impl<T: Default + Drop> UnprotectedStorage<T> for DefaultVecStorage<T> {
     ghost use Rattle.storages.specs.DefaultVec.{new_of_empty};
     ghost use Rattle.storages.specs.Meaning.{Frees, Keeps, IsReady};
-
-    ghost meaning = { λ s. meaning_of s.items.items };
 
     fn clean(&mut self, _has: &BitSet) -> Result<(), AllocError> {
         self.items.clear();

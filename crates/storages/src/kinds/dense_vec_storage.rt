@@ -4,7 +4,7 @@ ghost use Rattle.storages.specs.Dense.{IsConsistent, value_of};
 
 use crate::kinds::room::make_room;
 use crate::slices::{SliceAccess, SliceAccessMut};
-use crate::unprotected::{TryDefault, UnprotectedStorage};
+use crate::unprotected::{Kind, TryDefault, UnprotectedStorage};
 use hibits::{BitSet, Index};
 use std::alloc::{AllocError, Global};
 
@@ -58,10 +58,14 @@ impl<T> DenseVecStorage<T> {
     }
 }
 
-impl<T: Drop> UnprotectedStorage<T> for DenseVecStorage<T> {
-    ghost use Rattle.storages.specs.Dense.{meaning_of, new_of_empty};
+impl<T: Drop> Kind<T> for DenseVecStorage<T> {
+    ghost use Rattle.storages.specs.Dense.{meaning_of};
 
     ghost meaning = { λ s. meaning_of s.values.items s.ids.items s.places.items };
+}
+
+impl<T: Drop> UnprotectedStorage<T> for DenseVecStorage<T> {
+    ghost use Rattle.storages.specs.Dense.{new_of_empty};
 
     fn clean(&mut self, _has: &BitSet) -> Result<(), AllocError> {
         self.values.clear();

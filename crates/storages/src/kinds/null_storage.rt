@@ -2,7 +2,7 @@
 ghost use Rattle.std.specs.Prelude.{refl, ◌≡◌, ℕ, Some, IsOk, ⊤};
 ghost use Rattle.storages.specs.Null.{meaning_of};
 
-use crate::unprotected::{TryDefault, UnprotectedStorage};
+use crate::unprotected::{Kind, TryDefault, UnprotectedStorage};
 use hibits::{BitSet, Index};
 use std::alloc::{AllocError, Global};
 
@@ -38,10 +38,12 @@ impl<T: NullComponent> TryDefault for NullStorage<T> {
     }
 }
 
+impl<T: Drop> Kind<T> for NullStorage<T> {
+    ghost meaning = { λ s. meaning_of s.value };
+}
+
 impl<T: NullComponent> UnprotectedStorage<T> for NullStorage<T> {
     ghost use Rattle.storages.specs.Null.{new_of_value};
-
-    ghost meaning = { λ s. meaning_of s.value };
 
     fn clean(&mut self, _has: &BitSet) -> Result<(), AllocError> {
         Ok(())

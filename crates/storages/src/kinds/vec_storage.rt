@@ -4,7 +4,7 @@ ghost use Rattle.storages.specs.Vec.{value_at, meaning_of};
 
 use crate::kinds::room::make_room;
 use crate::slices::SliceAccess;
-use crate::unprotected::{TryDefault, UnprotectedStorage};
+use crate::unprotected::{Kind, TryDefault, UnprotectedStorage};
 use hibits::{BitSet, Index};
 use std::alloc::{AllocError, Global};
 
@@ -34,10 +34,12 @@ impl<T> TryDefault for VecStorage<T> {
     }
 }
 
+impl<T: Drop> Kind<T> for VecStorage<T> {
+    ghost meaning = { λ s. meaning_of s.items.items };
+}
+
 impl<T: Drop> UnprotectedStorage<T> for VecStorage<T> {
     ghost use Rattle.storages.specs.Vec.{new_of_empty};
-
-    ghost meaning = { λ s. meaning_of s.items.items };
 
     fn clean(&mut self, _has: &BitSet) -> Result<(), AllocError> {
         self.items.clear();

@@ -4,7 +4,7 @@ use Rattle.storages.proofs.masked.MaskedStorage.as_mut_slice.Goals as goal
 
 pub returns : goal.returns
 returns g c =
-    let m = g.T.Storage.UnprotectedStorage.meaning c.self.inside.inner in
+    let m = g.T.Storage.Kind.meaning c.self.inside.inner in
     let s = c.self.inside.mask.members in (
       (refl, (λ w. rw (← c.self.view_is) (rewrites-slot g.T.Storage.SliceAccessMut.item_at s m _ c.self.invariant _ (c.as_mut_slice.ensures.rewrites w)))),
       record {

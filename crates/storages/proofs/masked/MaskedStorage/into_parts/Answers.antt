@@ -2,10 +2,10 @@ use Rattle.storages.proofs.Slot.{at-of-some, free-of-none, key-of-mask}
 use Rattle.storages.proofs.masked.MaskedStorage.into_parts.Goals as goal
 
 pub returns-clause-mask : goal.returns-clause-mask
-returns-clause-mask g c q = key-of-mask c.self.inside.mask.members (g.T.Storage.UnprotectedStorage.meaning c.self.inside.inner) c.self.invariant c.args.self c.self.view_is q
+returns-clause-mask g c q = key-of-mask c.self.inside.mask.members (g.T.Storage.Kind.meaning c.self.inside.inner) c.self.invariant c.args.self c.self.view_is q
 
 pub returns-clause-present : goal.returns-clause-present
-returns-clause-present g c q h = at-of-some c.self.inside.mask.members (g.T.Storage.UnprotectedStorage.meaning c.self.inside.inner) c.self.invariant c.args.self c.self.view_is q h
+returns-clause-present g c q h = at-of-some c.self.inside.mask.members (g.T.Storage.Kind.meaning c.self.inside.inner) c.self.invariant c.args.self c.self.view_is q h
 
 pub returns-clause-absent : goal.returns-clause-absent
-returns-clause-absent g c q h = free-of-none c.self.inside.mask.members (g.T.Storage.UnprotectedStorage.meaning c.self.inside.inner) c.self.invariant c.args.self c.self.view_is q h
+returns-clause-absent g c q h = free-of-none c.self.inside.mask.members (g.T.Storage.Kind.meaning c.self.inside.inner) c.self.invariant c.args.self c.self.view_is q h

@@ -7,12 +7,12 @@ use Rattle.storages.proofs.masked.MaskedStorage.present_mut.Goals as goal
 
 pub get_mut-requires : goal.get_mut-requires
 get_mut-requires g c =
-    c.self.invariant.present c.args.id (there_of_some c.self.inside.mask.members (g.T.Storage.UnprotectedStorage.meaning c.self.inside.inner) c.self.invariant c.args.id
+    c.self.invariant.present c.args.id (there_of_some c.self.inside.mask.members (g.T.Storage.Kind.meaning c.self.inside.inner) c.self.invariant c.args.id
     (ap (λ (s : Slot _). is_some (map.get s.map c.args.id)) c.self.view_is ∙ c.requires))
 
 pub returns : goal.returns
 returns g c =
-    let m = g.T.Storage.UnprotectedStorage.meaning c.self.inside.inner in
+    let m = g.T.Storage.Kind.meaning c.self.inside.inner in
     let there : set.contains c.self.inside.mask.members c.args.id ≡ true = there_of_some c.self.inside.mask.members m c.self.invariant c.args.id
     (ap (λ (s : Slot _). is_some (map.get s.map c.args.id)) c.self.view_is ∙ c.requires) in (
       (
