@@ -25,23 +25,9 @@ pub fn given<T: Number>(found: Option<T>) -> Option<u32> {
     }
 }
 
-/// Adds to what was lent, if it was, past the greatest number from 0 on.
-pub fn added<T: Number, E: Drop>(lent: Result<&mut T, E>, number: u32) -> bool {
-    match lent {
-        Ok(value) => {
-            *value = T::of(value.number().wrapping_add(number));
-            true
-        }
-        Err(_) => false,
-    }
-}
-
-/// The number of what was lent, if it was.
-pub fn lent<T: Number, E: Drop>(lent: Result<&mut T, E>) -> Option<u32> {
-    match lent {
-        Ok(value) => Some(value.number()),
-        Err(_) => None,
-    }
+/// Adds to a number, past the greatest from 0 on.
+pub fn increase<T: Number>(value: &mut T, number: u32) {
+    *value = T::of(value.number().wrapping_add(number));
 }
 
 /// A text of what was refused.
@@ -126,11 +112,23 @@ where
     }
 
     fn add(&mut self, e: Entity, number: u32) -> bool {
-        added(self.view().get_mut(e), number)
+        match self.view().get_mut(e) {
+            Ok(value) => {
+                increase(value, number);
+                true
+            }
+            Err(_) => false,
+        }
     }
 
     fn add_or_default(&mut self, e: Entity, number: u32) -> bool {
-        added(self.view().get_mut_or_default(e), number)
+        match self.view().get_mut_or_default(e) {
+            Ok(value) => {
+                increase(value, number);
+                true
+            }
+            Err(_) => false,
+        }
     }
 
     fn count(&mut self) -> usize {
@@ -188,11 +186,26 @@ where
         if id >= INDEX_LIMIT || self.masked.contains(id) {
             return false;
         }
-        added(self.masked.insert_mut(id, T::of(number)), more)
+        match self.masked.insert_mut(id, T::of(number)) {
+            Ok(value) => {
+                increase(value, more);
+                true
+            }
+            Err(_) => false,
+        }
     }
 
     fn add_present(&mut self, id: u32, number: u32) -> bool {
-        self.masked.contains(id) && added(self.masked.present_mut(id), number)
+        if !self.masked.contains(id) {
+            return false;
+        }
+        match self.masked.present_mut(id) {
+            Ok(value) => {
+                increase(value, number);
+                true
+            }
+            Err(_) => false,
+        }
     }
 
     fn take_present(&mut self, id: u32) -> Option<u32> {
