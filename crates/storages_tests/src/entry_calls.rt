@@ -4,6 +4,7 @@ use crate::shelf::Entries;
 use crate::shelf_calls::{given, increase, shown};
 use crate::world::World;
 use entities::Entity;
+use hibits::INDEX_LIMIT;
 use std::cell::Cell;
 use storages::{
     GenericReadStorage, GenericWriteStorage, MaskedStorage, StorageEntry, UnprotectedStorage,
@@ -14,6 +15,9 @@ fn occupied<T: Number>(masked: &mut MaskedStorage<T>, id: u32) -> Option<u32>
 where
     T::Storage: UnprotectedStorage<T>,
 {
+    if id >= INDEX_LIMIT {
+        return None;
+    }
     match masked.entry(id) {
         StorageEntry::Occupied(mut entry) => match entry.get_mut() {
             Ok(value) => Some(value.number()),
@@ -28,6 +32,9 @@ fn toggle<T: Number>(masked: &mut MaskedStorage<T>, id: u32) -> bool
 where
     T::Storage: UnprotectedStorage<T>,
 {
+    if id >= INDEX_LIMIT {
+        return false;
+    }
     match masked.entry(id) {
         StorageEntry::Occupied(entry) => entry.remove().is_ok(),
         StorageEntry::Vacant(entry) => entry.insert(T::of(15)).is_ok(),
@@ -39,6 +46,9 @@ fn replace<T: Number>(masked: &mut MaskedStorage<T>, id: u32, number: u32) -> Op
 where
     T::Storage: UnprotectedStorage<T>,
 {
+    if id >= INDEX_LIMIT {
+        return None;
+    }
     match masked.entry(id).replace(T::of(number)) {
         Ok(replaced) => Some(given(replaced.before)),
         Err(_) => None,
@@ -50,6 +60,9 @@ fn or_insert<T: Number>(masked: &mut MaskedStorage<T>, id: u32, number: u32) -> 
 where
     T::Storage: UnprotectedStorage<T>,
 {
+    if id >= INDEX_LIMIT {
+        return None;
+    }
     match masked.entry(id).or_insert(T::of(number)) {
         Ok(value) => Some(value.number()),
         Err(_) => None,
@@ -66,6 +79,9 @@ fn or_insert_with<T: Number>(
 where
     T::Storage: UnprotectedStorage<T>,
 {
+    if id >= INDEX_LIMIT {
+        return None;
+    }
     match masked.entry(id).or_insert_with(|| {
         calls.set(calls.get().wrapping_add(1));
         T::of(number)
@@ -178,6 +194,9 @@ where
     }
 
     fn write_entry(&mut self, id: u32, number: u32) -> Option<(u32, u32)> {
+        if id >= INDEX_LIMIT {
+            return None;
+        }
         match self.masked.entry(id) {
             StorageEntry::Occupied(mut entry) => {
                 let before = entry.get().number();
@@ -190,6 +209,9 @@ where
     }
 
     fn lend_entry(&mut self, id: u32) -> bool {
+        if id >= INDEX_LIMIT {
+            return false;
+        }
         match self.masked.entry(id) {
             StorageEntry::Occupied(entry) => match entry.into_mut() {
                 Ok(value) => {
@@ -203,6 +225,9 @@ where
     }
 
     fn take_entry(&mut self, id: u32) -> Option<u32> {
+        if id >= INDEX_LIMIT {
+            return None;
+        }
         match self.masked.entry(id) {
             StorageEntry::Occupied(entry) => given(entry.remove().ok()),
             StorageEntry::Vacant(_entry) => None,
