@@ -17,13 +17,16 @@ use crate::command::Refusal;
 use crate::slots::{Held, Storages};
 use entities::{EntitiesRes, Entity, WrongGeneration};
 use std::alloc::{AllocError, Global};
+use thiserror::Error;
 
 /// Why a list of entities was not deleted. Nothing changed.
-#[derive(Clone, Copy, Debug, PartialEq, Eq)]
+#[derive(Clone, Copy, Debug, PartialEq, Eq, Error)]
 pub enum DeleteError {
     /// The first entity of the list that is not alive, or that equals an earlier one.
+    #[error("{0}")]
     WrongGeneration(WrongGeneration),
     /// Memory was refused.
+    #[error("out of memory")]
     OutOfMemory,
 }
 

@@ -1,6 +1,7 @@
 //! The jobs of a script's own.
 ghost use Rattle.std.specs.Prelude.{◌≡◌, OnOk, OnErr};
 ghost use Rattle.specs.specs.State.{core_state};
+ghost use Rattle.specs.specs.People.{BirthWantsMemory};
 ghost use Rattle.specs_run.specs.Jobs.{MayRaise};
 
 use specs::{Core, CreateError, Held, LazyUpdate, WorldJob};
@@ -16,11 +17,11 @@ pub enum ScriptJob {
 }
 
 impl<S: Held> WorldJob<S> for ScriptJob {
-    ghost use Rattle.specs_run.specs.Jobs.{Does, Spares, grows, lives_on, tells};
+    ghost use Rattle.specs_run.specs.Jobs.{Does, Wants, Spares, grows, lives_on, tells};
 
     ghost does = { Does };
 
-    ghost wants = { λ j s. Unit {0} };
+    ghost wants = { Wants };
 
     ghost spares = { Spares };
 
@@ -48,6 +49,7 @@ impl<S: Held> WorldJob<S> for ScriptJob {
 /// A pending birth, or nothing where no index is left.
 fn raise<S: Held>(core: &mut Core<S>) -> Result<(), AllocError>
     ensures ok { OnOk result (MayRaise (core_state S.table S.ids core.old) (core_state S.table S.ids core.new)) }
+    ensures wanted { OnErr result (BirthWantsMemory (core_state S.table S.ids core.old).people) }
     ensures err { OnErr result (core_state S.table S.ids core.new ≡ core_state S.table S.ids core.old) }
 {
     match core.parts().entities.create() {
