@@ -3,13 +3,12 @@ ghost use Rattle.std.specs.Prelude.{◌≡◌, true};
 ghost use Rattle.entities.specs.Population.{IsMerged};
 ghost use Rattle.specs.specs.State.{state_of};
 
-use crate::small::Small;
 use specs::{Entity, Storages, World};
 use std::alloc::Global;
 
 /// Whether an entity is gone, or not yet merged.
-pub fn is_gone(world: &World<Small>, e: Entity) -> bool
-    ensures { result ≡ true → IsMerged (state_of ⟦<Small as Storages>⟧.table ⟦<Small as Storages>⟧.ids world.now).people e → ⊥ }
+pub fn is_gone<S: Storages>(world: &World<S>, e: Entity) -> bool
+    ensures { result ≡ true → IsMerged (state_of S.table S.ids world.now).people e → ⊥ }
 {
     !world.is_alive(e)
 }

@@ -1,5 +1,7 @@
 //! Slots that compose: what is told of each change, and calls by type.
-use composed::{Either, Empty, Of2, Sole};
+use crate::calls::{health, healths, positions};
+use crate::stories::{Story, told};
+use composed::Empty;
 use entities::EntitiesRes;
 use slots::{Health, Position};
 use specs::{Entity, Has, Storages, by_type};
@@ -9,138 +11,133 @@ use std::test::Fail;
 use storages::ComponentEvent::{Inserted, Modified, Removed};
 use storages::{ComponentEvent, MaskedStorage, ReaderId};
 
-/// Storages of positions and healths. What is told of them does not know their type: calls at a known one are slow to prove.
-trait Wards: Empty {
-    /// The slot of positions.
-    fn positions() -> Self::Slot;
-
-    /// The slot of healths.
-    fn healths() -> Self::Slot;
-
-    /// A health, as a value.
-    fn health(points: i64) -> Self::Value;
-
-    /// The storage of healths, if it is there.
-    fn ward(&mut self) -> Option<&mut MaskedStorage<Health>>;
-}
-
-impl Wards for Of2<Position, Health> {
-    fn positions() -> <Self as Storages>::Slot {
-        Either::First(Sole::Sole)
-    }
-
-    fn healths() -> <Self as Storages>::Slot {
-        Either::Rest(Sole::Sole)
-    }
-
-    fn health(points: i64) -> <Self as Storages>::Value {
-        Either::Rest(Health(points))
-    }
-
-    fn ward(&mut self) -> Option<&mut MaskedStorage<Health>> {
-        match &mut self.rest.field {
-            Some(healths) => Some(healths),
-            None => None,
-        }
-    }
-}
-
 /// Entities, with a slot that nobody reads and one whose changes are told.
-#[derive(Drop)]
 struct Clinic<S> {
     entities: EntitiesRes,
     slots: S,
 }
 
-impl<S: Wards> Clinic<S> {
-    fn new(alloc: Global) -> Self {
-        Clinic {
-            entities: EntitiesRes::new(alloc),
-            slots: S::empty(alloc),
-        }
+impl<S: Drop> Drop for Clinic<S> {
+    fn drop(self) {
+        let Clinic {
+            entities: _entities,
+            slots: _slots,
+        } = self;
     }
+}
 
-    /// Registers both slots, and a reader of the healths.
-    fn open(&mut self, alloc: Global) -> bool {
-        self.slots.register(alloc, S::positions()).is_ok()
-            && self.slots.register(alloc, S::healths()).is_ok()
-            && match self.slots.ward() {
-                Some(healths) => healths.register_reader().is_ok(),
-                None => false,
-            }
+/// A clinic in which nobody was born.
+fn fresh<S: Empty>(alloc: Global) -> Clinic<S> {
+    Clinic {
+        entities: EntitiesRes::new(alloc),
+        slots: S::empty(alloc),
+    }
+}
+
+impl<S: Storages> Clinic<S> {
+    fn register(&mut self, alloc: Global, slot: S::Slot) -> bool {
+        self.slots.register(alloc, slot).is_ok()
     }
 
     fn bear(&mut self) -> Option<Entity> {
         self.entities.create().ok()
     }
 
-    /// Puts a health at an entity, by its slot.
-    fn heal(&mut self, e: Entity, points: i64) -> bool {
-        self.slots
-            .insert(&self.entities, e, S::health(points))
-            .is_ok()
+    fn insert(&mut self, e: Entity, value: S::Value) -> bool {
+        self.slots.insert(&self.entities, e, value).is_ok()
     }
 
-    fn take(&mut self, e: Entity) -> bool {
-        self.slots.remove(&self.entities, S::healths(), e).is_ok()
+    fn remove(&mut self, slot: S::Slot, e: Entity) -> bool {
+        self.slots.remove(&self.entities, slot, e).is_ok()
     }
 
-    fn clear(&mut self) -> bool {
-        self.slots.clear(S::healths()).is_ok()
-    }
-
-    /// Whether the reader of the healths reads just these events.
-    fn reads(&mut self, wanted: &[ComponentEvent]) -> bool {
-        match self.slots.ward() {
-            Some(healths) => match healths.read(&ReaderId::of(0)) {
-                Ok(events) => events.as_slice() == wanted,
-                Err(_) => false,
-            },
-            None => false,
-        }
-    }
-
-    /// A position, put and looked up by its type.
-    fn moves<P>(&mut self, e: Entity, x: i64) -> Option<Position>
-    where
-        S: Has<Position, P>,
-    {
-        match by_type::insert(&mut self.slots, &self.entities, e, Position(x)) {
-            Ok(_before) => match by_type::get(&self.slots, &self.entities, e) {
-                Ok(found) => found,
-                Err(_) => None,
-            },
-            Err(_) => None,
-        }
+    fn clear(&mut self, slot: S::Slot) -> bool {
+        self.slots.clear(slot).is_ok()
     }
 }
 
-fn tells_each_change<R: Abort, P, S: Wards + Has<Position, P>>(
+/// The storage of healths, if it is there.
+fn ward<H, S: Has<Health, H>>(slots: &mut S) -> Option<&mut MaskedStorage<Health>> {
+    slots.field_mut()
+}
+
+/// Registers a reader of the healths.
+fn listen<H, S: Has<Health, H>>(clinic: &mut Clinic<S>) -> bool {
+    match ward(&mut clinic.slots) {
+        Some(healths) => healths.register_reader().is_ok(),
+        None => false,
+    }
+}
+
+/// Whether the reader of the healths reads just these events.
+fn reads<H, S: Has<Health, H>>(clinic: &mut Clinic<S>, wanted: &[ComponentEvent]) -> bool {
+    match ward(&mut clinic.slots) {
+        Some(healths) => match healths.read(&ReaderId::of(0)) {
+            Ok(events) => events.as_slice() == wanted,
+            Err(_) => false,
+        },
+        None => false,
+    }
+}
+
+/// Puts a position at an entity, by its type.
+fn move_to<P, S: Has<Position, P>>(clinic: &mut Clinic<S>, e: Entity, x: i64) -> bool {
+    by_type::insert(&mut clinic.slots, &clinic.entities, e, Position(x)).is_ok()
+}
+
+/// The position of an entity, by its type.
+fn place<P, S: Has<Position, P>>(clinic: &Clinic<S>, e: Entity) -> Option<Position> {
+    match by_type::get(&clinic.slots, &clinic.entities, e) {
+        Ok(found) => found,
+        Err(_) => None,
+    }
+}
+
+/// Registers both slots, and a reader of the healths, for two entities.
+fn open<R: Abort, P, H, S: Has<Position, P> + Has<Health, H>>(
+    rt: &R,
+    alloc: Global,
+    clinic: &mut Clinic<S>,
+) -> Result<(Entity, Entity), Fail> {
+    assert!(rt; clinic.register(alloc, positions::<P, S>()));
+    assert!(rt; clinic.register(alloc, healths::<H, S>()));
+    assert!(rt; listen(clinic));
+    let e = clinic.bear().ok_or("a birth")?;
+    let f = clinic.bear().ok_or("a birth")?;
+    Ok((e, f))
+}
+
+fn tells_each_change<R: Abort, P, H, S: Has<Position, P> + Has<Health, H>>(
     rt: &R,
     alloc: Global,
     clinic: &mut Clinic<S>,
 ) -> Result<(), Fail> {
-    assert!(rt; clinic.open(alloc));
-    let e = clinic.bear().ok_or("a birth")?;
-    let f = clinic.bear().ok_or("a birth")?;
-    assert!(rt; clinic.heal(e, 7) && clinic.heal(e, 8) && clinic.take(e) && clinic.take(e));
-    assert!(rt; clinic.reads(&[Inserted(0), Modified(0), Removed(0)]));
-    assert!(rt; clinic.heal(e, 1) && clinic.heal(f, 2) && clinic.clear());
-    assert!(rt; clinic.reads(&[Inserted(0), Inserted(1), Removed(0), Removed(1)]));
-    assert!(rt; clinic.moves(e, 3) == Some(Position(3)));
-    assert!(rt; clinic.reads(&[]));
+    let (e, f) = open(rt, alloc, clinic)?;
+    assert!(rt; clinic.insert(e, health::<H, S>(7)));
+    assert!(rt; clinic.insert(e, health::<H, S>(8)));
+    assert!(rt; clinic.remove(healths::<H, S>(), e));
+    assert!(rt; clinic.remove(healths::<H, S>(), e));
+    assert!(rt; reads(clinic, &[Inserted(0), Modified(0), Removed(0)]));
+    assert!(rt; clinic.insert(e, health::<H, S>(1)));
+    assert!(rt; clinic.insert(f, health::<H, S>(2)));
+    assert!(rt; clinic.clear(healths::<H, S>()));
+    assert!(rt; reads(clinic, &[Inserted(0), Inserted(1), Removed(0), Removed(1)]));
+    assert!(rt; move_to(clinic, e, 3));
+    assert_eq!(rt; place(clinic, e), Some(Position(3)));
+    assert!(rt; reads(clinic, &[]));
     Ok(())
 }
 
-fn tell_of_new<R: Abort, P, S: Wards + Has<Position, P> + Drop>(
+/// Tells of each change of new storages.
+pub fn tell_of_new<R: Abort, P, H, S: Empty + Has<Position, P> + Has<Health, H> + Drop>(
     rt: &R,
     alloc: Global,
 ) -> Result<(), Fail> {
-    let mut clinic = Clinic::<S>::new(alloc);
+    let mut clinic = fresh::<S>(alloc);
     tells_each_change(rt, alloc, &mut clinic)
 }
 
 #[test]
 fn each_change_is_told(rt: HostRuntime) -> Result<(), Fail> {
-    tell_of_new::<_, _, Of2<Position, Health>>(&rt, rt.alloc())
+    told(&rt, rt.alloc(), Story::Changes)
 }

@@ -1,9 +1,14 @@
 //! Worked examples of the whole: scripts with their status and both outputs, and worlds by their calls.
 #![tactic(auto)]
 
+#[cfg(test)]
 mod callers;
 #[cfg(test)]
+mod calls;
+#[cfg(test)]
 mod composed_slots;
+#[cfg(test)]
+mod doc_jobs;
 #[cfg(test)]
 mod hostile_scripts;
 #[cfg(test)]
@@ -22,7 +27,6 @@ mod saving_scripts;
 mod scripts;
 #[cfg(test)]
 mod selections;
-mod small;
 #[cfg(test)]
 mod stories;
 #[cfg(test)]
@@ -39,6 +43,3 @@ mod upstream_markers;
 mod upstream_storages;
 #[cfg(test)]
 mod worlds;
-
-pub use callers::{born_in_a_phase, is_gone};
-pub use small::{POS, Slot, Small, TAG, Value};

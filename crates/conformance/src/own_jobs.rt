@@ -1,5 +1,5 @@
 //! The order of a user's own jobs, as a list shows it that stands beside the components.
-use crate::jobs::done;
+use crate::calls::{done, execute};
 use crate::listed::Listed;
 use crate::stories::{self, told};
 use composed::Empty;
@@ -43,25 +43,40 @@ impl<S: Storages> WorldJob<Listed<S>> for Push {
 
 type Listing<S> = World<Listed<S>, Push>;
 
+/// A new world, with an empty list beside its storages.
+pub fn listing<S: Empty, J: WorldJob<Listed<S>>>(alloc: Global) -> World<Listed<S>, J> {
+    World::new(
+        alloc,
+        Listed {
+            storages: S::empty(alloc),
+            numbers: Vec::new(alloc),
+        },
+    )
+}
+
 /// Queues a job that pushes 1, and then one that pushes 2.
-fn queue_both<S: Storages>(world: &mut Listing<S>) -> bool {
-    world.parts().lazy.exec(Push { number: 1 }).is_ok()
-        && world.parts().lazy.exec(Push { number: 2 }).is_ok()
+fn queue_both<R: Abort, S: Storages>(rt: &R, world: &mut Listing<S>) {
+    assert!(rt; execute(world, Push { number: 1 }));
+    assert!(rt; execute(world, Push { number: 2 }));
 }
 
 /// Whether the list is this one.
-fn lists<S: Storages>(world: &mut Listing<S>, numbers: &[u32]) -> bool {
+pub fn lists<S: Storages, J: WorldJob<Listed<S>>>(
+    world: &mut World<Listed<S>, J>,
+    numbers: &[u32],
+) -> bool {
     world.parts().core.parts().storages.numbers.as_slice() == numbers
 }
 
 fn in_order<R: Abort, S: Storages>(rt: &R, world: &mut Listing<S>) {
-    assert!(rt; queue_both(world) && lists(world, &[]));
+    queue_both(rt, world);
+    assert!(rt; lists(world, &[]));
     assert_eq!(rt; done(world, 9), Some((2, 0, 0)));
     assert!(rt; lists(world, &[1, 2]));
 }
 
 fn in_two_turns<R: Abort, S: Storages>(rt: &R, world: &mut Listing<S>) {
-    assert!(rt; queue_both(world));
+    queue_both(rt, world);
     assert_eq!(rt; done(world, 1), Some((1, 0, 1)));
     assert!(rt; lists(world, &[1]));
     assert_eq!(rt; done(world, 1), Some((1, 0, 0)));
@@ -77,13 +92,7 @@ pub enum Story {
 
 /// Tells a story of a new world, whose list is empty.
 pub fn tell_of_new<R: Abort, S: Empty + Drop>(rt: &R, alloc: Global, story: Story) {
-    let mut world = World::new(
-        alloc,
-        Listed {
-            storages: S::empty(alloc),
-            numbers: Vec::new(alloc),
-        },
-    );
+    let mut world = listing::<S, Push>(alloc);
     match story {
         Story::InOrder => in_order(rt, &mut world),
         Story::InTwoTurns => in_two_turns(rt, &mut world),

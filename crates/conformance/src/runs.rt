@@ -32,13 +32,21 @@ pub fn assert_runs<R: Abort>(
     faults: &str,
 ) {
     let outcome = run(alloc, script.as_bytes());
-    assert_eq!(rt;
-        outcome.written.as_slice(),
-        output.as_bytes(),
-        "of {script}"
-    );
-    assert_eq!(rt; outcome.told.as_slice(), faults.as_bytes(), "of {script}");
+    assert_text(rt, outcome.written.as_slice(), output, script);
+    assert_text(rt, outcome.told.as_slice(), faults, script);
     assert_eq!(rt; outcome.status, status, "of {script}");
+}
+
+/// Asserts that the lines of a text are these, of which a failure tells the first that differs.
+fn assert_text<R: Abort>(rt: &R, bytes: &[u8], wanted: &str, script: &str) {
+    if bytes == wanted.as_bytes() {
+        return;
+    }
+    let text = str::from_utf8(bytes).unwrap_or_default();
+    for (line, other) in text.split('\n').zip(wanted.split('\n')) {
+        assert_eq!(rt; line, other, "of {script}");
+    }
+    panic!(rt; "more lines or fewer, of {script}");
 }
 
 /// A script, with what it prints.
@@ -65,33 +73,44 @@ impl Tale {
         self.printed.push('\n')
     }
 
-    /// Commands, each with its reply: `create -> 0:1` in a line. A line without an arrow is left out.
-    pub fn tell(&mut self, lines: &str) -> Result<(), AllocError> {
+    /// Commands, each with its reply: `create -> 0:1` in a line. A line that is not blank has an arrow.
+    fn tell<R: Abort>(&mut self, rt: &R, lines: &str) -> Result<(), AllocError> {
         for line in lines.split('\n') {
-            if let Some((command, reply)) = line.split_once(" -> ") {
-                self.line(command.trim(), reply)?;
+            match line.split_once(" -> ") {
+                Some((command, reply)) => self.line(command.trim(), reply)?,
+                None => assert_eq!(rt; line.trim(), "", "a line without an arrow"),
             }
         }
         Ok(())
     }
 
-    /// Asserts that the script runs to its end and prints that.
+    /// Asserts that the script runs to its end and prints that. A failure tells the command whose reply differs.
     pub fn assert_holds<R: Abort>(&self, rt: &R, alloc: Global) {
-        assert_runs(
-            rt,
-            alloc,
-            self.script.as_str(),
-            0,
-            self.printed.as_str(),
-            "",
-        );
+        let outcome = run(alloc, self.script.as_bytes());
+        self.assert_replies(rt, outcome.written.as_slice());
+        assert_text(rt, outcome.told.as_slice(), "", self.script.as_str());
+        assert_eq!(rt; outcome.status, 0);
+    }
+
+    /// Asserts that these are the replies.
+    fn assert_replies<R: Abort>(&self, rt: &R, bytes: &[u8]) {
+        if bytes == self.printed.as_bytes() {
+            return;
+        }
+        let replies = str::from_utf8(bytes).unwrap_or_default();
+        let commands = self.script.split('\n');
+        let pairs = replies.split('\n').zip(self.printed.split('\n'));
+        for ((reply, wanted), command) in pairs.zip(commands) {
+            assert_eq!(rt; reply, wanted, "to {command}");
+        }
+        panic!(rt; "more replies or fewer");
     }
 }
 
 /// Asserts that commands have these replies: `create -> 0:1` in a line.
 pub fn assert_tale<R: Abort>(rt: &R, alloc: Global, lines: &str) -> Result<(), AllocError> {
     let mut tale = Tale::new(alloc);
-    tale.tell(lines)?;
+    tale.tell(rt, lines)?;
     tale.assert_holds(rt, alloc);
     Ok(())
 }

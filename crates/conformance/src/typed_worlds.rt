@@ -1,23 +1,25 @@
 //! Worlds by component types: registrations, views, builders.
-use composed::{Empty, Of2};
+use crate::calls::{delete, die, fresh, lives, register_both};
+use crate::stories::{self, told};
+use composed::Empty;
 use slots::{Health, Position};
 use specs::{Builder, Entity, Has, Storages, Unregistered, World};
 use std::alloc::Global;
 use std::process::Abort;
 use std::test::Fail;
-use storages::{Component, TryDefault};
-
-/// Registers both component types.
-fn register_both<P, H, S: Has<Position, P> + Has<Health, H>>(
-    world: &mut World<S>,
-) -> Result<(), Fail> {
-    world.register::<Position, _>()?;
-    world.register::<Health, _>()?;
-    Ok(())
-}
+use storages::{Component, TryDefault, UnprotectedStorage};
 
 /// An entity with a position and a health.
 fn build<P, H, S: Has<Position, P> + Has<Health, H>>(
+    world: &mut World<S>,
+    x: i64,
+    points: i64,
+) -> Result<Entity, Fail> {
+    Ok(built(world, x, points).ok_or("a building")?)
+}
+
+/// Such an entity, if its builder is refused nothing.
+fn built<P, H, S: Has<Position, P> + Has<Health, H>>(
     world: &mut World<S>,
     x: i64,
     points: i64,
@@ -25,6 +27,12 @@ fn build<P, H, S: Has<Position, P> + Has<Health, H>>(
     let builder = world.create_entity().ok()?;
     let builder = builder.with(Position(x)).ok()?;
     let builder = builder.with(Health(points)).ok()?;
+    Some(builder.build())
+}
+
+/// An entity without components.
+fn built_empty<S: Storages>(world: &mut World<S>) -> Option<Entity> {
+    let builder = world.create_entity().ok()?;
     Some(builder.build())
 }
 
@@ -44,10 +52,13 @@ fn health<H, S: Has<Health, H>>(world: &World<S>, e: Entity) -> Option<Health> {
     }
 }
 
-/// Puts a position at an entity, by a view.
+/// Puts a position at an entity, by a view, and answers whether it is there then.
 fn place<P, S: Has<Position, P>>(world: &mut World<S>, e: Entity, x: i64) -> bool {
     match world.write_storage::<Position, _>() {
-        Ok(mut positions) => positions.insert(e, Position(x)).is_ok() && positions.contains(e),
+        Ok(mut positions) => {
+            let put = positions.insert(e, Position(x)).is_ok();
+            positions.contains(e) && put
+        }
         Err(_) => false,
     }
 }
@@ -68,7 +79,7 @@ fn births<S: Storages>(
 /// Whether the entities are those of the first births, in order, and alive.
 fn are_the_first<S: Storages>(world: &World<S>, list: &[Entity]) -> bool {
     for (index, e) in list.iter().enumerate() {
-        if e.id() as usize != index || e.generation().id() != 1 || !world.is_alive(*e) {
+        if e.id() as usize != index || e.generation().id() != 1 || !lives(world, *e) {
             return false;
         }
     }
@@ -90,11 +101,11 @@ fn are_built_and_written<R: Abort, P, H, S: Has<Position, P> + Has<Health, H>>(
     rt: &R,
     world: &mut World<S>,
 ) -> Result<(), Fail> {
-    register_both(world)?;
-    let a = build(world, 1, 10).ok_or("a building")?;
-    let b = build(world, 3, 30).ok_or("a building")?;
-    let c = build(world, 5, 50).ok_or("a building")?;
-    let empty = world.create_entity().ok().ok_or("a birth")?.build();
+    assert!(rt; register_both(world));
+    let a = build(world, 1, 10)?;
+    let b = build(world, 3, 30)?;
+    let c = build(world, 5, 50)?;
+    let empty = built_empty(world).ok_or("a birth")?;
     assert_eq!(rt; position(world, b), Some(Position(3)));
     assert_eq!(rt; health(world, a), Some(Health(10)));
     assert_eq!(rt; health(world, c), Some(Health(50)));
@@ -118,13 +129,11 @@ fn may_lack_a_component<R: Abort, P, H, S: Has<Position, P> + Has<Health, H>>(
     rt: &R,
     world: &mut World<S>,
 ) -> Result<(), Fail> {
-    register_both(world)?;
+    assert!(rt; register_both(world));
     let e = built_in_part(world).ok_or("a building")?;
-    assert_eq!(rt;
-        (position(world, e), health(world, e)),
-        (Some(Position(6)), None)
-    );
-    assert!(rt; world.maintain(0)?.deleted.is_empty());
+    assert_eq!(rt; position(world, e), Some(Position(6)));
+    assert_eq!(rt; health(world, e), None);
+    assert!(rt; die(world, &[]));
     Ok(())
 }
 
@@ -132,7 +141,10 @@ fn may_lack_a_component<R: Abort, P, H, S: Has<Position, P> + Has<Health, H>>(
 fn register_empty<T: Component, I, S: Has<T, I>>(
     alloc: Global,
     world: &mut World<S>,
-) -> Result<(), Fail> {
+) -> Result<(), Fail>
+where
+    T::Storage: UnprotectedStorage<T> + TryDefault,
+{
     world.register_with_storage::<T, I>(T::Storage::try_default(alloc)?);
     Ok(())
 }
@@ -152,13 +164,11 @@ fn takes_storages<R: Abort, P, H, S: Has<Position, P> + Has<Health, H>>(
 ) -> Result<(), Fail> {
     register_empty::<Position, _, S>(alloc, world)?;
     register_empty::<Health, _, S>(alloc, world)?;
-    let e = build(world, 7, 70).ok_or("a building")?;
+    let e = build(world, 7, 70)?;
     register_empty::<Health, _, S>(alloc, world)?;
     assert_eq!(rt; heal(world, e, 71), Some(Health(70)));
-    assert_eq!(rt;
-        (position(world, e), health(world, e)),
-        (Some(Position(7)), Some(Health(71)))
-    );
+    assert_eq!(rt; position(world, e), Some(Position(7)));
+    assert_eq!(rt; health(world, e), Some(Health(71)));
     Ok(())
 }
 
@@ -170,16 +180,16 @@ fn dropped<S: Storages>(world: &mut World<S>) -> Option<Entity> {
     Some(e)
 }
 
-/// Whether the next maintenance lets this one die, and no other.
-fn dies_next<S: Storages>(world: &mut World<S>, e: Entity) -> Result<bool, Fail> {
-    let lived = world.is_alive(e);
-    let maintained = world.maintain(0)?;
-    Ok(lived && maintained.deleted.as_slice() == [e].as_slice() && !world.is_alive(e))
+/// The next maintain lets this one die, and no other.
+fn dies_next<R: Abort, S: Storages>(rt: &R, world: &mut World<S>, e: Entity) {
+    assert!(rt; lives(world, e));
+    assert!(rt; die(world, &[e]));
+    assert!(rt; !lives(world, e));
 }
 
 fn marks_the_dropped<R: Abort, S: Storages>(rt: &R, world: &mut World<S>) -> Result<(), Fail> {
     let e = dropped(world).ok_or("a birth")?;
-    assert!(rt; dies_next(world, e)?);
+    dies_next(rt, world, e);
     Ok(())
 }
 
@@ -199,40 +209,54 @@ fn marks_the_refused<R: Abort, P, S: Has<Position, P>>(
 ) -> Result<(), Fail> {
     let (e, back) = refused(world).ok_or("a refusal")?;
     assert_eq!(rt; back, Position(5));
-    assert!(rt; dies_next(world, e)?);
+    dies_next(rt, world, e);
     Ok(())
 }
 
+/// Whether positions are refused to be read.
+fn reads_none<P, S: Has<Position, P>>(world: &World<S>) -> bool {
+    matches!(&world.read_storage::<Position, _>(), Err(Unregistered))
+}
+
+/// Whether positions are refused to be written to.
+fn writes_none<P, S: Has<Position, P>>(world: &mut World<S>) -> bool {
+    matches!(&world.write_storage::<Position, _>(), Err(Unregistered))
+}
+
 fn has_no_positions<R: Abort, P, S: Has<Position, P>>(rt: &R, world: &mut World<S>) {
-    assert!(rt; matches!(&world.read_storage::<Position, _>(), Err(Unregistered)));
-    assert!(rt; matches!(&world.write_storage::<Position, _>(), Err(Unregistered)));
+    assert!(rt; reads_none(world));
+    assert!(rt; writes_none(world));
+}
+
+/// Takes the components of a list, and answers whether it was not refused.
+fn delete_components<S: Storages>(world: &mut World<S>, list: &[Entity]) -> bool {
+    world.delete_components(list).is_ok()
 }
 
 fn lose_components<R: Abort, P, H, S: Has<Position, P> + Has<Health, H>>(
     rt: &R,
     world: &mut World<S>,
 ) -> Result<(), Fail> {
-    register_both(world)?;
-    let a = build(world, 1, 10).ok_or("a building")?;
-    let b = build(world, 2, 20).ok_or("a building")?;
-    let dead = build(world, 3, 30).ok_or("a building")?;
-    assert!(rt; world.delete_entity(dead).is_ok());
-    let reborn = build(world, 4, 40).ok_or("a building")?;
+    assert!(rt; register_both(world));
+    let a = build(world, 1, 10)?;
+    let b = build(world, 2, 20)?;
+    let dead = build(world, 3, 30)?;
+    assert!(rt; delete(world, dead));
+    let reborn = build(world, 4, 40)?;
     assert_eq!(rt; reborn.id(), dead.id());
-    world.delete_components(&[dead, a])?;
-    assert_eq!(rt; (position(world, a), health(world, a)), (None, None));
-    assert_eq!(rt;
-        (position(world, b), health(world, b)),
-        (Some(Position(2)), Some(Health(20)))
-    );
+    assert!(rt; delete_components(world, &[dead, a]));
+    assert_eq!(rt; position(world, a), None);
+    assert_eq!(rt; health(world, a), None);
+    assert_eq!(rt; position(world, b), Some(Position(2)));
+    assert_eq!(rt; health(world, b), Some(Health(20)));
     assert_eq!(rt; position(world, reborn), Some(Position(4)));
-    assert!(rt; world.is_alive(a));
+    assert!(rt; lives(world, a));
     Ok(())
 }
 
 /// What is told of a world.
 #[derive(Clone, Copy)]
-enum Story {
+pub enum Story {
     AreFive,
     AreBuiltAndWritten,
     MayLackAComponent,
@@ -264,57 +288,76 @@ fn tell<R: Abort, P, H, S: Has<Position, P> + Has<Health, H>>(
     }
 }
 
-/// Tells a story of a new world, over whatever storages have both component types: calls at storages of a known type are slow to prove.
-fn tell_of_new<R: Abort, P, H, S: Empty + Has<Position, P> + Has<Health, H> + Drop>(
+/// Tells a story of a new world.
+pub fn tell_of_new<R: Abort, P, H, S: Empty + Has<Position, P> + Has<Health, H> + Drop>(
     rt: &R,
     alloc: Global,
     story: Story,
 ) -> Result<(), Fail> {
-    let mut world = World::new(alloc, S::empty(alloc));
+    let mut world = fresh::<S, _>(alloc);
     tell(rt, alloc, story, &mut world)
-}
-
-/// The world is of these storages here alone.
-fn told<R: Abort>(rt: &R, alloc: Global, story: Story) -> Result<(), Fail> {
-    tell_of_new::<R, _, _, Of2<Position, Health>>(rt, alloc, story)
 }
 
 #[test]
 fn five_are_born_one_after_another(rt: HostRuntime) -> Result<(), Fail> {
-    told(&rt, rt.alloc(), Story::AreFive)
+    told(&rt, rt.alloc(), stories::Story::Typed(Story::AreFive))
 }
 
 #[test]
 fn entities_are_built_read_and_written(rt: HostRuntime) -> Result<(), Fail> {
-    told(&rt, rt.alloc(), Story::AreBuiltAndWritten)
+    told(
+        &rt,
+        rt.alloc(),
+        stories::Story::Typed(Story::AreBuiltAndWritten),
+    )
 }
 
 #[test]
 fn a_component_that_may_lack_is_built_in_if_it_is_there(rt: HostRuntime) -> Result<(), Fail> {
-    told(&rt, rt.alloc(), Story::MayLackAComponent)
+    told(
+        &rt,
+        rt.alloc(),
+        stories::Story::Typed(Story::MayLackAComponent),
+    )
 }
 
 #[test]
 fn an_empty_storage_is_registered_where_none_was(rt: HostRuntime) -> Result<(), Fail> {
-    told(&rt, rt.alloc(), Story::TakesStorages)
+    told(&rt, rt.alloc(), stories::Story::Typed(Story::TakesStorages))
 }
 
 #[test]
 fn a_builder_that_is_dropped_marks_its_entity(rt: HostRuntime) -> Result<(), Fail> {
-    told(&rt, rt.alloc(), Story::MarksTheDropped)
+    told(
+        &rt,
+        rt.alloc(),
+        stories::Story::Typed(Story::MarksTheDropped),
+    )
 }
 
 #[test]
 fn a_refused_component_comes_back_and_its_entity_is_marked(rt: HostRuntime) -> Result<(), Fail> {
-    told(&rt, rt.alloc(), Story::MarksTheRefused)
+    told(
+        &rt,
+        rt.alloc(),
+        stories::Story::Typed(Story::MarksTheRefused),
+    )
 }
 
 #[test]
 fn a_type_without_a_storage_is_unregistered(rt: HostRuntime) -> Result<(), Fail> {
-    told(&rt, rt.alloc(), Story::HasNoPositions)
+    told(
+        &rt,
+        rt.alloc(),
+        stories::Story::Typed(Story::HasNoPositions),
+    )
 }
 
 #[test]
 fn components_go_without_their_entities(rt: HostRuntime) -> Result<(), Fail> {
-    told(&rt, rt.alloc(), Story::LoseComponents)
+    told(
+        &rt,
+        rt.alloc(),
+        stories::Story::Typed(Story::LoseComponents),
+    )
 }

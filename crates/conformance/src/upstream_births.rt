@@ -1,109 +1,112 @@
 //! Tests of specs on mixed births and deaths, by their names there.
-use crate::stories::{Sample, Story, told};
+use crate::calls::{
+    born, delete, entity_at, fresh, is_done, maintained, mark, position, position_at, positions,
+    put, selected,
+};
+use crate::stories::{Story, told};
 use composed::Empty;
 use slots::Position;
-use specs::{Command, Entity, Reply, SetExpr, Storages, World, component, value};
-use std::alloc::Global;
+use specs::{Command, Entity, Has, SetExpr, Storages, World};
+use std::alloc::{AllocError, Global};
 use std::collections::HashSet;
 use std::process::Abort;
 use std::test::Fail;
 
-/// A world, with the entities that were ever born in it, and those that nobody deleted yet.
+/// The entities that were ever born in a world, and those that nobody deleted yet.
 #[derive(Drop)]
-struct Nursery<S: Storages> {
-    world: World<S>,
+struct Nursery {
     given: HashSet<Entity>,
     living: Vec<Entity>,
 }
 
-impl<S: Storages> Nursery<S> {
-    fn new(alloc: Global, storages: S) -> Self {
-        Nursery {
-            world: World::new(alloc, storages),
-            given: HashSet::new(alloc),
-            living: Vec::new(alloc),
-        }
-    }
-
-    /// A birth, at once or pending. It answers whether the entity was never given before.
-    fn bear(&mut self, birth: Command<S>) -> bool {
-        match self.world.apply(birth) {
-            Reply::Entity(e) => {
-                matches!(self.given.insert(e), Ok(true)) && self.living.push(e).is_ok()
-            }
-            _ => false,
-        }
-    }
-
-    /// A birth, and a death at once.
-    fn bear_in_vain(&mut self) -> bool {
-        match self.world.apply(Command::Create) {
-            Reply::Entity(e) => self.world.delete_entity(e).is_ok(),
-            _ => false,
-        }
-    }
-
-    /// Rounds of births at once and pending, in a fixed order, each with a maintenance at its end.
-    fn bear_round(&mut self, count: u32) -> bool {
-        for _ in 0..count {
-            let fresh = self.bear(Command::Create)
-                && self.bear_in_vain()
-                && self.bear(Command::CreatePending)
-                && self.bear(Command::CreatePending)
-                && self.bear(Command::Create);
-            if !fresh {
-                return false;
-            }
-        }
-        self.world.maintain(0).is_ok()
-    }
-
-    fn bear_rounds(&mut self, count: u32) -> bool {
-        for _ in 0..10 {
-            if !self.bear_round(count) {
-                return false;
-            }
-        }
-        true
-    }
-
-    /// Each dies at the next maintenance.
-    fn mark_all(&mut self) -> bool {
-        let Nursery { world, living, .. } = self;
-        for e in living.as_slice() {
-            if world.parts().core.parts().entities.delete(*e).is_err() {
-                return false;
-            }
-        }
-        living.clear();
-        true
-    }
-
-    /// Each dies at once.
-    fn delete_all(&mut self) -> bool {
-        let Nursery { world, living, .. } = self;
-        for e in living.as_slice() {
-            if world.delete_entity(*e).is_err() {
-                return false;
-            }
-        }
-        living.clear();
-        true
+/// Nobody was born yet.
+fn empty_nursery(alloc: Global) -> Nursery {
+    Nursery {
+        given: HashSet::new(alloc),
+        living: Vec::new(alloc),
     }
 }
 
-fn bears_and_merges<R: Abort, S: Storages>(rt: &R, nursery: &mut Nursery<S>) {
-    assert!(rt; nursery.bear_rounds(10));
-    assert!(rt; nursery.mark_all());
-    assert!(rt; nursery.bear_rounds(20));
-    assert!(rt; nursery.delete_all());
-    assert!(rt; nursery.bear_rounds(40));
+impl Nursery {
+    /// Takes an entity up, and answers whether it was never given before.
+    fn take(&mut self, e: Entity) -> bool {
+        matches!(self.given.insert(e), Ok(true)) && self.living.push(e).is_ok()
+    }
+}
+
+/// A birth, at once or pending. It answers whether the entity was never given before.
+fn bear<S: Storages>(world: &mut World<S>, nursery: &mut Nursery, birth: Command<S>) -> bool {
+    match born(world, birth) {
+        Some(e) => nursery.take(e),
+        None => false,
+    }
+}
+
+/// A birth, and a death at once.
+fn bear_in_vain<S: Storages>(world: &mut World<S>) -> bool {
+    match born(world, Command::Create) {
+        Some(e) => delete(world, e),
+        None => false,
+    }
+}
+
+/// Rounds of births at once and pending, in a fixed order, each with a maintain at its end.
+fn bear_round<R: Abort, S: Storages>(
+    rt: &R,
+    world: &mut World<S>,
+    nursery: &mut Nursery,
+    count: u32,
+) {
+    for _ in 0..count {
+        assert!(rt; bear(world, nursery, Command::Create));
+        assert!(rt; bear_in_vain(world));
+        assert!(rt; bear(world, nursery, Command::CreatePending));
+        assert!(rt; bear(world, nursery, Command::CreatePending));
+        assert!(rt; bear(world, nursery, Command::Create));
+    }
+    assert!(rt; maintained(world, 0).is_ok());
+}
+
+fn bear_rounds<R: Abort, S: Storages>(
+    rt: &R,
+    world: &mut World<S>,
+    nursery: &mut Nursery,
+    count: u32,
+) {
+    for _ in 0..10 {
+        bear_round(rt, world, nursery, count);
+    }
+}
+
+/// Each dies at the next maintain.
+fn mark_all<R: Abort, S: Storages>(rt: &R, world: &mut World<S>, nursery: &mut Nursery) {
+    for e in nursery.living.as_slice() {
+        assert!(rt; mark(world, *e));
+    }
+    nursery.living.clear();
+}
+
+/// Each dies at once.
+fn delete_all<R: Abort, S: Storages>(rt: &R, world: &mut World<S>, nursery: &mut Nursery) {
+    for e in nursery.living.as_slice() {
+        assert!(rt; delete(world, *e));
+    }
+    nursery.living.clear();
+}
+
+fn bears_and_merges<R: Abort, S: Storages>(rt: &R, world: &mut World<S>, nursery: &mut Nursery) {
+    bear_rounds(rt, world, nursery, 10);
+    mark_all(rt, world, nursery);
+    bear_rounds(rt, world, nursery, 20);
+    delete_all(rt, world, nursery);
+    bear_rounds(rt, world, nursery, 40);
 }
 
 /// Tells of births and deaths, mixed with merges.
 pub fn merges<R: Abort, S: Empty + Drop>(rt: &R, alloc: Global) {
-    let mut nursery = Nursery::new(alloc, S::empty(alloc));
-    bears_and_merges(rt, &mut nursery);
+    let mut world = fresh::<S, _>(alloc);
+    let mut nursery = empty_nursery(alloc);
+    bears_and_merges(rt, &mut world, &mut nursery);
 }
 
 #[test]
@@ -127,102 +130,109 @@ impl Random {
     }
 }
 
-/// The position of an entity.
-fn position<P, T, S: Sample<P, T>>(world: &mut World<S>, e: Entity) -> Option<i64> {
-    match world.apply(Command::Get(S::pos(), e)) {
-        Reply::Value(Some(found)) => match component::<Position, S, _>(found) {
-            Ok(Position(number)) => Some(number),
-            Err(_) => None,
-        },
-        _ => None,
-    }
+/// A birth with a position.
+fn bear_at<R: Abort, P, S: Has<Position, P>>(
+    rt: &R,
+    world: &mut World<S>,
+    birth: Command<S>,
+    number: i64,
+) -> Result<(), Fail> {
+    let e = born(world, birth).ok_or("a birth")?;
+    assert!(rt; put(world, e, position::<P, S>(number)));
+    Ok(())
 }
 
-/// A birth with a position. It answers whether nothing was refused.
-fn bear_at<P, T, S: Sample<P, T>>(world: &mut World<S>, birth: Command<S>, number: i64) -> bool {
-    match world.apply(birth) {
-        Reply::Entity(e) => {
-            let insert = Command::Insert(e, value::<_, S, _>(Position(number)));
-            matches!(world.apply(insert), Reply::Value(None))
-        }
-        _ => false,
-    }
-}
-
-/// The entities whose position is no greater than any before it, by index.
-fn lowest<P, T, S: Sample<P, T>>(alloc: Global, world: &mut World<S>) -> Result<Vec<Entity>, Fail> {
-    let Ok(indices) = world.select(&SetExpr::Slot(S::pos())) else {
-        return Err("no selection".into());
-    };
-    let mut least = i64::MAX;
+/// The positions of the entities that have one, by index.
+fn placed<P, S: Has<Position, P>>(
+    alloc: Global,
+    world: &mut World<S>,
+) -> Result<Vec<(Entity, i64)>, Fail> {
+    let indices = selected(world, &SetExpr::Slot(positions::<P, S>())).ok_or("a selection")?;
     let mut found = Vec::new(alloc);
     for index in indices {
-        let e = world.entities().entity(index);
-        let number = position(world, e).ok_or("no position")?;
-        if number <= least {
-            least = number;
-            found.push(e)?;
+        let e = entity_at(world, index);
+        let number = position_at(world, e).ok_or("a position")?;
+        found.push((e, number))?;
+    }
+    Ok(found)
+}
+
+/// The entities whose position is no greater than any before it.
+fn lowest(alloc: Global, placed: &[(Entity, i64)]) -> Result<Vec<Entity>, AllocError> {
+    let mut least = i64::MAX;
+    let mut found = Vec::new(alloc);
+    for (e, number) in placed {
+        if *number <= least {
+            least = *number;
+            found.push(*e)?;
         }
     }
     Ok(found)
 }
 
 /// Marks the last entities of a list.
-fn mark_last<S: Storages>(world: &mut World<S>, mut list: Vec<Entity>, count: u32) -> bool {
+fn mark_last<R: Abort, S: Storages>(
+    rt: &R,
+    world: &mut World<S>,
+    mut list: Vec<Entity>,
+    count: u32,
+) {
     for _ in 0..count {
         if let Some(e) = list.pop() {
-            if world.parts().core.parts().entities.delete(e).is_err() {
-                return false;
-            }
+            assert!(rt; mark(world, e));
         }
     }
-    true
 }
 
 /// Births of entities that wait for a merge.
-fn bear_some<P, T, S: Sample<P, T>>(world: &mut World<S>, random: &mut Random, count: u32) -> bool {
+fn bear_some<R: Abort, P, S: Has<Position, P>>(
+    rt: &R,
+    world: &mut World<S>,
+    random: &mut Random,
+    count: u32,
+) -> Result<(), Fail> {
     for _ in 0..count {
-        if !bear_at(world, Command::CreatePending, random.number()) {
-            return false;
-        }
+        bear_at(rt, world, Command::CreatePending, random.number())?;
     }
-    true
+    Ok(())
 }
 
 /// The first hundred, born at once.
-fn bear_first<P, T, S: Sample<P, T>>(world: &mut World<S>, random: &mut Random) -> bool {
+fn bear_first<R: Abort, P, S: Has<Position, P>>(
+    rt: &R,
+    world: &mut World<S>,
+    random: &mut Random,
+) -> Result<(), Fail> {
     for _ in 0..100 {
-        if !bear_at(world, Command::Create, random.number()) {
-            return false;
-        }
+        bear_at(rt, world, Command::Create, random.number())?;
     }
-    true
+    Ok(())
 }
 
-fn bears_in_vain<R: Abort, P, T, S: Sample<P, T>>(
+fn bears_in_vain<R: Abort, P, S: Has<Position, P>>(
     rt: &R,
     alloc: Global,
     world: &mut World<S>,
 ) -> Result<(), Fail> {
     let mut random = Random(0xdead_beef);
-    assert!(rt; matches!(world.apply(Command::Register(S::pos())), Reply::Done));
-    assert!(rt; bear_first(world, &mut random));
+    assert!(rt; is_done(world, Command::Register(positions::<P, S>())));
+    bear_first(rt, world, &mut random)?;
     for _ in 0..100 {
         let count = random.next() % 25;
-        let list = lowest(alloc, world)?;
-        assert!(rt; mark_last(world, list, count));
-        assert!(rt; bear_some(world, &mut random, count));
+        let list = lowest(alloc, placed(alloc, world)?.as_slice())?;
+        mark_last(rt, world, list, count);
+        bear_some(rt, world, &mut random, count)?;
     }
     Ok(())
 }
 
 /// Tells of births and deaths before a merge.
-pub fn are_stillborn<R: Abort, P, T, S: Sample<P, T> + Drop>(
+pub fn are_stillborn<R: Abort, P, S: Empty + Has<Position, P> + Drop>(
     rt: &R,
     alloc: Global,
 ) -> Result<(), Fail> {
-    let mut world = World::new(alloc, S::empty(alloc));
-    bears_in_vain(rt, alloc, &mut world)
+    let mut world = fresh::<S, _>(alloc);
+    bears_in_vain::<R, P, S>(rt, alloc, &mut world)
 }
 
 #[test]

@@ -3,14 +3,16 @@ ghost use Rattle.std.specs.Prelude.{◌≡◌};
 ghost use Rattle.specs.specs.State.{core_state};
 ghost use Rattle.conformance.specs.Puts.{Given};
 
-use crate::jobs::done;
-use crate::listed::Listed;
-use crate::stories::{self, Sample, told};
-use composed::Empty;
-use slots::{Position, Tag};
-use specs::{
-    Command, Core, Entity, LazyUpdate, Parts, Refusal, Reply, Storages, World, WorldJob, value,
+use crate::calls::{
+    done, entity, entity_at, execute, fresh, has, health, healths, insert_all_later, insert_later,
+    is_done, is_there, maintained, position, positions, put, raised, register_both, remove_later,
 };
+use crate::listed::Listed;
+use crate::own_jobs::{listing, lists};
+use crate::stories::{self, told};
+use composed::Empty;
+use slots::{Health, Position};
+use specs::{Command, Core, Entity, Has, LazyUpdate, Parts, Refusal, Storages, World, WorldJob};
 use specs_run::ScriptJob;
 use std::alloc::{AllocError, Global};
 use std::process::Abort;
@@ -62,18 +64,28 @@ fn give<S: Storages>(core: &mut Core<S>, e: Entity, value: S::Value)
     }
 }
 
-/// Queues a job that puts a value at an entity. Then it looks whether the value is there, and puts 1 or 0 to the list beside the storages.
+/// What a nested job does when its turn comes.
+#[derive(Clone, Copy)]
+enum Turn {
+    /// It queues the same job for the other turn, and then looks whether the value is there: it puts 1 or 0 to the list beside the storages.
+    Outer,
+    /// It puts the value by itself.
+    Inner,
+}
+
+/// A job within a job.
 #[derive(Drop)]
-struct PutLater<S: Storages> {
+struct Nested<S: Storages> {
+    turn: Turn,
     entity: Entity,
     value: S::Value,
 }
 
-impl<S: Storages> WorldJob<Listed<S>> for PutLater<S> {
+impl<S: Storages> WorldJob<Listed<S>> for Nested<S> {
     ghost use Rattle.std.specs.Prelude.{◌≡◌};
-    ghost use Rattle.specs.specs.Lawful.{still_grows, still_lives};
+    ghost use Rattle.conformance.specs.Puts.{Given, given_grows, given_lives};
 
-    ghost does = { λ j old more new. new ≡ old };
+    ghost does = { λ j old more new. Given S.place j.entity j.value old new };
 
     ghost wants = { λ j s. Unit {0} };
 
@@ -84,20 +96,37 @@ impl<S: Storages> WorldJob<Listed<S>> for PutLater<S> {
         core: &mut Core<Listed<S>>,
         queue: &mut LazyUpdate<Listed<S>, Self>,
     ) -> Result<(), (Self, AllocError)> {
-        let PutLater { entity, value } = self;
-        let slot = S::slot_of(&value);
-        if let Err((value, refused)) = queue.insert(entity, value) {
-            return Err((PutLater { entity, value }, refused));
+        let Nested {
+            turn,
+            entity,
+            value,
+        } = self;
+        match turn {
+            Turn::Inner => {
+                give(core, entity, value);
+                Ok(())
+            }
+            Turn::Outer => {
+                let slot = S::slot_of(&value);
+                let inner = Nested {
+                    turn: Turn::Inner,
+                    entity,
+                    value,
+                };
+                if let Err((inner, refused)) = queue.exec(inner) {
+                    return Err((Nested { turn, ..inner }, refused));
+                }
+                let Parts { entities, storages } = core.parts();
+                let found = storages.get(entities, slot, entity);
+                let _ = storages.numbers.push(counted(&found));
+                Ok(())
+            }
         }
-        let Parts { entities, storages } = core.parts();
-        let found = storages.get(entities, slot, entity);
-        let _ = storages.numbers.push(counted(&found));
-        Ok(())
     }
 
-    ghost grows = { λ j old new more s. still_grows old new s };
+    ghost grows = { λ j old new more s. given_grows S.place j.entity j.value old new s };
 
-    ghost lives = { λ j old new more s w. still_lives old new s w };
+    ghost lives = { λ j old new more s w. given_lives S.place j.entity j.value old new s w };
 
     ghost tells = { λ j slot n old new more s spared l. absurd spared };
 }
@@ -111,114 +140,136 @@ fn counted<V>(found: &Result<Option<V>, Refusal>) -> u32 {
 }
 
 /// Storages for both component types, and two entities whose births are pending.
-fn begin<P, T, S: Sample<P, T>>(world: &mut Busy<S>) -> Option<(Entity, Entity)> {
-    world.register::<Position, _>().ok()?;
-    world.register::<Tag, _>().ok()?;
-    Some((raised(world)?, raised(world)?))
+fn begin<R: Abort, P, H, S: Has<Position, P> + Has<Health, H>>(
+    rt: &R,
+    world: &mut Busy<S>,
+) -> Result<(Entity, Entity), Fail> {
+    assert!(rt; register_both(world));
+    let first = raised(world)?;
+    let second = raised(world)?;
+    Ok((first, second))
 }
 
-/// An entity whose birth is pending.
-fn raised<S: Storages, J: WorldJob<S>>(world: &mut World<S, J>) -> Option<Entity> {
-    match world.apply(Command::CreatePending) {
-        Reply::Entity(e) => Some(e),
-        _ => None,
-    }
+/// Maintains a world, whereby so many jobs run, none of which is refused or waits.
+fn runs<R: Abort, S: Storages>(rt: &R, world: &mut Busy<S>, jobs: u64) {
+    assert_eq!(rt; done(world, u64::MAX), Some((jobs, 0, 0)));
 }
 
-fn has<S: Storages, J: WorldJob<S>>(world: &mut World<S, J>, slot: S::Slot, e: Entity) -> bool {
-    matches!(world.apply(Command::Get(slot, e)), Reply::Value(Some(_)))
-}
-
-/// How many jobs ran, where none was refused and none waits.
-fn ran<S: Storages>(world: &mut Busy<S>) -> Option<u64> {
-    match world.maintain(u64::MAX) {
-        Ok(m) if m.refused == 0 && m.left == 0 => Some(m.ran),
-        _ => None,
-    }
-}
-
-fn inserts<P, T, S: Sample<P, T>>(alloc: Global, world: &mut Busy<S>) -> Option<bool> {
-    let (e1, e2) = begin(world)?;
-    let one = value::<_, S, _>(Position(1));
-    let one = world.parts().lazy.insert(e1, one).is_ok();
+/// Two values, each for its entity.
+fn two<V: Drop>(
+    alloc: Global,
+    first: (Entity, V),
+    second: (Entity, V),
+) -> Result<Vec<(Entity, V)>, AllocError> {
     let mut pairs = Vec::new(alloc);
-    pairs.push((e1, value::<_, S, _>(Tag))).ok()?;
-    pairs.push((e2, value::<_, S, _>(Tag))).ok()?;
-    let all = world.parts().lazy.insert_all(pairs).is_ok();
-    let before = has(world, S::pos(), e1);
-    let counted = ran(world) == Some(2);
-    Some(
-        one && all
-            && !before
-            && counted
-            && has(world, S::pos(), e1)
-            && has(world, S::tag(), e1)
-            && has(world, S::tag(), e2),
-    )
+    pairs.push(first)?;
+    pairs.push(second)?;
+    Ok(pairs)
 }
 
-fn removes<P, T, S: Sample<P, T>>(world: &mut Busy<S>) -> Option<bool> {
-    let (e, _) = begin(world)?;
-    let placed = world.apply(Command::Insert(e, value::<_, S, _>(Position(1))));
-    let queued = world.parts().lazy.remove(S::pos(), e).is_ok();
-    let before = has(world, S::pos(), e);
-    Some(
-        matches!(placed, Reply::Value(None))
-            && queued
-            && before
-            && ran(world) == Some(1)
-            && !has(world, S::pos(), e),
-    )
+fn inserts<R: Abort, P, H, S: Has<Position, P> + Has<Health, H>>(
+    rt: &R,
+    alloc: Global,
+    world: &mut Busy<S>,
+) -> Result<(), Fail> {
+    let (e1, e2) = begin(rt, world)?;
+    assert!(rt; insert_later(world, e1, position::<P, S>(1)));
+    let pairs = two(alloc, (e1, health::<H, S>(2)), (e2, health::<H, S>(3)))?;
+    assert!(rt; insert_all_later(world, pairs));
+    assert!(rt; !has(world, positions::<P, S>(), e1));
+    runs(rt, world, 2);
+    assert!(rt; has(world, positions::<P, S>(), e1));
+    assert!(rt; has(world, healths::<H, S>(), e1));
+    assert!(rt; has(world, healths::<H, S>(), e2));
+    Ok(())
+}
+
+fn removes<R: Abort, P, H, S: Has<Position, P> + Has<Health, H>>(
+    rt: &R,
+    world: &mut Busy<S>,
+) -> Result<(), Fail> {
+    let (e, _) = begin(rt, world)?;
+    assert!(rt; put(world, e, position::<P, S>(1)));
+    assert!(rt; remove_later(world, positions::<P, S>(), e));
+    assert!(rt; has(world, positions::<P, S>(), e));
+    runs(rt, world, 1);
+    assert!(rt; !has(world, positions::<P, S>(), e));
+    Ok(())
 }
 
 /// A job that creates an entity; one more lives afterwards than before.
-fn executes<P, T, S: Sample<P, T>>(world: &mut Busy<S>) -> Option<bool> {
-    let (_, last) = begin(world)?;
-    let queued = world.parts().lazy.exec(ScriptJob::Create).is_ok();
-    let next = world.entities().entity(last.id().wrapping_add(1));
-    let before = world.entities().is_alive(next);
-    Some(queued && !before && ran(world) == Some(1) && world.entities().is_alive(next))
-}
-
-/// An entity whose birth is pending, where a slot was registered.
-fn raised_beside<S: Storages, J: WorldJob<S>>(
-    world: &mut World<S, J>,
-    slot: S::Slot,
-) -> Option<Entity> {
-    match world.apply(Command::Register(slot)) {
-        Reply::Done => raised(world),
-        _ => None,
-    }
+fn executes<R: Abort, P, H, S: Has<Position, P> + Has<Health, H>>(
+    rt: &R,
+    world: &mut Busy<S>,
+) -> Result<(), Fail> {
+    let (_, last) = begin(rt, world)?;
+    assert!(rt; execute(world, ScriptJob::Create));
+    let next = entity_at(world, last.id().wrapping_add(1));
+    assert!(rt; !is_there(world, next));
+    runs(rt, world, 1);
+    assert!(rt; is_there(world, next));
+    Ok(())
 }
 
 /// A job that puts a position at an entity by itself.
-fn puts<P, T, S: Sample<P, T>>(world: &mut World<S, Put<S>>) -> Option<bool> {
-    let entity = raised_beside(world, S::pos())?;
-    let value = value::<_, S, _>(Position(1));
-    world.parts().lazy.exec(Put { entity, value }).ok()?;
-    let before = has(world, S::pos(), entity);
-    Some(!before && done(world, 9) == Some((1, 0, 0)) && has(world, S::pos(), entity))
+fn puts<R: Abort, P, S: Has<Position, P>>(
+    rt: &R,
+    world: &mut World<S, Put<S>>,
+) -> Result<(), Fail> {
+    assert!(rt; is_done(world, Command::Register(positions::<P, S>())));
+    let entity = raised(world)?;
+    let value = position::<P, S>(1);
+    assert!(rt; execute(world, Put { entity, value }));
+    assert!(rt; !has(world, positions::<P, S>(), entity));
+    assert_eq!(rt; done(world, 9), Some((1, 0, 0)));
+    assert!(rt; has(world, positions::<P, S>(), entity));
+    Ok(())
 }
 
-/// A job that queues the one that puts it, and sees no position then: both run at one maintain.
-fn puts_later<P, T, S: Sample<P, T>>(world: &mut World<Listed<S>, PutLater<S>>) -> Option<bool> {
-    let entity = raised_beside(world, S::pos())?;
-    let value = value::<_, S, _>(Position(1));
-    world.parts().lazy.exec(PutLater { entity, value }).ok()?;
-    let both = done(world, 9) == Some((2, 0, 0)) && has(world, S::pos(), entity);
-    let seen = world.parts().core.parts().storages.numbers.as_slice() == [0].as_slice();
-    Some(both && seen)
+/// A job that queues a job which puts a position by itself, and sees none then: both run at one maintain.
+fn puts_nested<R: Abort, P, S: Has<Position, P>>(
+    rt: &R,
+    world: &mut World<Listed<S>, Nested<S>>,
+) -> Result<(), Fail> {
+    assert!(rt; is_done(world, Command::Register(positions::<P, S>())));
+    let entity = raised(world)?;
+    let turn = Turn::Outer;
+    let value = position::<P, S>(1);
+    assert!(rt;
+        execute(
+            world,
+            Nested {
+                turn,
+                entity,
+                value
+            }
+        )
+    );
+    assert_eq!(rt; done(world, 9), Some((2, 0, 0)));
+    assert!(rt; has(world, positions::<P, S>(), entity));
+    assert!(rt; lists(world, &[0]));
+    Ok(())
 }
 
-/// An entity that is built with a component, which comes with the next maintain.
-fn builds<P, T, S: Sample<P, T>>(world: &mut Busy<S>) -> Option<bool> {
-    begin(world)?;
+/// An entity that is built with a value, which is queued.
+fn built<S: Storages>(world: &mut Busy<S>, value: S::Value) -> Option<Entity> {
     let builder = world.parts().create_entity().ok()?;
-    let builder = builder.with(value::<_, S, _>(Position(1))).ok()?;
-    let e = builder.build();
-    let before = has(world, S::pos(), e);
-    let lives = world.entities().is_alive(e);
-    Some(lives && !before && ran(world) == Some(1) && has(world, S::pos(), e))
+    let builder = builder.with(value).ok()?;
+    Some(builder.build())
+}
+
+/// The value comes with the next maintain.
+fn builds<R: Abort, P, H, S: Has<Position, P> + Has<Health, H>>(
+    rt: &R,
+    world: &mut Busy<S>,
+) -> Result<(), Fail> {
+    let _ = begin(rt, world)?;
+    let e = built(world, position::<P, S>(1)).ok_or("a building")?;
+    assert!(rt; is_there(world, e));
+    assert!(rt; !has(world, positions::<P, S>(), e));
+    runs(rt, world, 1);
+    assert!(rt; has(world, positions::<P, S>(), e));
+    Ok(())
 }
 
 /// The entity of a builder that is not built.
@@ -228,11 +279,16 @@ fn unbuilt<S: Storages>(world: &mut Busy<S>) -> Option<Entity> {
 }
 
 /// Such an entity dies with the next maintain.
-fn drops<P, T, S: Sample<P, T>>(world: &mut Busy<S>) -> Option<bool> {
-    begin(world)?;
-    let e = unbuilt(world)?;
-    let lived = world.entities().is_alive(e);
-    Some(lived && ran(world) == Some(0) && !world.entities().is_alive(e))
+fn drops<R: Abort, P, H, S: Has<Position, P> + Has<Health, H>>(
+    rt: &R,
+    world: &mut Busy<S>,
+) -> Result<(), Fail> {
+    let _ = begin(rt, world)?;
+    let e = unbuilt(world).ok_or("a birth")?;
+    assert!(rt; is_there(world, e));
+    runs(rt, world, 0);
+    assert!(rt; !is_there(world, e));
+    Ok(())
 }
 
 /// What is told of a world.
@@ -242,39 +298,56 @@ pub enum Story {
     Removes,
     Executes,
     Puts,
-    PutsLater,
+    PutsNested,
     Builds,
     Drops,
 }
 
-/// Empty storages, with an empty list beside them.
-fn listed<S: Empty>(alloc: Global) -> Listed<S> {
-    Listed {
-        storages: S::empty(alloc),
-        numbers: Vec::new(alloc),
+fn tell<R: Abort, P, H, S: Has<Position, P> + Has<Health, H>>(
+    rt: &R,
+    alloc: Global,
+    story: Story,
+    world: &mut Busy<S>,
+) -> Result<(), Fail> {
+    match story {
+        Story::Inserts => inserts(rt, alloc, world),
+        Story::Removes => removes(rt, world),
+        Story::Builds => builds(rt, world),
+        Story::Drops => drops(rt, world),
+        _ => executes(rt, world),
     }
 }
 
-fn told_of<P, T, S: Sample<P, T> + Drop>(alloc: Global, story: Story) -> Option<bool> {
-    if let Story::Puts = story {
-        return puts(&mut World::new(alloc, S::empty(alloc)));
-    }
-    if let Story::PutsLater = story {
-        return puts_later(&mut World::new(alloc, listed::<S>(alloc)));
-    }
-    let mut world = World::new(alloc, S::empty(alloc));
-    match story {
-        Story::Inserts => inserts(alloc, &mut world),
-        Story::Removes => removes(&mut world),
-        Story::Builds => builds(&mut world),
-        Story::Drops => drops(&mut world),
-        _ => executes(&mut world),
-    }
+fn put_in_new<R: Abort, P, S: Empty + Has<Position, P> + Drop>(
+    rt: &R,
+    alloc: Global,
+) -> Result<(), Fail> {
+    let mut world = fresh::<S, _>(alloc);
+    puts(rt, &mut world)
+}
+
+fn put_nested_in_new<R: Abort, P, S: Empty + Has<Position, P> + Drop>(
+    rt: &R,
+    alloc: Global,
+) -> Result<(), Fail> {
+    let mut world = listing(alloc);
+    puts_nested::<R, P, S>(rt, &mut world)
 }
 
 /// Tells a story of a new world.
-pub fn tell_of_new<R: Abort, P, T, S: Sample<P, T> + Drop>(rt: &R, alloc: Global, story: Story) {
-    assert_eq!(rt; told_of::<P, T, S>(alloc, story), Some(true));
+pub fn tell_of_new<R: Abort, P, H, S: Empty + Has<Position, P> + Has<Health, H> + Drop>(
+    rt: &R,
+    alloc: Global,
+    story: Story,
+) -> Result<(), Fail> {
+    if let Story::Puts = story {
+        return put_in_new::<R, P, S>(rt, alloc);
+    }
+    if let Story::PutsNested = story {
+        return put_nested_in_new::<R, P, S>(rt, alloc);
+    }
+    let mut world = fresh::<S, _>(alloc);
+    tell::<R, P, H, S>(rt, alloc, story, &mut world)
 }
 
 #[test]
@@ -309,5 +382,5 @@ fn a_lazy_builder_that_is_dropped_marks_its_entity(rt: HostRuntime) -> Result<()
 
 #[test]
 fn super_lazy_execution(rt: HostRuntime) -> Result<(), Fail> {
-    told(&rt, rt.alloc(), stories::Story::Lazy(Story::PutsLater))
+    told(&rt, rt.alloc(), stories::Story::Lazy(Story::PutsNested))
 }

@@ -1,8 +1,9 @@
 //! Builders that give markers, in a world that has markers alone.
+use crate::calls::{die, got, is_done, maintained};
 use composed::Sole;
 use saveload::{Marker, SimpleMarker};
 use slots::{Labels, Saved};
-use specs::{Builder, Command, Entity, MarkError, Reply, Storages, World};
+use specs::{Builder, Command, Entity, MarkError, Storages, World};
 use std::alloc::Global;
 use std::process::Abort;
 use std::test::Fail;
@@ -24,25 +25,16 @@ fn built_lazily<S: Storages>(world: &mut World<S>, slot: S::Slot) -> Option<Enti
     Some(builder.build())
 }
 
-/// The marker of an entity.
-fn marker_of<S: Storages>(world: &mut World<S>, slot: S::Slot, e: Entity) -> Option<S::Value> {
-    match world.apply(Command::Get(slot, e)) {
-        Reply::Value(found) => found,
-        _ => None,
-    }
-}
-
-/// The ids of two entities.
-fn ids<S: Storages<Value = SimpleMarker<Saved>>>(
+/// The id of an entity's marker.
+fn id_of<S: Storages<Value = SimpleMarker<Saved>>>(
     world: &mut World<S>,
     slot: S::Slot,
-    first: Entity,
-    second: Entity,
-) -> (Option<u64>, Option<u64>) {
-    (
-        marker_of(world, slot, first).map(|m| m.id()),
-        marker_of(world, slot, second).map(|m| m.id()),
-    )
+    e: Entity,
+) -> Option<u64> {
+    match got(world, slot, e) {
+        Some(marker) => Some(marker.id()),
+        None => None,
+    }
 }
 
 /// Two are built lazily, and then two at once, which get the first two ids. The lazy ones have none before the next maintain, and the next two after it.
@@ -57,16 +49,17 @@ fn are_marked_later<R: Abort, S: Storages<Value = SimpleMarker<Saved>>>(
     assert_eq!(rt; refusal, None);
     let (second, refusal) = built(world, slot).ok_or("a birth")?;
     assert_eq!(rt; refusal, None);
-    assert_eq!(rt; ids(world, slot, first, second), (Some(0), Some(1)));
-    assert_eq!(rt; ids(world, slot, late, later), (None, None));
-    let maintained = world.maintain(100)?;
-    assert_eq!(rt;
-        (maintained.ran, maintained.refused, maintained.left),
-        (2, 0, 0)
-    );
-    assert!(rt; maintained.deleted.is_empty());
-    assert_eq!(rt; ids(world, slot, first, second), (Some(0), Some(1)));
-    assert_eq!(rt; ids(world, slot, late, later), (Some(2), Some(3)));
+    assert_eq!(rt; id_of(world, slot, first), Some(0));
+    assert_eq!(rt; id_of(world, slot, second), Some(1));
+    assert_eq!(rt; id_of(world, slot, late), None);
+    assert_eq!(rt; id_of(world, slot, later), None);
+    let told = maintained(world, 100)?;
+    assert_eq!(rt; (told.ran, told.refused, told.left), (2, 0, 0));
+    assert!(rt; told.deleted.is_empty());
+    assert_eq!(rt; id_of(world, slot, first), Some(0));
+    assert_eq!(rt; id_of(world, slot, second), Some(1));
+    assert_eq!(rt; id_of(world, slot, late), Some(2));
+    assert_eq!(rt; id_of(world, slot, later), Some(3));
     Ok(())
 }
 
@@ -78,16 +71,25 @@ fn are_marked<R: Abort, S: Storages<Value = SimpleMarker<Saved>>>(
 ) -> Result<(), Fail> {
     let (early, refusal) = built(world, slot).ok_or("a birth")?;
     assert_eq!(rt; refusal, Some(MarkError::Unregistered));
-    let maintained = world.maintain(0)?;
-    assert_eq!(rt; maintained.deleted.as_slice(), [early].as_slice());
-    assert!(rt; matches!(world.apply(Command::Register(slot)), Reply::Done));
+    assert!(rt; die(world, &[early]));
+    assert!(rt; is_done(world, Command::Register(slot)));
     are_marked_later(rt, world, slot)
 }
 
-/// The world is of these storages here alone.
+/// The same of a new world over these storages.
+fn are_marked_in_new<R: Abort, S: Storages<Value = SimpleMarker<Saved>> + Drop>(
+    rt: &R,
+    alloc: Global,
+    storages: S,
+    slot: S::Slot,
+) -> Result<(), Fail> {
+    let mut world = World::new(alloc, storages);
+    are_marked(rt, &mut world, slot)
+}
+
+/// The storages are named here alone: each call at storages of known types is slow to prove.
 fn told<R: Abort>(rt: &R, alloc: Global) -> Result<(), Fail> {
-    let mut world = World::new(alloc, Labels::new(alloc));
-    are_marked(rt, &mut world, Sole::Sole)
+    are_marked_in_new(rt, alloc, Labels::new(alloc), Sole::Sole)
 }
 
 #[test]

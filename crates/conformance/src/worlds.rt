@@ -1,43 +1,38 @@
 //! Worlds, by their calls.
-use crate::callers::born_in_a_phase;
-use crate::stories::{self, Sample, told};
-use slots::{Position, Tag};
-use specs::{Command, DeleteError, Entity, Refusal, Reply, SetExpr, Storages, World, value};
+use crate::callers::{born_in_a_phase, is_gone};
+use crate::calls::{
+    born, delete, die, does, entity, fresh, health, healths, is_there, lives, mark, position,
+    positions, raised, run, selects,
+};
+use crate::stories::{self, told};
+use composed::Empty;
+use slots::{Health, Position};
+use specs::{Command, DeleteError, Entity, Has, Refusal, Reply, SetExpr, Storages, World};
 use std::alloc::{AllocError, Global};
 use std::process::Abort;
 use std::test::Fail;
 
-fn entity(index: u32, generation: i32) -> Result<Entity, Fail> {
-    Ok(Entity::from_parts(index, generation).ok_or("a generation that is 0")?)
-}
-
-/// The entity that a birth at once gives.
-fn born<S: Storages>(world: &mut World<S>) -> Result<Entity, Fail> {
-    match world.apply(Command::Create) {
-        Reply::Entity(e) => Ok(e),
-        _ => Err("no birth".into()),
-    }
-}
-
 fn bears_again<R: Abort, S: Storages>(rt: &R, world: &mut World<S>) -> Result<(), Fail> {
-    let first = born(world)?;
-    assert_eq!(rt; first, entity(0, 1)?);
-    assert_eq!(rt; world.delete_entity(first), Ok(()));
-    assert!(rt; !world.is_alive(first));
-    assert_eq!(rt; born(world)?, entity(0, 2)?);
+    let (first, second) = (entity(0, 1)?, entity(0, 2)?);
+    assert_eq!(rt; born(world, Command::Create), Some(first));
+    assert!(rt; delete(world, first));
+    assert!(rt; !lives(world, first));
+    assert_eq!(rt; born(world, Command::Create), Some(second));
     Ok(())
 }
 
 /// Six commands, of which the last is refused.
-fn six<P, T, S: Sample<P, T>>(alloc: Global) -> Result<Vec<Command<S>>, Fail> {
-    let e = entity(0, 1)?;
+fn six<P, H, S: Has<Position, P> + Has<Health, H>>(
+    alloc: Global,
+    e: Entity,
+) -> Result<Vec<Command<S>>, AllocError> {
     let mut list = Vec::new(alloc);
-    list.push(Command::Register(S::pos()))?;
+    list.push(Command::Register(positions::<P, S>()))?;
     list.push(Command::Create)?;
-    list.push(Command::Insert(e, value::<_, S, _>(Position(5))))?;
-    list.push(Command::Select(SetExpr::Slot(S::pos())))?;
-    list.push(Command::Count(S::pos()))?;
-    list.push(Command::Get(S::tag(), e))?;
+    list.push(Command::Insert(e, position::<P, S>(5)))?;
+    list.push(Command::Select(SetExpr::Slot(positions::<P, S>())))?;
+    list.push(Command::Count(positions::<P, S>()))?;
+    list.push(Command::Get(healths::<H, S>(), e))?;
     Ok(list)
 }
 
@@ -51,12 +46,12 @@ fn are_the_six<R: Abort, V>(rt: &R, replies: &[Reply<V>]) {
     assert!(rt; matches!(&replies[5], Reply::Refused(Refusal::Unregistered)));
 }
 
-fn answers_six<R: Abort, P, T, S: Sample<P, T>>(
+fn answers_six<R: Abort, P, H, S: Has<Position, P> + Has<Health, H>>(
     rt: &R,
     alloc: Global,
     world: &mut World<S>,
 ) -> Result<(), Fail> {
-    let replies = world.run(six(alloc)?)?;
+    let replies = run(world, six(alloc, entity(0, 1)?)?)?;
     are_the_six(rt, replies.as_slice());
     Ok(())
 }
@@ -66,172 +61,168 @@ fn answers_nothing<R: Abort, S: Storages>(
     alloc: Global,
     world: &mut World<S>,
 ) -> Result<(), Fail> {
-    let replies = world.run(Vec::new(alloc))?;
+    let replies = run(world, Vec::new(alloc))?;
     assert!(rt; replies.is_empty());
     Ok(())
 }
 
-/// Whether a selection gives these indices.
-fn selects<S: Storages>(world: &World<S>, set: &SetExpr<S::Slot>, indices: &[u32]) -> bool {
-    match world.select(set) {
-        Ok(list) => list.as_slice() == indices,
-        Err(_) => false,
-    }
-}
-
-/// Two merged entities, of which the first has a position and both have a tag, and a pending one.
-fn populate<P, T, S: Sample<P, T>>(world: &mut World<S>) -> Result<(), Fail> {
+/// Two merged entities, of which the first has a position and both have a health, and a pending one.
+fn populate<P, H, S: Has<Position, P> + Has<Health, H>>(world: &mut World<S>) -> Result<(), Fail> {
     let (e, f) = (entity(0, 1)?, entity(1, 1)?);
-    let _ = world.apply(Command::Register(S::pos()));
-    let _ = world.apply(Command::Register(S::tag()));
-    let _ = world.apply(Command::Create);
-    let _ = world.apply(Command::Create);
-    let _ = world.apply(Command::CreatePending);
-    let _ = world.apply(Command::Insert(e, value::<_, S, _>(Position(5))));
-    let _ = world.apply(Command::Insert(e, value::<_, S, _>(Tag)));
-    let _ = world.apply(Command::Insert(f, value::<_, S, _>(Tag)));
+    let _ = does(world, Command::Register(positions::<P, S>()));
+    let _ = does(world, Command::Register(healths::<H, S>()));
+    let _ = does(world, Command::Create);
+    let _ = does(world, Command::Create);
+    let _ = does(world, Command::CreatePending);
+    let _ = does(world, Command::Insert(e, position::<P, S>(5)));
+    let _ = does(world, Command::Insert(e, health::<H, S>(6)));
+    let _ = does(world, Command::Insert(f, health::<H, S>(7)));
     Ok(())
 }
 
-fn refuses_positions<R: Abort, P, T, S: Sample<P, T>>(rt: &R, world: &World<S>) {
-    assert!(rt;
-        matches!(
-            world.select(&SetExpr::Slot(S::pos())),
-            Err(Refusal::Unregistered)
-        )
-    );
+/// Whether a selection is refused since a slot is not registered.
+fn is_unregistered<S: Storages>(world: &World<S>, set: &SetExpr<S::Slot>) -> bool {
+    matches!(world.select(set), Err(Refusal::Unregistered))
 }
 
-fn living_and_slots<R: Abort, P, T, S: Sample<P, T>>(
+fn refuses_positions<R: Abort, P, S: Has<Position, P>>(rt: &R, world: &World<S>) {
+    assert!(rt; is_unregistered(world, &SetExpr::Slot(positions::<P, S>())));
+}
+
+fn living_and_slots<R: Abort, P, H, S: Has<Position, P> + Has<Health, H>>(
     rt: &R,
     world: &mut World<S>,
 ) -> Result<(), Fail> {
     populate(world)?;
     assert!(rt; selects(world, &SetExpr::Living, &[0, 1, 2]));
-    assert!(rt; selects(world, &SetExpr::Slot(S::pos()), &[0]));
+    assert!(rt; selects(world, &SetExpr::Slot(positions::<P, S>()), &[0]));
     Ok(())
 }
 
 /// The sets of two slots.
 fn two_slots<K: Copy>(
     alloc: Global,
-    pos: K,
-    tag: K,
+    position: K,
+    health: K,
 ) -> Result<(Box<SetExpr<K>>, Box<SetExpr<K>>), AllocError> {
-    let pos = Box::new(alloc, SetExpr::Slot(pos))?;
-    let tag = Box::new(alloc, SetExpr::Slot(tag))?;
-    Ok((pos, tag))
+    let position = Box::new(alloc, SetExpr::Slot(position))?;
+    let health = Box::new(alloc, SetExpr::Slot(health))?;
+    Ok((position, health))
 }
 
-fn conjunction<K: Copy>(alloc: Global, pos: K, tag: K) -> Result<SetExpr<K>, AllocError> {
-    let (pos, tag) = two_slots(alloc, pos, tag)?;
-    Ok(SetExpr::And(pos, tag))
+fn conjunction<K: Copy>(alloc: Global, position: K, health: K) -> Result<SetExpr<K>, AllocError> {
+    let (position, health) = two_slots(alloc, position, health)?;
+    Ok(SetExpr::And(position, health))
 }
 
-fn disjunction<K: Copy>(alloc: Global, pos: K, tag: K) -> Result<SetExpr<K>, AllocError> {
-    let (pos, tag) = two_slots(alloc, pos, tag)?;
-    Ok(SetExpr::Or(pos, tag))
+fn disjunction<K: Copy>(alloc: Global, position: K, health: K) -> Result<SetExpr<K>, AllocError> {
+    let (position, health) = two_slots(alloc, position, health)?;
+    Ok(SetExpr::Or(position, health))
 }
 
-fn exclusive<K: Copy>(alloc: Global, pos: K, tag: K) -> Result<SetExpr<K>, AllocError> {
-    let (pos, tag) = two_slots(alloc, pos, tag)?;
-    Ok(SetExpr::Xor(pos, tag))
+fn exclusive<K: Copy>(alloc: Global, position: K, health: K) -> Result<SetExpr<K>, AllocError> {
+    let (position, health) = two_slots(alloc, position, health)?;
+    Ok(SetExpr::Xor(position, health))
 }
 
-/// What has no position, but a tag.
-fn complement<K: Copy>(alloc: Global, pos: K, tag: K) -> Result<SetExpr<K>, AllocError> {
-    let (pos, tag) = two_slots(alloc, pos, tag)?;
-    let bare = Box::new(alloc, SetExpr::Not(tag))?;
-    let either = Box::new(alloc, SetExpr::Or(pos, bare))?;
+/// What has no position, but a health.
+fn complement<K: Copy>(alloc: Global, position: K, health: K) -> Result<SetExpr<K>, AllocError> {
+    let (position, health) = two_slots(alloc, position, health)?;
+    let bare = Box::new(alloc, SetExpr::Not(health))?;
+    let either = Box::new(alloc, SetExpr::Or(position, bare))?;
     Ok(SetExpr::Not(either))
 }
 
-fn living_without_position<K: Copy>(alloc: Global, pos: K) -> Result<SetExpr<K>, AllocError> {
-    let pos = Box::new(alloc, SetExpr::Slot(pos))?;
+fn living_without_position<K: Copy>(alloc: Global, position: K) -> Result<SetExpr<K>, AllocError> {
+    let position = Box::new(alloc, SetExpr::Slot(position))?;
     let living = Box::new(alloc, SetExpr::Living)?;
-    Ok(SetExpr::Xor(living, pos))
+    Ok(SetExpr::Xor(living, position))
 }
 
-/// The first entity has both components, and the second the tag.
-fn selects_each<R: Abort, P, T, S: Sample<P, T>>(
+/// The first entity has both components, and the second the health.
+fn selects_each<R: Abort, P, H, S: Has<Position, P> + Has<Health, H>>(
     rt: &R,
     alloc: Global,
     world: &mut World<S>,
 ) -> Result<(), Fail> {
     populate(world)?;
-    let (pos, tag) = (S::pos(), S::tag());
-    assert!(rt; selects(world, &conjunction(alloc, pos, tag)?, &[0]), "and");
+    let (one, other) = (positions::<P, S>(), healths::<H, S>());
     assert!(rt;
-        selects(world, &disjunction(alloc, pos, tag)?, &[0, 1]),
+        selects(world, &conjunction(alloc, one, other)?, &[0]),
+        "and"
+    );
+    assert!(rt;
+        selects(world, &disjunction(alloc, one, other)?, &[0, 1]),
         "or"
     );
-    assert!(rt; selects(world, &exclusive(alloc, pos, tag)?, &[1]), "xor");
-    assert!(rt; selects(world, &complement(alloc, pos, tag)?, &[1]), "not");
+    assert!(rt; selects(world, &exclusive(alloc, one, other)?, &[1]), "xor");
     assert!(rt;
-        selects(world, &living_without_position(alloc, pos)?, &[1, 2]),
+        selects(world, &complement(alloc, one, other)?, &[1]),
+        "not"
+    );
+    assert!(rt;
+        selects(world, &living_without_position(alloc, one)?, &[1, 2]),
         "living"
     );
     Ok(())
+}
+
+/// The entity for which the deletion of a list is refused, and the generation that it should have.
+fn refused_for<S: Storages>(world: &mut World<S>, list: &[Entity]) -> Option<(Entity, i32)> {
+    match world.delete_entities(list) {
+        Err(DeleteError::WrongGeneration(wrong)) => Some((wrong.entity, wrong.actual_gen.id())),
+        _ => None,
+    }
+}
+
+/// Deletes a list, and answers whether it was not refused.
+fn delete_list<S: Storages>(world: &mut World<S>, list: &[Entity]) -> bool {
+    world.delete_entities(list).is_ok()
 }
 
 fn refuses_the_first_stale<R: Abort, S: Storages>(
     rt: &R,
     world: &mut World<S>,
 ) -> Result<(), Fail> {
-    let (e, f) = (born(world)?, born(world)?);
-    match world.delete_entities(&[e, f, e]) {
-        Err(DeleteError::WrongGeneration(wrong)) => {
-            assert_eq!(rt; wrong.entity, e);
-            assert_eq!(rt; wrong.actual_gen.id(), 1);
-        }
-        _ => return Err("it was not refused".into()),
-    }
-    assert!(rt; world.is_alive(e) && world.is_alive(f));
-    assert_eq!(rt; world.delete_entities(&[]), Ok(()));
+    let (e, f) = (entity(0, 1)?, entity(1, 1)?);
+    assert_eq!(rt; born(world, Command::Create), Some(e));
+    assert_eq!(rt; born(world, Command::Create), Some(f));
+    assert_eq!(rt; refused_for(world, &[e, f, e]), Some((e, 1)));
+    assert!(rt; lives(world, e));
+    assert!(rt; lives(world, f));
+    assert!(rt; delete_list(world, &[]));
     Ok(())
-}
-
-/// Whether maintaining a world tells these dead.
-fn maintains<S: Storages>(world: &mut World<S>, dead: &[Entity]) -> bool {
-    match world.maintain(0) {
-        Ok(maintained) => maintained.deleted.as_slice() == dead,
-        Err(_) => false,
-    }
-}
-
-/// An entity whose birth is pending.
-fn raised<S: Storages>(world: &mut World<S>) -> Result<Entity, Fail> {
-    let entities = &mut world.parts().core.parts().entities;
-    Ok(entities.create().ok().ok_or("a birth")?)
 }
 
 fn ends_at_maintain<R: Abort, S: Storages>(rt: &R, world: &mut World<S>) -> Result<(), Fail> {
     let e = raised(world)?;
-    assert!(rt; world.entities().is_alive(e) && !world.is_alive(e));
-    assert_eq!(rt; world.parts().core.parts().entities.delete(e), Ok(()));
-    assert!(rt; maintains(world, &[e]));
-    assert!(rt; !world.entities().is_alive(e));
+    assert!(rt; is_there(world, e));
+    assert!(rt; !lives(world, e));
+    assert!(rt; mark(world, e));
+    assert!(rt; die(world, &[e]));
+    assert!(rt; !is_there(world, e));
     let again = raised(world)?;
     assert_eq!(rt; again, entity(0, 2)?);
-    assert!(rt; maintains(world, &[]));
-    assert!(rt; world.is_alive(again));
+    assert!(rt; die(world, &[]));
+    assert!(rt; lives(world, again));
     Ok(())
 }
 
-fn takes_up_a_phase<R: Abort, P, T, S: Sample<P, T>>(
+fn takes_up_a_phase<R: Abort, P, H, S: Has<Position, P> + Has<Health, H>>(
     rt: &R,
     alloc: Global,
     world: &mut World<S>,
 ) -> Result<(), Fail> {
     populate(world)?;
-    let doomed = entity(1, 1)?;
-    let given = born_in_a_phase(alloc, world, doomed).ok_or("an entity, and a mark")?;
-    assert_eq!(rt; given, entity(3, 1)?);
-    assert!(rt; world.entities().is_alive(given) && S::is_gone(world, given));
-    assert!(rt; world.is_alive(doomed));
-    assert!(rt; maintains(world, &[doomed]));
-    assert!(rt; world.is_alive(given) && !world.is_alive(doomed));
-    assert!(rt; selects(world, &SetExpr::Slot(S::tag()), &[0]));
+    let (doomed, given) = (entity(1, 1)?, entity(3, 1)?);
+    assert_eq!(rt; born_in_a_phase(alloc, world, doomed), Some(given));
+    assert!(rt; is_there(world, given));
+    assert!(rt; is_gone(world, given));
+    assert!(rt; lives(world, doomed));
+    assert!(rt; die(world, &[doomed]));
+    assert!(rt; lives(world, given));
+    assert!(rt; !lives(world, doomed));
+    assert!(rt; selects(world, &SetExpr::Slot(healths::<H, S>()), &[0]));
     Ok(())
 }
 
@@ -249,7 +240,7 @@ pub enum Story {
     TakesUpAPhase,
 }
 
-fn tell<R: Abort, P, T, S: Sample<P, T>>(
+fn tell<R: Abort, P, H, S: Has<Position, P> + Has<Health, H>>(
     rt: &R,
     alloc: Global,
     story: Story,
@@ -272,12 +263,12 @@ fn tell<R: Abort, P, T, S: Sample<P, T>>(
 }
 
 /// Tells a story of a new world.
-pub fn tell_of_new<R: Abort, P, T, S: Sample<P, T> + Drop>(
+pub fn tell_of_new<R: Abort, P, H, S: Empty + Has<Position, P> + Has<Health, H> + Drop>(
     rt: &R,
     alloc: Global,
     story: Story,
 ) -> Result<(), Fail> {
-    let mut world = World::new(alloc, S::empty(alloc));
+    let mut world = fresh::<S, _>(alloc);
     tell(rt, alloc, story, &mut world)
 }
 

@@ -9,7 +9,9 @@ use saveload::{
     serialize, to_json,
 };
 use std::alloc::Global;
-use storages::{Component, MaskedStorage, ReadStorage, TryDefault, WriteStorage};
+use storages::{
+    Component, MaskedStorage, ReadStorage, TryDefault, UnprotectedStorage, WriteStorage,
+};
 
 /// What is saved.
 #[derive(Clone, Copy)]
@@ -22,7 +24,6 @@ type Name = SimpleMarker<Saved>;
 type Record = EntityData<Name, (Option<Name>,)>;
 
 /// A level: entities, with what is stored for them.
-#[derive(Drop)]
 struct Level {
     entities: EntitiesRes,
     leaders: MaskedStorage<Leader>,
@@ -30,8 +31,22 @@ struct Level {
     namer: SimpleMarkerAllocator<Saved>,
 }
 
+impl Drop for Level {
+    fn drop(self) {
+        let Level {
+            entities: _entities,
+            leaders: _leaders,
+            names: _names,
+            namer: _namer,
+        } = self;
+    }
+}
+
 /// A storage without components.
-fn empty<T: Component>(alloc: Global) -> Result<MaskedStorage<T>> {
+fn empty<T: Component>(alloc: Global) -> Result<MaskedStorage<T>>
+where
+    T::Storage: UnprotectedStorage<T> + TryDefault,
+{
     match T::Storage::try_default(alloc) {
         Ok(inner) => Ok(MaskedStorage::new(alloc, inner)),
         Err(_) => bail!("out of memory"),
@@ -50,10 +65,18 @@ impl Fresh for Level {
 }
 
 /// One to save, and one to load into.
-#[derive(Drop)]
 struct Levels {
     old: Level,
     new: Level,
+}
+
+impl Drop for Levels {
+    fn drop(self) {
+        let Levels {
+            old: _old,
+            new: _new,
+        } = self;
+    }
 }
 
 impl Fresh for Levels {

@@ -1,444 +1,350 @@
 //! Cursors, and what they write.
-use crate::cursor_walks::{
-    beside_one, counted, drained, drained_at, exchange, go_on, increase, raise_low, shown_and_lent,
-    sum_of_entries,
-};
-use crate::stories::{Story, TrackedStory, comes_true, defaults_come_true, is_told};
-use crate::worlds::{Numbered, World, first_at, put_all};
+use crate::stories::{Story, TrackedStory, told, told_of_defaults, told_of_tracked};
+use crate::worlds::first_at;
+use crate::yard::{Joined, Told, Viewed, Yard};
 use entities::Entity;
-use hibits::BitSetAll;
-use joins::{JoinIter, JoinLiving, JoinMut, Restrict, WriteJoin};
-use std::alloc::AllocError;
+use hibits::{BitSet, SetError};
+use std::alloc::Global;
+use std::process::Abort;
 use std::test::Fail;
+use storages::ComponentEvent;
 use storages::ComponentEvent::{Inserted, Modified, Removed};
-use storages::{
-    AntiStorage, Component, ComponentEvent, MaskedStorage, NotLent, ReaderId, Tracked, WriteStorage,
-};
 
-// The numbers of the indices 0 to 3.
-fn numbers_of<N: Numbered>(
-    numbers: &MaskedStorage<N>,
-) -> (Option<i32>, Option<i32>, Option<i32>, Option<i32>) {
-    (
-        number_of(numbers, 0),
-        number_of(numbers, 1),
-        number_of(numbers, 2),
-        number_of(numbers, 3),
-    )
+// Puts a number at each index of the first storage.
+fn put_first<R: Abort, Y: Yard>(rt: &R, yard: &mut Y, ids: &[u32], number: i32) {
+    for id in ids {
+        assert!(rt; yard.put_first(*id, (number, 0)));
+    }
 }
 
-// The number of an index.
-fn number_of<N: Numbered>(numbers: &MaskedStorage<N>, index: u32) -> Option<i32> {
-    match numbers.get(index) {
-        Some(found) => Some(found.number()),
+// The same of the second.
+fn put_second<R: Abort, Y: Yard>(rt: &R, yard: &mut Y, ids: &[u32], number: i32) {
+    for id in ids {
+        assert!(rt; yard.put_second(*id, (number, 0)));
+    }
+}
+
+// The first storage has these numbers at the indices from 0 on.
+fn are_first<R: Abort, Y: Yard>(rt: &R, yard: &Y, numbers: [Option<i32>; 4]) {
+    assert_eq!(rt; first_number(yard, 0), numbers[0]);
+    assert_eq!(rt; first_number(yard, 1), numbers[1]);
+    assert_eq!(rt; first_number(yard, 2), numbers[2]);
+    assert_eq!(rt; first_number(yard, 3), numbers[3]);
+}
+
+// The number of an index in the first storage.
+fn first_number<Y: Yard>(yard: &Y, id: u32) -> Option<i32> {
+    match yard.first(id) {
+        Some((number, _)) => Some(number),
+        None => None,
+    }
+}
+
+// The same of the second storage.
+fn second_number<Y: Yard>(yard: &Y, id: u32) -> Option<i32> {
+    match yard.second(id) {
+        Some((number, _)) => Some(number),
         None => None,
     }
 }
 
 /// Two positions of which one has a velocity go on.
-pub fn goes_on<P: Numbered, V: Numbered, C: Component>(
-    world: &mut World<P, V, C>,
-) -> Result<bool, Fail> {
-    let there = put_all(&mut world.first, [0, 1].as_slice(), P::of(3))
-        && put_all(&mut world.second, [0].as_slice(), V::of(5));
-    go_on(&mut world.first, &world.second);
-    Ok(there && numbers_of(&world.first) == (Some(8), Some(3), None, None))
+pub fn goes_on<R: Abort, Y: Yard>(rt: &R, yard: &mut Y) {
+    assert!(rt; yard.put_first(0, (0, 0)));
+    assert!(rt; yard.put_first(1, (0, 0)));
+    assert!(rt; yard.put_second(0, (5, 2)));
+    yard.go_on();
+    assert_eq!(rt; yard.first(0), Some((5, 2)));
+    assert_eq!(rt; yard.first(1), Some((0, 0)));
+    assert_eq!(rt; yard.first(2), None);
+    yard.go_on();
+    assert_eq!(rt; yard.first(0), Some((10, 4)));
+    assert_eq!(rt; yard.second(0), Some((5, 2)));
 }
 
 #[test]
 fn positions_go_on_where_there_is_a_velocity(rt: HostRuntime) -> Result<(), Fail> {
-    assert!(rt; comes_true(rt.alloc(), 2, Story::GoesOn)?);
-    Ok(())
+    told(&rt, rt.alloc(), 2, Story::GoesOn)
 }
 
 /// Ten components, of which none stands beside its absence.
-pub fn is_never_absent<T: Numbered, B: Component, C: Component>(
-    world: &mut World<T, B, C>,
-) -> Result<bool, Fail> {
-    let there = put_all(
-        &mut world.first,
-        [0, 1, 2, 3, 4, 5, 6, 7, 8, 9].as_slice(),
-        T::of(0),
-    );
-    let storage = &world.first;
-    Ok(there && counted(storage) == 10 && counted((storage, AntiStorage(storage.mask()))) == 0)
+pub fn is_never_absent<R: Abort, Y: Yard>(rt: &R, yard: &mut Y) {
+    put_first(rt, yard, &[0, 1, 2, 3, 4, 5, 6, 7, 8, 9], 0);
+    assert_eq!(rt; yard.count_first(), 10);
+    assert_eq!(rt; yard.count_beside_absence(), 0);
 }
 
 #[test]
 fn vec_test_anti(rt: HostRuntime) -> Result<(), Fail> {
-    assert!(rt; comes_true(rt.alloc(), 0, Story::NeverAbsent)?);
-    Ok(())
+    told(&rt, rt.alloc(), 0, Story::NeverAbsent)
 }
 
 #[test]
 fn default_vec_test_anti(rt: HostRuntime) -> Result<(), Fail> {
-    assert!(rt; defaults_come_true(rt.alloc(), 0, Story::NeverAbsent)?);
-    Ok(())
-}
-
-// Three positions.
-fn three_there<P: Numbered>(positions: &mut MaskedStorage<P>) -> bool {
-    put_all(positions, [1, 2, 4].as_slice(), P::of(7))
+    told_of_defaults(&rt, rt.alloc(), 0, Story::NeverAbsent)
 }
 
 /// Of three positions one is taken, once.
-pub fn one_is_taken<P: Numbered, V: Numbered, C: Component>(
-    world: &mut World<P, V, C>,
-) -> Result<bool, Fail> {
-    let there = three_there(&mut world.first);
-    let (list, once) = drained_at(world.alloc, &mut world.first, 2)?;
-    Ok(
-        there
-            && once
-            && list.as_slice() == [1, 2, 4].as_slice()
-            && world.first.contains(1)
-            && !world.first.contains(2)
-            && world.first.contains(4),
-    )
+pub fn one_is_taken<R: Abort, Y: Yard>(rt: &R, alloc: Global, yard: &mut Y) -> Result<(), Fail> {
+    put_first(rt, yard, &[1, 2, 4], 7);
+    let (list, once) = yard.drain_at(alloc, 2)?;
+    assert!(rt; once);
+    assert_eq!(rt; list.as_slice(), [1, 2, 4].as_slice());
+    assert_eq!(rt; first_number(yard, 1), Some(7));
+    assert_eq!(rt; first_number(yard, 2), None);
+    assert_eq!(rt; first_number(yard, 4), Some(7));
+    Ok(())
 }
 
 #[test]
 fn a_drain_takes_what_it_is_asked_for(rt: HostRuntime) -> Result<(), Fail> {
-    assert!(rt; comes_true(rt.alloc(), 0, Story::OneIsTaken)?);
-    Ok(())
+    told(&rt, rt.alloc(), 0, Story::OneIsTaken)
 }
 
 /// Three positions are taken beside their entities.
-pub fn all_are_taken<P: Numbered, V: Numbered, C: Component>(
-    world: &mut World<P, V, C>,
-) -> Result<bool, Fail> {
-    let there = three_there(&mut world.first);
-    let list = drained(world.alloc, &mut world.first, &world.entities)?;
-    Ok(there && are(&list, [(1, 1), (2, 1), (4, 1)].as_slice()) && counted(&world.first) == 0)
-}
-
-// Whether entities have these indices and generations.
-fn are(list: &[Entity], wanted: &[(u32, i32)]) -> bool {
-    let mut same = list.len() == wanted.len();
-    for (entity, parts) in list.iter().zip(wanted) {
-        same = same && Entity::from_parts(parts.0, parts.1) == Some(*entity);
-    }
-    same
+pub fn all_are_taken<R: Abort, Y: Yard>(rt: &R, alloc: Global, yard: &mut Y) -> Result<(), Fail> {
+    put_first(rt, yard, &[1, 2, 4], 7);
+    let list = yard.drain(alloc)?;
+    let wanted = [first_at(1)?, first_at(2)?, first_at(4)?];
+    assert_eq!(rt; list.as_slice(), wanted.as_slice());
+    assert_eq!(rt; yard.count_first(), 0);
+    Ok(())
 }
 
 #[test]
 fn basic_drain(rt: HostRuntime) -> Result<(), Fail> {
-    assert!(rt; comes_true(rt.alloc(), 5, Story::AllAreTaken)?);
+    told(&rt, rt.alloc(), 5, Story::AllAreTaken)
+}
+
+/// Of four entities the last dies; all but the first are chosen, and the second has a number. The numbers of the chosen are counted up to 10, and
+/// from 0 again.
+pub fn chosen_are_counted<R: Abort, Y: Yard>(rt: &R, yard: &mut Y) -> Result<(), Fail> {
+    assert!(rt; yard.kill(first_at(3)?));
+    put_first(rt, yard, &[1], 8);
+    put_second(rt, yard, &[1, 2, 3], 0);
+    assert!(rt; yard.increase(10));
+    are_first(rt, yard, [None, Some(9), Some(1), None]);
+    assert!(rt; yard.increase(10));
+    are_first(rt, yard, [None, Some(0), Some(2), None]);
     Ok(())
-}
-
-// Of four entities the last dies; all but the first are chosen, and the second has a number.
-fn chosen_are_there<N: Numbered, B: Numbered, C: Component>(
-    world: &mut World<N, B, C>,
-) -> Result<bool, Fail> {
-    let dead = first_at(3)?;
-    Ok(
-        world.entities.alloc_mut().kill(&[dead]).is_ok()
-            && put_all(&mut world.first, [1].as_slice(), N::of(8))
-            && put_all(&mut world.second, [1, 2, 3].as_slice(), B::of(0)),
-    )
-}
-
-/// The numbers of the chosen are counted up to 10, and from 0 again.
-pub fn chosen_are_counted<N: Numbered, B: Numbered, C: Component>(
-    world: &mut World<N, B, C>,
-) -> Result<bool, Fail> {
-    let there = chosen_are_there(world)?;
-    increase(&world.entities, &mut world.first, &world.second, 10)?;
-    let once = numbers_of(&world.first) == (None, Some(9), Some(1), None);
-    increase(&world.entities, &mut world.first, &world.second, 10)?;
-    let twice = numbers_of(&world.first) == (None, Some(0), Some(2), None);
-    Ok(there && once && twice)
 }
 
 #[test]
 fn entries_are_those_of_the_living(rt: HostRuntime) -> Result<(), Fail> {
-    assert!(rt; comes_true(rt.alloc(), 4, Story::ChosenAreCounted)?);
-    Ok(())
+    told(&rt, rt.alloc(), 4, Story::ChosenAreCounted)
+}
+
+// Each index below a count gets its own number.
+fn number_each<R: Abort, Y: Yard>(rt: &R, yard: &mut Y, count: u32) {
+    let mut number = 0;
+    for id in 0..count {
+        assert!(rt; yard.put_first(id, (number, 0)));
+        number = number.wrapping_add(1);
+    }
 }
 
 /// The sum of the numbers of 30 entities, of which the first 15 have their indices, and the others get 2.
-pub fn numbers_are_summed<N: Numbered, B: Numbered, C: Component>(
-    world: &mut World<N, B, C>,
-) -> Result<bool, Fail> {
-    let mut number = 0;
-    for index in 0..15u32 {
-        if world.first.put(index, N::of(number)).is_err() {
-            return Ok(false);
-        }
-        number = number.wrapping_add(1);
-    }
-    Ok(sum_of_entries(&world.entities, &mut world.first, N::of(2))? == 135)
+pub fn numbers_are_summed<R: Abort, Y: Yard>(rt: &R, yard: &mut Y) -> Result<(), Fail> {
+    number_each(rt, yard, 15);
+    assert_eq!(rt; yard.sum(2)?, 135);
+    Ok(())
 }
 
 #[test]
 fn entries(rt: HostRuntime) -> Result<(), Fail> {
-    assert!(rt; comes_true(rt.alloc(), 30, Story::NumbersAreSummed)?);
-    Ok(())
+    told(&rt, rt.alloc(), 30, Story::NumbersAreSummed)
 }
 
-/// Three positions are shown, and lent the same.
-pub fn are_shown_and_lent<P: Numbered, V: Numbered, C: Component>(
-    world: &mut World<P, V, C>,
-) -> Result<bool, Fail> {
-    let there = put_all(&mut world.first, [0, 3].as_slice(), P::of(10))
-        && put_all(&mut world.first, [2].as_slice(), P::of(12));
-    let list = shown_and_lent(world.alloc, &world.entities, &mut world.first)?.ok_or("another")?;
-    Ok(there && list.as_slice() == [10, 12, 10].as_slice())
+/// Fifty numbers, each another, are shown once each, and lent the same.
+pub fn are_shown_and_lent<R: Abort, Y: Yard>(
+    rt: &R,
+    alloc: Global,
+    yard: &mut Y,
+) -> Result<(), Fail> {
+    number_each(rt, yard, 50);
+    let list = yard.shown_and_lent(alloc)?.ok_or("another")?;
+    let mut wanted = 0;
+    for number in list.as_slice() {
+        assert_eq!(rt; *number, wanted);
+        wanted = wanted.wrapping_add(1);
+    }
+    assert_eq!(rt; wanted, 50);
+    Ok(())
 }
 
 #[test]
 fn restricted_storage(rt: HostRuntime) -> Result<(), Fail> {
-    assert!(rt; comes_true(rt.alloc(), 4, Story::ShownAndLent)?);
-    Ok(())
-}
-
-// What is shown of the entity of an index beside two positions.
-fn shown_beside<P: Numbered, V: Numbered, C: Component>(
-    world: &World<P, V, C>,
-    index: u32,
-) -> Result<Vec<(i32, i32)>, Fail> {
-    let one = first_at(index)?;
-    Ok(beside_one(world.alloc, &world.entities, &world.first, one)?)
+    told(&rt, rt.alloc(), 50, Story::ShownAndLent)
 }
 
 /// Another is shown where it has a position.
-pub fn others_are_shown<P: Numbered, V: Numbered, C: Component>(
-    world: &mut World<P, V, C>,
-) -> Result<bool, Fail> {
-    let there = put_all(&mut world.first, [0, 3].as_slice(), P::of(10));
-    let some = shown_beside(world, 3)?;
-    let none = shown_beside(world, 1)?;
-    Ok(
-        there
-            && some.as_slice() == [(10, 10), (10, 10)].as_slice()
-            && none.as_slice() == [(10, -1), (10, -1)].as_slice(),
-    )
+pub fn others_are_shown<R: Abort, Y: Yard>(
+    rt: &R,
+    alloc: Global,
+    yard: &mut Y,
+) -> Result<(), Fail> {
+    put_first(rt, yard, &[0], 10);
+    put_first(rt, yard, &[3], 13);
+    let some = yard.beside_one(alloc, first_at(3)?)?;
+    assert_eq!(rt; some.as_slice(), [(10, 13), (13, 13)].as_slice());
+    let none = yard.beside_one(alloc, first_at(1)?)?;
+    assert_eq!(rt; none.as_slice(), [(10, -1), (13, -1)].as_slice());
+    Ok(())
 }
 
 #[test]
 fn a_restricted_storage_shows_others(rt: HostRuntime) -> Result<(), Fail> {
-    assert!(rt; comes_true(rt.alloc(), 4, Story::OthersAreShown)?);
-    Ok(())
+    told(&rt, rt.alloc(), 4, Story::OthersAreShown)
 }
 
 /// Of three positions and two velocities those of the third are exchanged.
-pub fn are_exchanged<P: Numbered, V: Numbered, C: Numbered>(
-    world: &mut World<P, V, C>,
-) -> Result<bool, Fail> {
-    let there = put_all(&mut world.first, [0, 1, 2].as_slice(), P::of(1))
-        && put_all(&mut world.second, [0, 2].as_slice(), V::of(3))
-        && put_all(&mut world.chosen, [1, 2].as_slice(), C::of(0));
-    exchange(&mut world.first, &mut world.second, &world.chosen);
-    Ok(
-        there
-            && numbers_of(&world.first) == (Some(1), Some(1), Some(3), None)
-            && numbers_of(&world.second) == (Some(3), None, Some(1), None),
-    )
+pub fn are_exchanged<R: Abort, Y: Yard>(rt: &R, yard: &mut Y) {
+    put_first(rt, yard, &[0, 1, 2], 1);
+    put_second(rt, yard, &[0, 2], 3);
+    assert!(rt; yard.choose(1));
+    assert!(rt; yard.choose(2));
+    yard.exchange();
+    are_first(rt, yard, [Some(1), Some(1), Some(3), None]);
+    assert_eq!(rt; second_number(yard, 0), Some(3));
+    assert_eq!(rt; second_number(yard, 1), None);
+    assert_eq!(rt; second_number(yard, 2), Some(1));
 }
 
 #[test]
 fn two_storages_are_exchanged(rt: HostRuntime) -> Result<(), Fail> {
-    assert!(rt; comes_true(rt.alloc(), 3, Story::Exchanged)?);
-    Ok(())
+    told(&rt, rt.alloc(), 3, Story::Exchanged)
 }
 
-// A cursor before its first index, at it, and past its last.
-fn stands_nowhere<P: Numbered, V: Numbered>(
-    cursor: &mut WriteJoin<'_, P, &MaskedStorage<V>>,
-) -> bool {
-    matches!(cursor.item(), Err(NotLent::Absent))
-        && cursor.beside().is_none()
-        && cursor.next() == Some(1)
-        && cursor.beside().is_some()
-        && cursor.beside().is_none()
-        && cursor.item().is_ok()
-        && cursor.item().is_ok()
-        && cursor.next().is_none()
-        && matches!(cursor.item(), Err(NotLent::Absent))
-        && cursor.beside().is_none()
-        && cursor.next().is_none()
+/// A cursor, by its calls.
+pub trait Cursor {
+    /// The next index.
+    fn step(&mut self) -> Option<u32>;
+
+    /// Whether something stands beside the component.
+    fn is_beside(&mut self) -> bool;
+
+    /// Whether it lends the component.
+    fn lends(&mut self) -> bool;
+
+    /// Whether it lends none since none is there.
+    fn lacks(&mut self) -> bool;
+}
+
+/// A cursor before its first index, at it, and past its last.
+pub fn stands_nowhere<R: Abort, K: Cursor>(rt: &R, cursor: &mut K) {
+    assert!(rt; cursor.lacks());
+    assert!(rt; !cursor.is_beside());
+    assert_eq!(rt; cursor.step(), Some(1));
+    assert!(rt; cursor.is_beside());
+    assert!(rt; !cursor.is_beside());
+    assert!(rt; cursor.lends());
+    assert!(rt; cursor.lends());
+    assert_eq!(rt; cursor.step(), None);
+    assert!(rt; cursor.lacks());
+    assert!(rt; !cursor.is_beside());
+    assert_eq!(rt; cursor.step(), None);
 }
 
 /// A cursor over two, of which both have the second alone.
-pub fn lends_only_where_it_stands<P: Numbered, V: Numbered, C: Component>(
-    world: &mut World<P, V, C>,
-) -> Result<bool, Fail> {
-    Ok(
-        put_all(&mut world.first, [0, 1].as_slice(), P::of(1))
-            && put_all(&mut world.second, [1, 2].as_slice(), V::of(3))
-            && stands_nowhere(&mut world.first.join_mut(&world.second)),
-    )
+pub fn lends_only_where_it_stands<R: Abort, Y: Yard>(rt: &R, yard: &mut Y) {
+    put_first(rt, yard, &[0, 1], 1);
+    put_second(rt, yard, &[1, 2], 3);
+    yard.tell_of_cursor(rt);
 }
 
 #[test]
 fn a_cursor_lends_nothing_where_it_does_not_stand(rt: HostRuntime) -> Result<(), Fail> {
-    assert!(rt; comes_true(rt.alloc(), 3, Story::LendsWhereItStands)?);
-    Ok(())
+    told(&rt, rt.alloc(), 3, Story::LendsWhereItStands)
 }
 
 // Whether the first reader reads just these events.
-fn reads<N: Numbered>(numbers: &mut MaskedStorage<N>, wanted: &[ComponentEvent]) -> bool
-where
-    N::Storage: Tracked<N>,
-{
-    match numbers.read(&ReaderId::of(0)) {
-        Ok(events) => events.as_slice() == wanted,
-        Err(_) => false,
+fn reads<Y: Told>(yard: &mut Y, wanted: &[ComponentEvent]) -> bool {
+    match yard.events() {
+        Some(events) => events.as_slice() == wanted,
+        None => false,
     }
 }
 
 // The numbers 1, 6 and 2 at the indices 0 to 2.
-fn three_numbers<N: Numbered>(numbers: &mut MaskedStorage<N>) -> bool {
-    put_all(numbers, [0].as_slice(), N::of(1))
-        && put_all(numbers, [1].as_slice(), N::of(6))
-        && put_all(numbers, [2].as_slice(), N::of(2))
+fn put_three<R: Abort, Y: Yard>(rt: &R, yard: &mut Y) {
+    put_first(rt, yard, &[0], 1);
+    put_first(rt, yard, &[1], 6);
+    put_first(rt, yard, &[2], 2);
 }
 
 /// The low ones of three numbers are raised, and told.
-pub fn low_ones_are_told<N: Numbered, B: Numbered, C: Component>(
-    world: &mut World<N, B, C>,
-) -> Result<bool, Fail>
-where
-    N::Storage: Tracked<N>,
-{
-    let there = three_numbers(&mut world.first) && world.first.register_reader().is_ok();
-    raise_low(&world.entities, &mut world.first, 5);
-    Ok(
-        there
-            && reads(&mut world.first, [Modified(0), Modified(2)].as_slice())
-            && numbers_of(&world.first) == (Some(2), Some(6), Some(3), None),
-    )
+pub fn low_ones_are_told<R: Abort, Y: Told>(rt: &R, yard: &mut Y) {
+    put_three(rt, yard);
+    assert!(rt; yard.listen());
+    yard.raise_low(5);
+    assert!(rt; reads(yard, &[Modified(0), Modified(2)]));
+    are_first(rt, yard, [Some(2), Some(6), Some(3), None]);
 }
 
 #[test]
 fn a_restricted_storage_tells_what_was_written(rt: HostRuntime) -> Result<(), Fail> {
-    assert!(rt; is_told(rt.alloc(), 4, TrackedStory::LowOnesAreTold)?);
-    Ok(())
-}
-
-// The number that a drain gives.
-fn taken<N: Numbered>(item: Result<Option<N>, AllocError>) -> Option<i32> {
-    match item {
-        Ok(Some(found)) => Some(found.number()),
-        _ => None,
-    }
-}
-
-// Of two numbers the second is taken out.
-fn second_is_taken<N: Numbered>(numbers: &mut MaskedStorage<N>) -> bool {
-    let mut cursor = numbers.drain();
-    cursor.next() == Some(0) && cursor.next() == Some(1) && taken(cursor.item()) == Some(7)
+    told_of_tracked(&rt, rt.alloc(), 4, TrackedStory::LowOnesAreTold)
 }
 
 /// An entry, a write and a removal by cursors.
-pub fn all_are_told<N: Numbered, B: Numbered, C: Component>(
-    world: &mut World<N, B, C>,
-) -> Result<bool, Fail>
-where
-    N::Storage: Tracked<N>,
-{
-    let there = put_all(&mut world.first, [1].as_slice(), N::of(6))
-        && put_all(&mut world.second, [0, 1].as_slice(), B::of(0))
-        && world.first.register_reader().is_ok();
-    increase(&world.entities, &mut world.first, &world.second, 10)?;
-    Ok(
-        there
-            && reads(
-                &mut world.first,
-                [Inserted(0), Modified(0), Modified(1)].as_slice(),
-            )
-            && second_is_taken(&mut world.first)
-            && reads(&mut world.first, [Removed(1)].as_slice()),
-    )
+pub fn all_are_told<R: Abort, Y: Told>(rt: &R, yard: &mut Y) {
+    put_first(rt, yard, &[1], 6);
+    put_second(rt, yard, &[0, 1], 0);
+    assert!(rt; yard.listen());
+    assert!(rt; yard.increase(10));
+    assert!(rt; reads(yard, &[Inserted(0), Modified(0), Modified(1)]));
+    assert_eq!(rt; yard.take_next(), (Some(0), Some(1), Some(7)));
+    assert!(rt; reads(yard, &[Removed(1)]));
 }
 
 #[test]
 fn cursors_tell_their_events(rt: HostRuntime) -> Result<(), Fail> {
-    assert!(rt; is_told(rt.alloc(), 4, TrackedStory::AllAreTold)?);
+    told_of_tracked(&rt, rt.alloc(), 4, TrackedStory::AllAreTold)
+}
+
+// The indices that were modified.
+fn modified(alloc: Global, events: &[ComponentEvent]) -> Result<BitSet, SetError> {
+    let mut set = BitSet::new(alloc);
+    for event in events {
+        if let Modified(id) = *event {
+            set.add(id)?;
+        }
+    }
+    Ok(set)
+}
+
+/// What was told of is joined with the storage.
+pub fn told_are_joined<R: Abort, Y: Told>(rt: &R, alloc: Global, yard: &mut Y) -> Result<(), Fail> {
+    put_three(rt, yard);
+    assert!(rt; yard.listen());
+    yard.raise_low(5);
+    let events = yard.events().ok_or("no reader")?;
+    let set = modified(alloc, events.as_slice())?;
+    assert_eq!(rt; set.count(), 2);
+    assert_eq!(rt; yard.sum_at(&set), 5);
     Ok(())
 }
 
-// Through a view: the position beside the first velocity is written to.
-fn written_through_a_view<P: Numbered, V: Numbered>(
-    view: &mut WriteStorage<'_, P>,
-    velocities: &MaskedStorage<V>,
-) -> Option<u32> {
-    let mut cursor = view.join_mut(velocities);
-    let found = cursor.next();
-    match cursor.item() {
-        Ok(position) => *position = P::of(9),
-        Err(_) => return None,
-    }
-    found
-}
-
-// Through a view: the first position is taken out.
-fn taken_through_a_view<P: Numbered>(view: &mut WriteStorage<'_, P>) -> (Option<u32>, Option<i32>) {
-    let mut cursor = view.drain();
-    let other = cursor.next();
-    (other, taken(cursor.item()))
-}
-
-// Through a view: a position is lent, and another taken out.
-fn through_a_view<P: Numbered, V: Numbered>(
-    view: &mut WriteStorage<'_, P>,
-    velocities: &MaskedStorage<V>,
-) -> bool {
-    written_through_a_view(view, velocities) == Some(1)
-        && taken_through_a_view(view) == (Some(0), Some(1))
-}
-
-// Through a view: the place of the first of the living.
-fn first_place_of_a_view<P: Numbered>(view: &mut WriteStorage<'_, P>) -> bool {
-    let mut cursor = view.entries();
-    cursor.next() == Some(0) && cursor.item().is_ok()
-}
-
-// Through a view: a look at another's position, which is lent too.
-fn looks_through_a_view<P: Numbered>(view: &mut WriteStorage<'_, P>, one: Entity) -> bool {
-    let mut cursor = view.restrict_mut().join_with(BitSetAll);
-    cursor.next() == Some(1) && cursor.get(one).is_some() && cursor.get_mut(one).is_ok()
-}
-
-// Through a view: a position is shown.
-fn shows_through_a_view<P: Numbered>(view: &WriteStorage<'_, P>) -> bool {
-    let restricted = view.restrict();
-    let mut iter = JoinIter::new(&restricted);
-    iter.next().is_some()
-}
-
-// Through a view: the places of the living, and a look at another's position.
-fn places_of_a_view<P: Numbered>(view: &mut WriteStorage<'_, P>, one: Entity) -> bool {
-    first_place_of_a_view(view) && looks_through_a_view(view, one) && shows_through_a_view(view)
-}
-
-// The number of an entity.
-fn number_at<P: Numbered>(view: &WriteStorage<'_, P>, one: Entity) -> Option<i32> {
-    match view.get(one) {
-        Some(found) => Some(found.number()),
-        None => None,
-    }
+#[test]
+fn what_was_told_is_joined(rt: HostRuntime) -> Result<(), Fail> {
+    told_of_tracked(&rt, rt.alloc(), 4, TrackedStory::ToldAreJoined)
 }
 
 /// The cursors of a view of two positions, of which the second has a velocity.
-pub fn by_a_view<P: Numbered, V: Numbered, C: Component>(
-    world: &mut World<P, V, C>,
-) -> Result<bool, Fail> {
+pub fn by_a_view<R: Abort, Y: Viewed>(rt: &R, yard: &mut Y) -> Result<(), Fail> {
     let one = first_at(1)?;
-    let there = put_all(&mut world.first, [0, 1].as_slice(), P::of(1))
-        && put_all(&mut world.second, [1].as_slice(), V::of(3));
-    let mut view = WriteStorage::new(&world.entities, &mut world.first);
-    Ok(
-        there
-            && through_a_view(&mut view, &world.second)
-            && places_of_a_view(&mut view, one)
-            && number_at(&view, one) == Some(9),
-    )
+    put_first(rt, yard, &[0, 1], 1);
+    put_second(rt, yard, &[1], 3);
+    assert_eq!(rt; yard.write(9), Some(1));
+    assert_eq!(rt; yard.take(), (Some(0), Some(1)));
+    assert_eq!(rt; yard.place(), Some(0));
+    assert_eq!(rt; yard.look(one), (Some(1), true, true));
+    assert_eq!(rt; yard.show(), Some(9));
+    assert_eq!(rt; yard.at(one), Some(9));
+    Ok(())
 }
 
 #[test]
 fn cursors_of_views(rt: HostRuntime) -> Result<(), Fail> {
-    assert!(rt; comes_true(rt.alloc(), 2, Story::ByAView)?);
-    Ok(())
+    told(&rt, rt.alloc(), 2, Story::ByAView)
 }

@@ -12,8 +12,14 @@ mod getting_tests;
 #[cfg(test)]
 mod join_tests;
 #[cfg(test)]
+mod joined_calls;
+#[cfg(test)]
 mod stories;
 #[cfg(test)]
 mod walks;
 #[cfg(test)]
 mod worlds;
+#[cfg(test)]
+mod yard;
+#[cfg(test)]
+mod yard_calls;

@@ -4,25 +4,36 @@ use std::alloc::Global;
 use std::test::Fail;
 use storages::{
     Component, DefaultVecStorage, DenseVecStorage, FlaggedStorage, MaskedStorage, TryDefault,
-    VecStorage,
+    UnprotectedStorage, VecStorage,
 };
 
-/// A component that is a number.
+/// A component of two numbers.
 pub trait Numbered: Component + Copy + Drop {
-    /// The component of a number.
-    fn of(number: i32) -> Self;
+    /// The component of two numbers.
+    fn of(number: i32, other: i32) -> Self;
 
-    /// The number.
+    /// The first number.
     fn number(self) -> i32;
 
-    /// Adds, past the greatest number from the least on.
-    fn add(&mut self, number: i32);
+    /// The other.
+    fn other(self) -> i32;
+}
+
+/// Adds to both numbers, past the greatest from the least on.
+pub fn add<N: Numbered>(place: &mut N, number: i32, other: i32) {
+    let before = *place;
+    *place = N::of(
+        before.number().wrapping_add(number),
+        before.other().wrapping_add(other),
+    );
 }
 
 /// Where an entity is.
 #[derive(Clone, Copy, Default)]
 pub struct Position(
-    /// The number.
+    /// The first number.
+    pub i32,
+    /// The other.
     pub i32,
 );
 
@@ -31,23 +42,25 @@ impl Component for Position {
 }
 
 impl Numbered for Position {
-    fn of(number: i32) -> Self {
-        Position(number)
+    fn of(number: i32, other: i32) -> Self {
+        Position(number, other)
     }
 
     fn number(self) -> i32 {
         self.0
     }
 
-    fn add(&mut self, number: i32) {
-        self.0 = self.0.wrapping_add(number);
+    fn other(self) -> i32 {
+        self.1
     }
 }
 
 /// How fast an entity goes.
 #[derive(Clone, Copy, Default)]
 pub struct Velocity(
-    /// The number.
+    /// The first number.
+    pub i32,
+    /// The other.
     pub i32,
 );
 
@@ -56,23 +69,25 @@ impl Component for Velocity {
 }
 
 impl Numbered for Velocity {
-    fn of(number: i32) -> Self {
-        Velocity(number)
+    fn of(number: i32, other: i32) -> Self {
+        Velocity(number, other)
     }
 
     fn number(self) -> i32 {
         self.0
     }
 
-    fn add(&mut self, number: i32) {
-        self.0 = self.0.wrapping_add(number);
+    fn other(self) -> i32 {
+        self.1
     }
 }
 
-/// A number whose changes are told.
+/// Numbers whose changes are told.
 #[derive(Clone, Copy, Default)]
 pub struct Number(
-    /// The number.
+    /// The first number.
+    pub i32,
+    /// The other.
     pub i32,
 );
 
@@ -81,23 +96,25 @@ impl Component for Number {
 }
 
 impl Numbered for Number {
-    fn of(number: i32) -> Self {
-        Number(number)
+    fn of(number: i32, other: i32) -> Self {
+        Number(number, other)
     }
 
     fn number(self) -> i32 {
         self.0
     }
 
-    fn add(&mut self, number: i32) {
-        self.0 = self.0.wrapping_add(number);
+    fn other(self) -> i32 {
+        self.1
     }
 }
 
 /// A place in a row.
 #[derive(Clone, Copy, Default)]
 pub struct Place(
-    /// The number.
+    /// The first number.
+    pub i32,
+    /// The other.
     pub i32,
 );
 
@@ -106,44 +123,21 @@ impl Component for Place {
 }
 
 impl Numbered for Place {
-    fn of(number: i32) -> Self {
-        Place(number)
+    fn of(number: i32, other: i32) -> Self {
+        Place(number, other)
     }
 
     fn number(self) -> i32 {
         self.0
     }
 
-    fn add(&mut self, number: i32) {
-        self.0 = self.0.wrapping_add(number);
+    fn other(self) -> i32 {
+        self.1
     }
 }
 
-/// What begins with nothing in it. Two of them are made by one function that does not know their types: a function that owns storages is slow
-/// to prove.
-trait Fresh: Sized {
-    /// It, as it begins.
-    fn fresh(alloc: Global) -> Result<Self, Fail>;
-}
-
-impl<T: Component> Fresh for MaskedStorage<T> {
-    fn fresh(alloc: Global) -> Result<Self, Fail> {
-        Ok(MaskedStorage::new(alloc, T::Storage::try_default(alloc)?))
-    }
-}
-
-impl<A: Fresh + Drop, B: Fresh> Fresh for (A, B) {
-    fn fresh(alloc: Global) -> Result<Self, Fail> {
-        let first = A::fresh(alloc)?;
-        Ok((first, B::fresh(alloc)?))
-    }
-}
-
-/// Entities, and storages of two components.
-#[derive(Drop)]
+/// Entities, and storages of two components, and of one more for those that are chosen.
 pub struct World<A: Component, B: Component, C: Component> {
-    /// Where lists get their memory.
-    pub alloc: Global,
     /// The entities.
     pub entities: EntitiesRes,
     /// A storage.
@@ -154,43 +148,54 @@ pub struct World<A: Component, B: Component, C: Component> {
     pub chosen: MaskedStorage<C>,
 }
 
-impl<A: Component, B: Component, C: Component> World<A, B, C> {
-    /// Nobody lives, and there is no component.
-    pub fn new(alloc: Global) -> Result<Self, Fail> {
-        let ((first, second), chosen) = Fresh::fresh(alloc)?;
-        Ok(World {
-            alloc,
-            entities: EntitiesRes::new(alloc),
-            first,
-            second,
-            chosen,
-        })
+impl<A: Component, B: Component, C: Component> Drop for World<A, B, C> {
+    fn drop(self) {
+        let World {
+            entities: _entities,
+            first: _first,
+            second: _second,
+            chosen: _chosen,
+        } = self;
     }
+}
 
-    /// So many are born, from index 0 on.
-    pub fn populate(&mut self, count: u32) -> Result<(), Fail> {
-        for _ in 0..count {
-            self.entities.create().ok().ok_or("no entity")?;
-        }
-        Ok(())
+/// A storage without components.
+fn empty<T: Component>(alloc: Global) -> Result<MaskedStorage<T>, Fail>
+where
+    T::Storage: UnprotectedStorage<T> + TryDefault,
+{
+    Ok(MaskedStorage::new(alloc, T::Storage::try_default(alloc)?))
+}
+
+/// Nobody lives, and there is no component.
+pub fn new_world<A: Component, B: Component, C: Component>(
+    alloc: Global,
+) -> Result<World<A, B, C>, Fail>
+where
+    A::Storage: UnprotectedStorage<A> + TryDefault,
+    B::Storage: UnprotectedStorage<B> + TryDefault,
+    C::Storage: UnprotectedStorage<C> + TryDefault,
+{
+    let first = empty(alloc)?;
+    let second = empty(alloc)?;
+    let chosen = empty(alloc)?;
+    Ok(World {
+        entities: EntitiesRes::new(alloc),
+        first,
+        second,
+        chosen,
+    })
+}
+
+/// So many are born, from index 0 on.
+pub fn populate(entities: &mut EntitiesRes, count: u32) -> Result<(), Fail> {
+    for _ in 0..count {
+        entities.create().ok().ok_or("no entity")?;
     }
+    Ok(())
 }
 
 /// The entity of an index that was born once.
 pub fn first_at(index: u32) -> Result<Entity, Fail> {
     Ok(Entity::from_parts(index, 1).ok_or("no entity")?)
-}
-
-/// Puts a component at each of some indices, and says whether that succeeded.
-pub fn put_all<T: Component + Copy + Drop>(
-    storage: &mut MaskedStorage<T>,
-    indices: &[u32],
-    value: T,
-) -> bool {
-    for index in indices {
-        if *index >= 16777216 || storage.put(*index, value).is_err() {
-            return false;
-        }
-    }
-    true
 }

@@ -1,13 +1,15 @@
 //! Components for the tests, and storages of them. A function that owns a storage of a known type is slow to prove, so the tests do not know
 //! their components' types.
+ghost use Rattle.std.specs.Prelude.{◌≡◌, refl};
+
 use joins::{Lookup, RepeatableJoin};
 use joins_parallel::ParJoin;
 use std::alloc::{Alloc, AllocError, Global};
 use std::test::Fail;
 use std::thread::Threads;
 use storages::{
-    Component, DefaultVecStorage, DenseVecStorage, FlaggedStorage, MaskedStorage, TryDefault,
-    VecStorage,
+    Component, DefaultVecStorage, DenseVecStorage, FlaggedStorage, MaskedStorage, NullComponent,
+    NullStorage, TryDefault, UnprotectedStorage, VecStorage,
 };
 
 /// A component that is one value.
@@ -152,13 +154,49 @@ impl OfPlace for Lying {
     }
 }
 
+/// A component without data.
+#[derive(Clone, Copy, Default)]
+pub struct Flag;
+
+impl NullComponent for Flag {
+    ghost all_equal = { λ a b. refl };
+}
+
+impl Component for Flag {
+    type Storage = NullStorage<Self>;
+}
+
+impl Valued for Flag {
+    type Value = u8;
+
+    fn new(_value: u8) -> Self {
+        Flag
+    }
+
+    fn value(&self) -> u8 {
+        0
+    }
+}
+
+impl OfPlace for Flag {
+    fn of(_place: u32) -> Self {
+        Flag
+    }
+}
+
 // A storage without components.
-fn empty<T: Component>(alloc: Global) -> Result<MaskedStorage<T>, Fail> {
+fn empty<T: Component>(alloc: Global) -> Result<MaskedStorage<T>, Fail>
+where
+    T::Storage: UnprotectedStorage<T> + TryDefault,
+{
     Ok(MaskedStorage::new(alloc, T::Storage::try_default(alloc)?))
 }
 
 /// A storage with components at so many indices, each a step from the one before.
-pub fn filled<T: OfPlace>(alloc: Global, count: u32, step: u32) -> Result<MaskedStorage<T>, Fail> {
+pub fn filled<T: OfPlace>(alloc: Global, count: u32, step: u32) -> Result<MaskedStorage<T>, Fail>
+where
+    T::Storage: UnprotectedStorage<T> + TryDefault,
+{
     let mut storage = empty(alloc)?;
     for place in 0..count {
         let id = place.saturating_mul(step);
@@ -170,7 +208,10 @@ pub fn filled<T: OfPlace>(alloc: Global, count: u32, step: u32) -> Result<Masked
 }
 
 /// A storage with components of these values, from index 0 on.
-pub fn listed<T: Valued>(alloc: Global, values: &[T::Value]) -> Result<MaskedStorage<T>, Fail> {
+pub fn listed<T: Valued>(alloc: Global, values: &[T::Value]) -> Result<MaskedStorage<T>, Fail>
+where
+    T::Storage: UnprotectedStorage<T> + TryDefault,
+{
     let mut storage = empty(alloc)?;
     let mut id: u32 = 0;
     for value in values {

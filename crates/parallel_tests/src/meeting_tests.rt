@@ -4,7 +4,7 @@ use std::alloc::{Alloc, AllocError, Global};
 use std::sync::atomic::{AtomicU64, Ordering};
 use std::test::Fail;
 use std::thread::Threads;
-use storages::MaskedStorage;
+use storages::{MaskedStorage, UnprotectedStorage};
 
 // How many turns the first call waits at most.
 const MOST_TURNS: u32 = 100_000_000;
@@ -32,7 +32,7 @@ fn calls<T: Valued<Value = u64> + Sync>(
     flag: &AtomicU64,
 ) -> Result<Vec<bool>, AllocError>
 where
-    T::Storage: Sync,
+    T::Storage: UnprotectedStorage<T> + Sync,
 {
     mapped(rt, storage, |component: &T| -> bool {
         meet(flag, component.value())

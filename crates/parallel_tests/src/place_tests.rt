@@ -5,7 +5,7 @@ use joins_parallel::par_for_each;
 use std::alloc::{Alloc, Global};
 use std::test::Fail;
 use std::thread::Threads;
-use storages::MaskedStorage;
+use storages::{MaskedStorage, UnprotectedStorage};
 
 // Adds the multiples of a step, so many, to a set, and says whether that succeeded.
 fn add_multiples(set: &mut BitSet, count: u32, step: u32) -> bool {
@@ -41,7 +41,10 @@ fn wanted(place: u32) -> Option<u64> {
 }
 
 // What stands at a place.
-fn found<T: Valued<Value = u64>>(storage: &MaskedStorage<T>, place: u32) -> Option<u64> {
+fn found<T: Valued<Value = u64>>(storage: &MaskedStorage<T>, place: u32) -> Option<u64>
+where
+    T::Storage: UnprotectedStorage<T>,
+{
     match storage.get(place) {
         Some(component) => Some(component.value()),
         None => None,
@@ -49,7 +52,10 @@ fn found<T: Valued<Value = u64>>(storage: &MaskedStorage<T>, place: u32) -> Opti
 }
 
 // How many of the first places have what they must.
-fn right_places<T: Valued<Value = u64>>(storage: &MaskedStorage<T>, count: u32) -> u32 {
+fn right_places<T: Valued<Value = u64>>(storage: &MaskedStorage<T>, count: u32) -> u32
+where
+    T::Storage: UnprotectedStorage<T>,
+{
     let mut right: u32 = 0;
     for place in 0..count {
         if found(storage, place) == wanted(place) {

@@ -7,7 +7,7 @@ use std::alloc::{Alloc, Global};
 use std::test::Fail;
 use std::thread::Threads;
 use storages::ComponentEvent::Modified;
-use storages::{ComponentEvent, MaskedStorage, ReaderId, Tracked};
+use storages::{ComponentEvent, MaskedStorage, ReaderId, Tracked, UnprotectedStorage};
 
 // Ten times an odd number, and nothing for an even one.
 fn ten_times_odd<T: Valued<Value = u64>>(component: &T) -> Option<T> {
@@ -20,7 +20,10 @@ fn ten_times_odd<T: Valued<Value = u64>>(component: &T) -> Option<T> {
 }
 
 // What stands at the first three indices.
-fn three<T: Valued<Value = u64>>(storage: &MaskedStorage<T>) -> Option<(u64, u64, u64)> {
+fn three<T: Valued<Value = u64>>(storage: &MaskedStorage<T>) -> Option<(u64, u64, u64)>
+where
+    T::Storage: UnprotectedStorage<T>,
+{
     match (storage.get(0), storage.get(1), storage.get(2)) {
         (Some(a), Some(b), Some(c)) => Some((a.value(), b.value(), c.value())),
         _ => None,
@@ -33,7 +36,7 @@ fn update<T: Valued<Value = u64> + Send + Sync>(
     storage: &mut MaskedStorage<T>,
 ) -> bool
 where
-    T::Storage: Sync,
+    T::Storage: UnprotectedStorage<T> + Sync,
 {
     let made = |told: &T, _index: u32| -> Option<T> { ten_times_odd(told) };
     par_update(rt, storage, BitSetAll, made).is_ok()
@@ -62,7 +65,10 @@ where
 #[derive(Drop)]
 struct TenTimesOdd;
 
-impl<T: Valued<Value = u64>> Remake<T, u32> for TenTimesOdd {
+impl<T: Valued<Value = u64>> Remake<T, u32> for TenTimesOdd
+where
+    T::Storage: UnprotectedStorage<T>,
+{
     ghost makes = { λ _ _ _ _. Unit {0} };
 
     fn remake(&self, paired: &IndexedStorage<'_, T>, _index: u32) -> Option<T>

@@ -1,6 +1,6 @@
 //! The tests of parallel joins that specs has, over values.
 use crate::components::{
-    CompBool, CompInt, Number, OfPlace, Valued, all_true, filled, listed, mapped,
+    CompBool, CompInt, Flag, Number, OfPlace, Valued, all_true, filled, listed, mapped,
 };
 use entities::{EntitiesRes, Entity};
 use hibits::BitSetAll;
@@ -9,7 +9,7 @@ use joins_parallel::{ParJoin, Remake, par_restrict_mut, par_update};
 use std::alloc::{Alloc, AllocError, Global};
 use std::test::Fail;
 use std::thread::Threads;
-use storages::MaskedStorage;
+use storages::{MaskedStorage, TryDefault, UnprotectedStorage};
 
 // What a join of both gives.
 fn both<I: Valued<Value = i8> + Sync, B: Valued<Value = bool> + Sync>(
@@ -18,8 +18,8 @@ fn both<I: Valued<Value = i8> + Sync, B: Valued<Value = bool> + Sync>(
     bools: &MaskedStorage<B>,
 ) -> Result<Vec<(i8, bool)>, AllocError>
 where
-    I::Storage: Sync,
-    B::Storage: Sync,
+    I::Storage: UnprotectedStorage<I> + Sync,
+    B::Storage: UnprotectedStorage<B> + Sync,
 {
     mapped(rt, (ints, bools), |pair: (&I, &B)| -> (i8, bool) {
         (pair.0.value(), pair.1.value())
@@ -31,8 +31,8 @@ fn two_are_joined<I: Valued<Value = i8> + Sync, B: Valued<Value = bool> + Sync>(
     rt: &(impl Threads + Alloc<A = Global> + Sync),
 ) -> Result<bool, Fail>
 where
-    I::Storage: Sync,
-    B::Storage: Sync,
+    I::Storage: UnprotectedStorage<I> + TryDefault + Sync,
+    B::Storage: UnprotectedStorage<B> + TryDefault + Sync,
 {
     let ints = listed::<I>(rt.alloc(), &[1, 2, 3])?;
     let bools = listed::<B>(rt.alloc(), &[false, true])?;
@@ -53,8 +53,8 @@ fn with_maybe<I: Valued<Value = i8> + Sync, B: Valued<Value = bool> + Sync>(
     bools: &MaskedStorage<B>,
 ) -> Result<Vec<(i8, u8)>, AllocError>
 where
-    I::Storage: Sync,
-    B::Storage: Sync,
+    I::Storage: UnprotectedStorage<I> + Sync,
+    B::Storage: UnprotectedStorage<B> + Sync,
 {
     mapped(
         rt,
@@ -73,8 +73,8 @@ fn three_are_joined<I: Valued<Value = i8> + Sync, B: Valued<Value = bool> + Sync
     rt: &(impl Threads + Alloc<A = Global> + Sync),
 ) -> Result<bool, Fail>
 where
-    I::Storage: Sync,
-    B::Storage: Sync,
+    I::Storage: UnprotectedStorage<I> + TryDefault + Sync,
+    B::Storage: UnprotectedStorage<B> + TryDefault + Sync,
 {
     let ints = listed::<I>(rt.alloc(), &[1, 2, 3])?;
     let bools = listed::<B>(rt.alloc(), &[false, true])?;
@@ -95,7 +95,7 @@ fn add_one<T: Valued<Value = i8> + Send + Sync>(
     entities: &EntitiesRes,
 ) -> bool
 where
-    T::Storage: Sync,
+    T::Storage: UnprotectedStorage<T> + Sync,
 {
     let made = |int: &T, _entity: Entity| -> Option<T> {
         Some(T::new(int.value().wrapping_add(1)))
@@ -111,7 +111,7 @@ fn add_often<T: Valued<Value = i8> + Send + Sync>(
     count: u32,
 ) -> bool
 where
-    T::Storage: Sync,
+    T::Storage: UnprotectedStorage<T> + Sync,
 {
     let mut done = true;
     for _ in 0..count {
@@ -127,7 +127,7 @@ fn are_highest<T: Valued<Value = i8> + Sync>(
     entities: &EntitiesRes,
 ) -> Result<Vec<bool>, AllocError>
 where
-    T::Storage: Sync,
+    T::Storage: UnprotectedStorage<T> + Sync,
 {
     mapped(rt, (ints, entities), |pair: (&T, Entity)| -> bool {
         pair.0.value() == 127
@@ -167,7 +167,7 @@ fn numbers_are_counted<E: Birthplace, T: OfPlace + Valued<Value = i8> + Send + S
     rt: &(impl Threads + Alloc<A = Global> + Sync),
 ) -> Result<bool, Fail>
 where
-    T::Storage: Sync,
+    T::Storage: UnprotectedStorage<T> + TryDefault + Sync,
 {
     let mut ints = filled::<T>(rt.alloc(), 1000, 1)?;
     let mut birthplace = E::new(rt.alloc());
@@ -189,14 +189,19 @@ fn par_join_many_entities_and_systems(rt: HostRuntime) -> Result<(), Fail> {
 #[derive(Drop)]
 struct HundredMore;
 
-impl<T: Valued<Value = u64>> Remake<T, u32> for HundredMore {
+impl<T: Valued<Value = u64>> Remake<T, u32> for HundredMore
+where
+    T::Storage: UnprotectedStorage<T>,
+{
     ghost makes = { λ _ _ _ _. Unit {0} };
 
     fn remake(&self, paired: &IndexedStorage<'_, T>, index: u32) -> Option<T>
         ensures { Unit {0} }
     {
-        if paired.index() == index {
-            Some(T::new(paired.get_unchecked().value().wrapping_add(100)))
+        let once = paired.get_unchecked().value();
+        let again = paired.get_unchecked().value();
+        if once == again && paired.index() == index {
+            Some(T::new(once.wrapping_add(100)))
         } else {
             None
         }
@@ -209,7 +214,7 @@ fn are_more<T: Valued<Value = u64> + Sync>(
     storage: &MaskedStorage<T>,
 ) -> Result<Vec<bool>, AllocError>
 where
-    T::Storage: Sync,
+    T::Storage: UnprotectedStorage<T> + Sync,
 {
     mapped(rt, (storage, BitSetAll), |pair: (&T, u32)| -> bool {
         pair.0.value() == u64::from(pair.1).wrapping_add(100)
@@ -221,7 +226,7 @@ fn fifty_become_more<T: OfPlace + Valued<Value = u64> + Send + Sync>(
     rt: &(impl Threads + Alloc<A = Global> + Sync),
 ) -> Result<bool, Fail>
 where
-    T::Storage: Sync,
+    T::Storage: UnprotectedStorage<T> + TryDefault + Sync,
 {
     let mut storage = filled::<T>(rt.alloc(), 50, 1)?;
     Ok(
@@ -236,16 +241,19 @@ fn par_restricted_storage(rt: HostRuntime) -> Result<(), Fail> {
     Ok(())
 }
 
-// How many members the mask of fifty numbers has.
+// How many members the mask of fifty components without data has.
 fn members_of_mask<T: OfPlace>(
     rt: &(impl Threads + Alloc<A = Global> + Sync),
-) -> Result<usize, Fail> {
+) -> Result<usize, Fail>
+where
+    T::Storage: UnprotectedStorage<T> + TryDefault,
+{
     let storage = filled::<T>(rt.alloc(), 50, 1)?;
     Ok(storage.mask().par_join().count(rt)?)
 }
 
 #[test]
 fn par_storage_mask(rt: HostRuntime) -> Result<(), Fail> {
-    assert_eq!(rt; members_of_mask::<Number>(&rt)?, 50);
+    assert_eq!(rt; members_of_mask::<Flag>(&rt)?, 50);
     Ok(())
 }

@@ -11,7 +11,7 @@ ghost use Rattle.storages.specs.Life.{is_alive};
 ghost use Rattle.storages.specs.Slot.{IsSame};
 ghost use Rattle.storages.specs.WriteView.{slot, entities_of, found, storage_name};
 
-use crate::worlds::{Told, comes_true, empty};
+use crate::worlds::{Told, comes_true, empty, living};
 use entities::{EntitiesRes, Entity};
 use saveload::{MarkError, Marker, MarkerAllocator};
 use std::alloc::{AllocError, Global};
@@ -49,10 +49,18 @@ impl Marker for NetMarker {
 }
 
 /// Gives the numbers from 0 on, and forgets none.
-#[derive(Drop)]
 struct NetNode {
     next: u128,
     mapping: HashMap<u64, Entity>,
+}
+
+impl Drop for NetNode {
+    fn drop(self) {
+        let NetNode {
+            next: _next,
+            mapping: _mapping,
+        } = self;
+    }
 }
 
 impl MarkerAllocator<NetMarker> for NetNode {
@@ -168,22 +176,28 @@ impl MarkerAllocator<NetMarker> for NetNode {
 }
 
 /// Entities with such markers.
-#[derive(Drop)]
 struct Net {
     entities: EntitiesRes,
     markers: MaskedStorage<NetMarker>,
     node: NetNode,
 }
 
+impl Drop for Net {
+    fn drop(self) {
+        let Net {
+            entities: _entities,
+            markers: _markers,
+            node: _node,
+        } = self;
+    }
+}
+
 impl Told for Net {
     fn with_entities(alloc: Global, count: u32) -> Result<Self, Fail> {
-        let mut entities = EntitiesRes::new(alloc);
-        for _ in 0..count {
-            entities.create().ok().ok_or("no entity")?;
-        }
+        let markers = empty(alloc)?;
         Ok(Net {
-            entities,
-            markers: empty(alloc)?,
+            entities: living(alloc, count)?,
+            markers,
             node: NetNode {
                 next: 0,
                 mapping: HashMap::new(alloc),

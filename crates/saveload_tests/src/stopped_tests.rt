@@ -14,10 +14,18 @@ use storages::{MaskedStorage, WriteStorage};
 type Standing = EntityData<NetMarker, (Option<Position>, Option<Level>)>;
 
 // A world with levels.
-#[derive(Drop)]
 struct Leveled {
     world: World,
     levels: MaskedStorage<Level>,
+}
+
+impl Drop for Leveled {
+    fn drop(self) {
+        let Leveled {
+            world: _world,
+            levels: _levels,
+        } = self;
+    }
 }
 
 impl Told for Leveled {

@@ -3,7 +3,7 @@ ghost use Rattle.std.specs.Prelude.{◌≡◌, ℕ, ◌+◌, ◌%◌, ◌^◌};
 ghost use Rattle.rand_core.specs.Steps.{stream_of, steps_u32};
 
 use crate::components::Position;
-use crate::worlds::{Told, comes_true, empty};
+use crate::worlds::{Told, comes_true, empty, living};
 use entities::{EntitiesRes, Entity};
 use rand_core::utils::NextWord;
 use rand_core::{Rng, utils};
@@ -57,13 +57,24 @@ type Saved = EntityData<Label, (Option<u64>,)>;
 type Placed = EntityData<Label, (Option<Position>,)>;
 
 /// Entities, with their positions and labels.
-#[derive(Drop)]
 struct Labelled {
     alloc: Global,
     entities: EntitiesRes,
     positions: MaskedStorage<Position>,
     labels: MaskedStorage<Label>,
     allocator: UuidMarkerAllocator<Adding>,
+}
+
+impl Drop for Labelled {
+    fn drop(self) {
+        let Labelled {
+            alloc: _alloc,
+            entities: _entities,
+            positions: _positions,
+            labels: _labels,
+            allocator: _allocator,
+        } = self;
+    }
 }
 
 // A generator, from a word on.
@@ -73,25 +84,31 @@ fn generator(word: u32, more: u32) -> Adding {
 
 impl Told for Labelled {
     fn with_entities(alloc: Global, count: u32) -> Result<Self, Fail> {
-        let mut entities = EntitiesRes::new(alloc);
-        for _ in 0..count {
-            entities.create().ok().ok_or("no entity")?;
-        }
+        let positions = empty(alloc)?;
+        let labels = empty(alloc)?;
         Ok(Labelled {
             alloc,
-            entities,
-            positions: empty(alloc)?,
-            labels: empty(alloc)?,
+            entities: living(alloc, count)?,
+            positions,
+            labels,
             allocator: UuidMarkerAllocator::new(alloc, generator(0x1234_5678, 0)),
         })
     }
 }
 
 /// Entities from which some are saved, and those to which they are loaded.
-#[derive(Drop)]
 struct Reloaded {
     old: Labelled,
     new: Labelled,
+}
+
+impl Drop for Reloaded {
+    fn drop(self) {
+        let Reloaded {
+            old: _old,
+            new: _new,
+        } = self;
+    }
 }
 
 impl Told for Reloaded {

@@ -8,7 +8,9 @@ use saveload::{
 };
 use std::alloc::Global;
 use std::test::Fail;
-use storages::{Component, MaskedStorage, ReadStorage, TryDefault, WriteStorage};
+use storages::{
+    Component, MaskedStorage, ReadStorage, TryDefault, UnprotectedStorage, WriteStorage,
+};
 
 /// A kind of markers.
 #[derive(Clone, Copy)]
@@ -24,7 +26,6 @@ pub type SavedPair = (Option<Position>, Option<NetMarker>);
 pub type Record = EntityData<NetMarker, SavedPair>;
 
 /// Entities, with what is stored for them.
-#[derive(Drop)]
 pub struct World {
     /// Where lists get their memory.
     pub alloc: Global,
@@ -40,13 +41,34 @@ pub struct World {
     pub allocator: SimpleMarkerAllocator<NetworkSync>,
 }
 
+impl Drop for World {
+    fn drop(self) {
+        let World {
+            alloc: _alloc,
+            entities: _entities,
+            positions: _positions,
+            links: _links,
+            markers: _markers,
+            allocator: _allocator,
+        } = self;
+    }
+}
+
 /// A world from which entities are saved, and one into which they are loaded.
-#[derive(Drop)]
 pub struct Worlds {
     /// The first.
     pub old: World,
     /// The other.
     pub new: World,
+}
+
+impl Drop for Worlds {
+    fn drop(self) {
+        let Worlds {
+            old: _old,
+            new: _new,
+        } = self;
+    }
 }
 
 /// What a story can be told of.
@@ -56,22 +78,39 @@ pub trait Told: Sized {
 }
 
 /// A storage without components.
-pub fn empty<T: Component>(alloc: Global) -> Result<MaskedStorage<T>, Fail> {
+pub fn empty<T: Component>(alloc: Global) -> Result<MaskedStorage<T>, Fail>
+where
+    T::Storage: UnprotectedStorage<T> + TryDefault,
+{
     Ok(MaskedStorage::new(alloc, T::Storage::try_default(alloc)?))
+}
+
+/// So many living entities, from index 0 on.
+pub fn living(alloc: Global, count: u32) -> Result<EntitiesRes, Fail> {
+    let mut entities = EntitiesRes::new(alloc);
+    populate(&mut entities, count)?;
+    Ok(entities)
+}
+
+/// So many are born.
+fn populate(entities: &mut EntitiesRes, count: u32) -> Result<(), Fail> {
+    for _ in 0..count {
+        entities.create().ok().ok_or("no entity")?;
+    }
+    Ok(())
 }
 
 impl Told for World {
     fn with_entities(alloc: Global, count: u32) -> Result<Self, Fail> {
-        let mut entities = EntitiesRes::new(alloc);
-        for _ in 0..count {
-            entities.create().ok().ok_or("no entity")?;
-        }
+        let positions = empty(alloc)?;
+        let links = empty(alloc)?;
+        let markers = empty(alloc)?;
         Ok(World {
             alloc,
-            entities,
-            positions: empty(alloc)?,
-            links: empty(alloc)?,
-            markers: empty(alloc)?,
+            entities: living(alloc, count)?,
+            positions,
+            links,
+            markers,
             allocator: SimpleMarkerAllocator::new(alloc),
         })
     }

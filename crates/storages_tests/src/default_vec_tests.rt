@@ -1,84 +1,92 @@
 //! The vector with default values.
-use crate::components::{InDefaultVec, Number};
-use crate::kinds::{are, fill, number_in, put_all, take_out};
-use crate::world::{World, empty};
+use crate::kinds::{fill, put_all};
+use crate::numbers::{InDefaultVec, Number};
+use crate::shelf::{Placed, Sliced};
+use crate::world::{new_world, populate};
 use entities::Entity;
 use std::alloc::{AllocError, Global};
+use std::process::Abort;
 use std::test::Fail;
-use storages::{MaskedStorage, SliceAccess, SliceAccessMut};
+use storages::{SliceAccessMut, TryDefault};
 
-// Whether each place has the number of its entity, its index and `more`.
-fn are_at_places<T: Number>(values: &[T], list: &[Entity], more: u32) -> bool {
-    for (value, e) in values.iter().zip(list) {
-        if value.number() != e.id().wrapping_add(more) {
-            return false;
-        }
+/// The index of each entity, and `more`.
+pub fn indices(alloc: Global, list: &[Entity], more: u32) -> Result<Vec<u32>, AllocError> {
+    let mut numbers = Vec::new(alloc);
+    for e in list {
+        numbers.push(e.id().wrapping_add(more))?;
     }
-    values.len() == list.len()
+    Ok(numbers)
 }
 
 // A thousand lie at the places of their entities.
-fn lie_at_places<T: Number>(alloc: Global) -> Result<bool, Fail>
-where
-    T::Storage: SliceAccess<T, Element = T>,
-{
-    let mut world = World::<T>::of(alloc, 1000)?;
-    let (mut view, list) = world.parts();
-    Ok(
-        list.len() == 1000
-            && fill(&mut view, list, 2718)
-            && are_at_places(view.as_slice(), list, 2718),
-    )
-}
-
-#[test]
-fn default_vec_test_slice_access(rt: HostRuntime) -> Result<(), Fail> {
-    assert!(rt; lie_at_places::<InDefaultVec>(rt.alloc())?);
+fn lie_at_places<R: Abort, S: Sliced>(
+    rt: &R,
+    alloc: Global,
+    shelf: &mut S,
+    list: &[Entity],
+) -> Result<(), Fail> {
+    assert_eq!(rt; list.len(), 1000);
+    fill(rt, shelf, list, 2718);
+    let numbers = indices(alloc, list, 2718)?;
+    assert!(rt; shelf.shows_slice(numbers.as_slice()));
     Ok(())
 }
 
 // The places that no component uses have the default value.
-fn unused_are_zero<T: Number>(masked: &mut MaskedStorage<T>) -> Result<bool, AllocError>
-where
-    T::Storage: SliceAccess<T, Element = T>,
-{
-    let filled = put_all(masked, &[(1, 1), (3, 3)]) && are(masked.as_slice(), &[0, 1, 0, 3]);
-    let taken = take_out(masked, 3) == Some(3) && are(masked.as_slice(), &[0, 1, 0, 0]);
-    masked.clear()?;
-    Ok(filled && taken && are(masked.as_slice(), &[]))
-}
-
-// Five more at each place.
-fn add_five<T: Number>(values: &mut [T]) {
-    for value in values {
-        value.add(5);
-    }
+fn unused_are_zero<R: Abort, S: Placed>(rt: &R, shelf: &mut S) {
+    put_all(rt, shelf, &[(1, 1), (3, 3)]);
+    assert!(rt; shelf.has_slice(&[0, 1, 0, 3]));
+    assert_eq!(rt; shelf.take_out(3), Some(3));
+    assert!(rt; shelf.has_slice(&[0, 1, 0, 0]));
+    assert!(rt; shelf.clear_all());
+    assert!(rt; shelf.has_slice(&[]));
 }
 
 // What is written to the slice is found at the indices, and nowhere else.
-fn five_more_at_each_place<T: Number>(masked: &mut MaskedStorage<T>) -> bool
-where
-    T::Storage: SliceAccessMut<T>,
-{
-    let filled = put_all(masked, &[(1, 1), (3, 3)]);
-    add_five(masked.as_mut_slice());
-    filled
-        && are(masked.as_slice(), &[5, 6, 5, 8])
-        && number_in(masked, 3) == Some(8)
-        && number_in(masked, 2).is_none()
+fn five_more_at_each_place<R: Abort, S: Placed>(rt: &R, shelf: &mut S) {
+    put_all(rt, shelf, &[(1, 1), (3, 3)]);
+    shelf.add_to_slice(5);
+    assert!(rt; shelf.has_slice(&[5, 6, 5, 8]));
+    assert_eq!(rt; shelf.number_in(3), Some(8));
+    assert_eq!(rt; shelf.number_in(2), None);
 }
 
-// The places without a component, and what is written to the slice after `clear`.
-fn defaults<T: Number>(alloc: Global) -> Result<bool, Fail>
+// The places of a thousand entities, or else those without a component, and what is written to the slice after `clear`.
+fn tell<R: Abort, S: Placed>(
+    rt: &R,
+    alloc: Global,
+    shelf: &mut S,
+    list: &[Entity],
+) -> Result<(), Fail> {
+    if !list.is_empty() {
+        return lie_at_places(rt, alloc, shelf, list);
+    }
+    unused_are_zero(rt, shelf);
+    five_more_at_each_place(rt, shelf);
+    Ok(())
+}
+
+// The same of a new storage and so many entities.
+fn tell_of_new<R: Abort, T: Number>(rt: &R, alloc: Global, count: u32) -> Result<(), Fail>
 where
-    T::Storage: SliceAccessMut<T>,
+    T::Storage: SliceAccessMut<T> + TryDefault,
 {
-    let mut masked = empty::<T>(alloc)?;
-    Ok(unused_are_zero(&mut masked)? && five_more_at_each_place(&mut masked))
+    let mut world = new_world::<T>(alloc)?;
+    let list = populate(alloc, &mut world.entities, count)?;
+    tell(rt, alloc, &mut world, list.as_slice())
+}
+
+// The type stands here alone.
+fn told<R: Abort>(rt: &R, alloc: Global, count: u32) -> Result<(), Fail> {
+    tell_of_new::<R, InDefaultVec>(rt, alloc, count)
+}
+
+#[test]
+fn default_vec_test_slice_access(rt: HostRuntime) -> Result<(), Fail> {
+    told(&rt, rt.alloc(), 1000)
 }
 
 #[test]
 fn default_vec_test_defaults(rt: HostRuntime) -> Result<(), Fail> {
-    assert!(rt; defaults::<InDefaultVec>(rt.alloc())?);
-    Ok(())
+    told(&rt, rt.alloc(), 0)
 }

@@ -1,102 +1,66 @@
 //! Events of storages that tell of each change.
-use crate::components::{Flagged, InFlagged, Number};
-use crate::kinds::{add_at, all_tests, fill, put, take};
-use crate::world::World;
+use crate::kinds::fill;
+use crate::numbers::{InFlagged, Number};
+use crate::shelf::{Sorted, Told};
+use crate::stories::{OF_EACH_KIND, in_flagged, in_flagged_dense};
+use crate::world::{new_world, populate};
 use entities::Entity;
-use hibits::BitSet;
+use hibits::{BitSet, SetError};
 use std::alloc::{AllocError, Global};
+use std::process::Abort;
 use std::test::Fail;
 use storages::ComponentEvent::{Inserted, Modified, Removed};
-use storages::{
-    Component, ComponentEvent, EventChannel, ReaderId, StorageEntry, Tracked, UnknownReader,
-    WriteStorage,
-};
+use storages::{ComponentEvent, EventChannel, ReaderId, Tracked, TryDefault};
 
 // Whether the reader of a number reads just these events.
-fn reads<T: Component>(
-    view: &mut WriteStorage<'_, T>,
-    number: u64,
-    wanted: &[ComponentEvent],
-) -> bool
-where
-    T::Storage: Tracked<T>,
-{
-    match view.read(&ReaderId::of(number)) {
-        Ok(events) => events.as_slice() == wanted,
-        Err(_) => false,
-    }
-}
-
-// The number of a new reader.
-fn new_reader<T: Component>(view: &mut WriteStorage<'_, T>) -> Option<u64>
-where
-    T::Storage: Tracked<T>,
-{
-    match view.register_reader() {
-        Ok(id) => Some(id.number()),
-        Err(_) => None,
-    }
-}
-
-// Puts a number at an entity by its vacant entry.
-fn put_by_entry<T: Number>(view: &mut WriteStorage<'_, T>, e: Entity, number: u32) -> bool {
-    match view.live(e) {
-        Ok(masked) => match masked.entry(e.id()) {
-            StorageEntry::Vacant(entry) => entry.insert(T::of(number)).is_ok(),
-            StorageEntry::Occupied(_entry) => false,
-        },
-        Err(_) => false,
+fn reads<S: Told>(shelf: &mut S, number: u64, wanted: &[ComponentEvent]) -> bool {
+    match shelf.events(number) {
+        Some(events) => events.as_slice() == wanted,
+        None => false,
     }
 }
 
 #[test]
 fn flagged_storage_meets_all(rt: HostRuntime) -> Result<(), Fail> {
-    all_tests::<InFlagged>(&rt, rt.alloc())?;
-    all_tests::<Flagged>(&rt, rt.alloc())
+    in_flagged(&rt, rt.alloc(), 1000, OF_EACH_KIND.as_slice())?;
+    in_flagged_dense(&rt, rt.alloc(), 1000, OF_EACH_KIND.as_slice())
 }
 
 // One reads at once, the other later.
-fn both_are_told<T: Number>(view: &mut WriteStorage<'_, T>, e: Entity) -> bool
-where
-    T::Storage: Tracked<T>,
-{
-    new_reader(view) == Some(0)
-        && new_reader(view) == Some(1)
-        && put(view, e, 7) == Some(None)
-        && reads(view, 0, &[Inserted(4)])
-        && take(view, e) == Some(7)
-        && reads(view, 0, &[Removed(4)])
-        && reads(view, 1, &[Inserted(4), Removed(4)])
+fn both_are_told<R: Abort, S: Told>(rt: &R, shelf: &mut S, e: Entity) {
+    assert_eq!(rt; shelf.listen(), Some(0));
+    assert_eq!(rt; shelf.listen(), Some(1));
+    assert_eq!(rt; shelf.put(e, 7), Some(None));
+    assert!(rt; reads(shelf, 0, &[Inserted(4)]));
+    assert_eq!(rt; shelf.take(e), Some(7));
+    assert!(rt; reads(shelf, 0, &[Removed(4)]));
+    assert!(rt; reads(shelf, 1, &[Inserted(4), Removed(4)]));
 }
 
 // A reader that ended reads nothing and does not end again, and its number is not given out anew.
-fn first_is_gone<T: Component>(view: &mut WriteStorage<'_, T>) -> bool
-where
-    T::Storage: Tracked<T>,
-{
-    view.drop_reader(ReaderId::of(0)).is_ok()
-        && new_reader(view) == Some(2)
-        && matches!(view.read(&ReaderId::of(0)), Err(UnknownReader))
-        && matches!(view.drop_reader(ReaderId::of(0)), Err(UnknownReader))
+fn first_is_gone<R: Abort, S: Told>(rt: &R, shelf: &mut S) {
+    assert!(rt; shelf.end(0));
+    assert_eq!(rt; shelf.listen(), Some(2));
+    assert!(rt; shelf.events(0).is_none());
+    assert!(rt; !shelf.end(0));
 }
 
 // Two readers, of which the first ends.
-fn two_readers<T: Number>(view: &mut WriteStorage<'_, T>, list: &[Entity]) -> bool
-where
-    T::Storage: Tracked<T>,
-{
-    list.len() == 5 && both_are_told(view, list[4]) && first_is_gone(view)
+fn two_readers<R: Abort, S: Told>(rt: &R, shelf: &mut S, list: &[Entity]) {
+    assert_eq!(rt; list.len(), 5);
+    both_are_told(rt, shelf, list[4]);
+    first_is_gone(rt, shelf);
 }
 
 // Components are inserted, replaced, taken out and cleared.
-fn change<T: Number>(view: &mut WriteStorage<'_, T>, list: &[Entity]) -> bool {
-    list.len() == 4
-        && put(view, list[0], 1) == Some(None)
-        && put(view, list[0], 2) == Some(Some(1))
-        && put_by_entry(view, list[1], 3)
-        && put_by_entry(view, list[3], 4)
-        && take(view, list[0]) == Some(2)
-        && view.clear().is_ok()
+fn change<R: Abort, S: Told>(rt: &R, shelf: &mut S, list: &[Entity]) {
+    assert_eq!(rt; list.len(), 4);
+    assert_eq!(rt; shelf.put(list[0], 1), Some(None));
+    assert_eq!(rt; shelf.put(list[0], 2), Some(Some(1)));
+    assert!(rt; shelf.put_by_entry(list[1], 3));
+    assert!(rt; shelf.put_by_entry(list[3], 4));
+    assert_eq!(rt; shelf.take(list[0]), Some(2));
+    assert!(rt; shelf.clear());
 }
 
 // The events of these changes, in their order.
@@ -113,122 +77,122 @@ const CHANGES: [ComponentEvent; 9] = [
 ];
 
 // The changes are read once, and a change while emission is off is not.
-fn changes_are_told<T: Number>(view: &mut WriteStorage<'_, T>, list: &[Entity]) -> bool
-where
-    T::Storage: Tracked<T>,
-{
-    let told = new_reader(view) == Some(0)
-        && change(view, list)
-        && reads(view, 0, CHANGES.as_slice())
-        && reads(view, 0, &[]);
-    view.set_event_emission(false);
-    told && list.len() == 4 && put(view, list[0], 1) == Some(None) && reads(view, 0, &[])
+fn changes_are_told<R: Abort, S: Told>(rt: &R, shelf: &mut S, list: &[Entity]) {
+    assert_eq!(rt; list.len(), 4);
+    assert_eq!(rt; shelf.listen(), Some(0));
+    change(rt, shelf, list);
+    assert!(rt; reads(shelf, 0, CHANGES.as_slice()));
+    assert!(rt; reads(shelf, 0, &[]));
+    shelf.emit(false);
+    assert_eq!(rt; shelf.put(list[0], 1), Some(None));
+    assert!(rt; reads(shelf, 0, &[]));
 }
 
 // What happened before the first reader was there is told to nobody.
-fn nothing_is_kept<T: Number>(view: &mut WriteStorage<'_, T>, list: &[Entity]) -> bool
-where
-    T::Storage: Tracked<T>,
-{
-    list.len() == 2
-        && view.event_emission()
-        && put(view, list[0], 1) == Some(None)
-        && new_reader(view) == Some(0)
-        && reads(view, 0, &[])
-        && add_at(view, list[0], 1)
-        && reads(view, 0, &[Modified(0)])
+fn nothing_is_kept<R: Abort, S: Told>(rt: &R, shelf: &mut S, list: &[Entity]) {
+    assert_eq!(rt; list.len(), 2);
+    assert!(rt; shelf.emits());
+    assert_eq!(rt; shelf.put(list[0], 1), Some(None));
+    assert_eq!(rt; shelf.listen(), Some(0));
+    assert!(rt; reads(shelf, 0, &[]));
+    assert!(rt; shelf.add(list[0], 1));
+    assert!(rt; reads(shelf, 0, &[Modified(0)]));
 }
 
 // Emission is off, and an event is written by hand.
-fn told_by_hand<T: Number>(view: &mut WriteStorage<'_, T>) -> bool
-where
-    T::Storage: Tracked<T>,
-{
-    let first = new_reader(view) == Some(0);
-    view.set_event_emission(false);
-    first
-        && !view.event_emission()
-        && view.flag(Modified(9)).is_ok()
-        && reads(view, 0, &[Modified(9)])
+fn told_by_hand<R: Abort, S: Told>(rt: &R, shelf: &mut S) {
+    assert_eq!(rt; shelf.listen(), Some(0));
+    shelf.emit(false);
+    assert!(rt; !shelf.emits());
+    assert!(rt; shelf.flag(Modified(9)));
+    assert!(rt; reads(shelf, 0, &[Modified(9)]));
 }
 
-// The indices of each kind of event that a reader reads.
-fn sort(
-    events: &[ComponentEvent],
-    inserted: &mut BitSet,
-    modified: &mut BitSet,
-    removed: &mut BitSet,
-) -> Result<(), Fail> {
+// No index of any kind of event.
+fn nothing_sorted(alloc: Global) -> Sorted {
+    Sorted {
+        inserted: BitSet::new(alloc),
+        modified: BitSet::new(alloc),
+        removed: BitSet::new(alloc),
+    }
+}
+
+// The indices of each kind of event are added to theirs.
+fn sort(events: &[ComponentEvent], sorted: &mut Sorted) -> Result<(), SetError> {
     for event in events {
         match *event {
-            Inserted(id) => inserted.add(id)?,
-            Modified(id) => modified.add(id)?,
-            Removed(id) => removed.add(id)?,
+            Inserted(id) => sorted.inserted.add(id)?,
+            Modified(id) => sorted.modified.add(id)?,
+            Removed(id) => sorted.removed.add(id)?,
         };
     }
     Ok(())
 }
 
-// How many indices were inserted, modified and removed.
-fn counts_of(alloc: Global, events: &[ComponentEvent]) -> Result<(usize, usize, usize), Fail> {
-    let mut inserted = BitSet::new(alloc);
-    let mut modified = BitSet::new(alloc);
-    let mut removed = BitSet::new(alloc);
-    sort(events, &mut inserted, &mut modified, &mut removed)?;
-    Ok((inserted.count(), modified.count(), removed.count()))
+// What the first reader reads.
+fn sorted<S: Told>(alloc: Global, shelf: &mut S) -> Result<Sorted, Fail> {
+    let events = shelf.events(0).ok_or("no reader")?;
+    let mut all = nothing_sorted(alloc);
+    sort(events.as_slice(), &mut all)?;
+    Ok(all)
 }
 
-// Whether the first reader reads of so many indices that were inserted, modified and removed.
-fn counts<T: Component>(
+// A set has the indices of all, and no other.
+fn has_all<R: Abort>(rt: &R, set: &BitSet, list: &[Entity]) {
+    for e in list {
+        assert!(rt; set.contains(e.id()));
+    }
+    assert_eq!(rt; set.count(), list.len());
+}
+
+// All were inserted, and then all were modified, and then all were removed.
+fn rounds_are_told<R: Abort, S: Told>(
+    rt: &R,
     alloc: Global,
-    view: &mut WriteStorage<'_, T>,
-    wanted: (usize, usize, usize),
-) -> Result<bool, Fail>
-where
-    T::Storage: Tracked<T>,
-{
-    let events = view.read(&ReaderId::of(0)).ok().ok_or("no reader")?;
-    Ok(counts_of(alloc, events.as_slice())? == wanted)
+    shelf: &mut S,
+    list: &[Entity],
+) -> Result<(), Fail> {
+    assert_eq!(rt; list.len(), 15);
+    assert_eq!(rt; shelf.listen(), Some(0));
+    fill(rt, shelf, list, 1);
+    are_inserted(rt, &sorted(alloc, shelf)?, list);
+    add_to_each(rt, shelf, list);
+    are_modified(rt, &sorted(alloc, shelf)?, list);
+    take_each(rt, shelf, list);
+    are_removed(rt, &sorted(alloc, shelf)?, list);
+    Ok(())
+}
+
+fn are_inserted<R: Abort>(rt: &R, sorted: &Sorted, list: &[Entity]) {
+    has_all(rt, &sorted.inserted, list);
+    has_all(rt, &sorted.modified, &[]);
+    has_all(rt, &sorted.removed, &[]);
+}
+
+fn are_modified<R: Abort>(rt: &R, sorted: &Sorted, list: &[Entity]) {
+    has_all(rt, &sorted.inserted, &[]);
+    has_all(rt, &sorted.modified, list);
+    has_all(rt, &sorted.removed, &[]);
+}
+
+fn are_removed<R: Abort>(rt: &R, sorted: &Sorted, list: &[Entity]) {
+    has_all(rt, &sorted.inserted, &[]);
+    has_all(rt, &sorted.modified, &[]);
+    has_all(rt, &sorted.removed, list);
 }
 
 // One more for each.
-fn add_to_each<T: Number>(view: &mut WriteStorage<'_, T>, list: &[Entity]) -> bool {
+fn add_to_each<R: Abort, S: Told>(rt: &R, shelf: &mut S, list: &[Entity]) {
     for e in list {
-        if !add_at(view, *e, 1) {
-            return false;
-        }
+        assert!(rt; shelf.add(*e, 1));
     }
-    true
 }
 
 // Each loses its number.
-fn take_each<T: Number>(view: &mut WriteStorage<'_, T>, list: &[Entity]) -> bool {
+fn take_each<R: Abort, S: Told>(rt: &R, shelf: &mut S, list: &[Entity]) {
     for e in list {
-        if take(view, *e).is_none() {
-            return false;
-        }
+        assert!(rt; shelf.take(*e).is_some());
     }
-    true
-}
-
-// The reader is told of each entity after each round.
-fn rounds_are_told<T: Number>(
-    alloc: Global,
-    view: &mut WriteStorage<'_, T>,
-    list: &[Entity],
-) -> Result<bool, Fail>
-where
-    T::Storage: Tracked<T>,
-{
-    Ok(
-        new_reader(view) == Some(0)
-            && fill(view, list, 1)
-            && counts(alloc, view, (15, 0, 0))?
-            && add_to_each(view, list)
-            && counts(alloc, view, (0, 15, 0))?
-            && take_each(view, list)
-            && counts(alloc, view, (0, 0, 15))?,
-    )
 }
 
 // A story of a storage that tells of each change.
@@ -241,86 +205,102 @@ enum Story {
     Rounds,
 }
 
-// Whether a story of a view and its entities comes true.
-fn comes_true<T: Number>(
+// Tells a story of a shelf and its entities.
+fn tell<R: Abort, S: Told>(
+    rt: &R,
     story: Story,
     alloc: Global,
-    view: &mut WriteStorage<'_, T>,
+    shelf: &mut S,
     list: &[Entity],
-) -> Result<bool, Fail>
-where
-    T::Storage: Tracked<T>,
-{
+) -> Result<(), Fail> {
     match story {
-        Story::TwoReaders => Ok(two_readers(view, list)),
-        Story::Changes => Ok(changes_are_told(view, list)),
-        Story::LateReader => Ok(nothing_is_kept(view, list)),
-        Story::ByHand => Ok(told_by_hand(view)),
-        Story::Rounds => rounds_are_told(alloc, view, list),
+        Story::TwoReaders => two_readers(rt, shelf, list),
+        Story::Changes => changes_are_told(rt, shelf, list),
+        Story::LateReader => nothing_is_kept(rt, shelf, list),
+        Story::ByHand => told_by_hand(rt, shelf),
+        Story::Rounds => rounds_are_told(rt, alloc, shelf, list)?,
     }
+    Ok(())
 }
 
-// Whether a story of a new storage and so many entities comes true.
-fn is_told_of<T: Number>(alloc: Global, count: u32, story: Story) -> Result<bool, Fail>
+// Tells a story of a new storage and so many entities.
+fn tell_of_new<R: Abort, T: Number>(
+    rt: &R,
+    alloc: Global,
+    count: u32,
+    story: Story,
+) -> Result<(), Fail>
 where
-    T::Storage: Tracked<T>,
+    T::Storage: Tracked<T> + TryDefault,
 {
-    let mut world = World::<T>::of(alloc, count)?;
-    let (mut view, list) = world.parts();
-    comes_true(story, alloc, &mut view, list)
+    let mut world = new_world::<T>(alloc)?;
+    let list = populate(alloc, &mut world.entities, count)?;
+    tell(rt, story, alloc, &mut world, list.as_slice())
 }
 
 // The same of numbers. The type stands here alone: a call at a tracked storage is slow to prove.
-fn is_told(alloc: Global, count: u32, story: Story) -> Result<bool, Fail> {
-    is_told_of::<InFlagged>(alloc, count, story)
+fn told<R: Abort>(rt: &R, alloc: Global, count: u32, story: Story) -> Result<(), Fail> {
+    tell_of_new::<R, InFlagged>(rt, alloc, count, story)
 }
 
 #[test]
 fn two_readers_are_told_until_they_read(rt: HostRuntime) -> Result<(), Fail> {
-    assert!(rt; is_told(rt.alloc(), 5, Story::TwoReaders)?);
-    Ok(())
+    told(&rt, rt.alloc(), 5, Story::TwoReaders)
 }
 
 #[test]
 fn each_change_is_told_in_its_order(rt: HostRuntime) -> Result<(), Fail> {
-    assert!(rt; is_told(rt.alloc(), 4, Story::Changes)?);
-    Ok(())
+    told(&rt, rt.alloc(), 4, Story::Changes)
 }
 
 #[test]
 fn a_channel_keeps_nothing_for_nobody(rt: HostRuntime) -> Result<(), Fail> {
-    assert!(rt; is_told(rt.alloc(), 2, Story::LateReader)?);
-    Ok(())
+    told(&rt, rt.alloc(), 2, Story::LateReader)
 }
 
 #[test]
 fn an_event_by_hand_is_told_while_emission_is_off(rt: HostRuntime) -> Result<(), Fail> {
-    assert!(rt; is_told(rt.alloc(), 1, Story::ByHand)?);
-    Ok(())
+    told(&rt, rt.alloc(), 1, Story::ByHand)
 }
 
 #[test]
 fn flagged(rt: HostRuntime) -> Result<(), Fail> {
-    assert!(rt; is_told(rt.alloc(), 15, Story::Rounds)?);
-    Ok(())
+    told(&rt, rt.alloc(), 15, Story::Rounds)
 }
 
-// A reader, a place for one more, and what it reads; it ends once.
-fn numbers(channel: &mut EventChannel<u32>) -> Result<bool, AllocError> {
+// A reader that is there, and a place for one more.
+fn numbers(channel: &mut EventChannel<u32>) -> Result<ReaderId, AllocError> {
     let id = channel.register_reader()?;
     channel.reserve(2)?;
     channel.single_write(5)?;
     channel.single_write(6)?;
-    let read = match channel.read(&id) {
-        Ok(events) => events.as_slice() == [5, 6].as_slice(),
+    Ok(id)
+}
+
+// Whether a reader reads just these.
+fn reads_numbers(channel: &mut EventChannel<u32>, id: &ReaderId, wanted: &[u32]) -> bool {
+    match channel.read(id) {
+        Ok(events) => events.as_slice() == wanted,
         Err(_) => false,
-    };
-    Ok(read && channel.drop_reader(ReaderId::of(0)).is_ok())
+    }
+}
+
+// Ends a reader.
+fn ends(channel: &mut EventChannel<u32>, number: u64) -> bool {
+    channel.drop_reader(ReaderId::of(number)).is_ok()
+}
+
+// What the reader of a channel reads; it ends once.
+fn reads_and_ends<R: Abort>(rt: &R, channel: &mut EventChannel<u32>) -> Result<(), Fail> {
+    let id = numbers(channel)?;
+    assert!(rt; reads_numbers(channel, &id, &[5, 6]));
+    assert!(rt; ends(channel, 0));
+    assert!(rt; !ends(channel, 1));
+    Ok(())
 }
 
 #[test]
 fn a_channel_of_numbers(rt: HostRuntime) -> Result<(), Fail> {
     let mut channel = EventChannel::new(rt.alloc());
-    assert!(rt; numbers(&mut channel)? && channel.drop_reader(ReaderId::of(1)).is_err());
-    Ok(())
+    reads_and_ends(&rt, &mut channel)
 }

@@ -5,6 +5,8 @@ mod components;
 #[cfg(test)]
 mod default_vec_tests;
 #[cfg(test)]
+mod entry_calls;
+#[cfg(test)]
 mod entry_tests;
 #[cfg(test)]
 mod event_tests;
@@ -17,7 +19,15 @@ mod loans;
 #[cfg(test)]
 mod memory_tests;
 #[cfg(test)]
+mod numbers;
+#[cfg(test)]
+mod shelf;
+#[cfg(test)]
+mod shelf_calls;
+#[cfg(test)]
 mod stories;
+#[cfg(test)]
+mod told_calls;
 #[cfg(test)]
 mod vec_tests;
 #[cfg(test)]
@@ -25,6 +35,4 @@ mod view_tests;
 #[cfg(test)]
 mod world;
 
-pub use components::{
-    Flag, Flagged, InBTree, InDefaultVec, InDense, InFlagged, InHash, InVec, Number, Shared,
-};
+pub use components::InDense;

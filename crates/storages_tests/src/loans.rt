@@ -8,7 +8,8 @@ ghost use Rattle.storages.specs.Meaning.{HasRoom};
 ghost use Rattle.storages.specs.WriteView.{slot, found};
 ghost use Rattle.storages_tests.specs.Doubled.{doubled, all_doubled};
 
-use crate::components::{InDefaultVec, InDense, InVec};
+use crate::components::InDense;
+use crate::numbers::{InDefaultVec, InVec};
 use entities::Entity;
 use storages::{MaskedStorage, NotLent, StorageEntry, WriteStorage};
 

@@ -1,78 +1,75 @@
 //! The vector of options.
-use crate::components::{InVec, Number, Shared};
-use crate::kinds::{fill, put_all, take_out};
-use crate::world::{World, empty};
+use crate::default_vec_tests::indices;
+use crate::kinds::{fill, put_all};
+use crate::numbers::{InVec, Number, Shared};
+use crate::shelf::Gapped;
+use crate::world::{empty, new_world, populate};
 use entities::Entity;
 use std::alloc::{AllocError, Global};
+use std::process::Abort;
 use std::rc::Rc;
 use std::test::Fail;
-use storages::{MaskedStorage, SliceAccess};
-
-// Whether there is a component at each place.
-fn are_some<T: Number>(values: &[Option<T>], wanted: &[bool]) -> bool {
-    for (value, some) in values.iter().zip(wanted) {
-        if value.is_some() != *some {
-            return false;
-        }
-    }
-    values.len() == wanted.len()
-}
-
-// Whether each place has the number of its entity, its index and `more`.
-fn are_at_places<T: Number>(values: &[Option<T>], list: &[Entity], more: u32) -> bool {
-    for (value, e) in values.iter().zip(list) {
-        match value {
-            Some(v) if v.number() == e.id().wrapping_add(more) => {}
-            _ => return false,
-        }
-    }
-    values.len() == list.len()
-}
+use storages::{MaskedStorage, SliceAccess, TryDefault};
 
 // A thousand lie at the places of their entities.
-fn lie_at_places<T: Number>(alloc: Global) -> Result<bool, Fail>
-where
-    T::Storage: SliceAccess<T, Element = Option<T>>,
-{
-    let mut world = World::<T>::of(alloc, 1000)?;
-    let (mut view, list) = world.parts();
-    Ok(
-        list.len() == 1000
-            && fill(&mut view, list, 2718)
-            && are_at_places(view.as_slice(), list, 2718),
-    )
-}
-
-#[test]
-fn vec_test_maybeuninit_slice(rt: HostRuntime) -> Result<(), Fail> {
-    assert!(rt; lie_at_places::<InVec>(rt.alloc())?);
+fn lie_at_places<R: Abort, S: Gapped>(
+    rt: &R,
+    alloc: Global,
+    shelf: &mut S,
+    list: &[Entity],
+) -> Result<(), Fail> {
+    assert_eq!(rt; list.len(), 1000);
+    fill(rt, shelf, list, 2718);
+    let numbers = indices(alloc, list, 2718)?;
+    assert!(rt; shelf.shows_numbers(numbers.as_slice()));
     Ok(())
 }
 
 // The place of a component that is taken out stays, and has none.
-fn slice_stays_as_long<T: Number>(masked: &mut MaskedStorage<T>) -> bool
-where
-    T::Storage: SliceAccess<T, Element = Option<T>>,
-{
-    put_all(masked, &[(2, 5)])
-        && are_some(masked.as_slice(), &[false, false, true])
-        && take_out(masked, 2) == Some(5)
-        && are_some(masked.as_slice(), &[false, false, false])
+fn slice_stays_as_long<R: Abort, S: Gapped>(rt: &R, shelf: &mut S) {
+    put_all(rt, shelf, &[(2, 5)]);
+    assert!(rt; shelf.has_places(&[false, false, true]));
+    assert_eq!(rt; shelf.take_out(2), Some(5));
+    assert!(rt; shelf.has_places(&[false, false, false]));
 }
 
-// The slice of a new storage.
-fn options<T: Number>(alloc: Global) -> Result<bool, Fail>
+// The places of a thousand entities, or else that of a component that is taken out.
+fn tell<R: Abort, S: Gapped>(
+    rt: &R,
+    alloc: Global,
+    shelf: &mut S,
+    list: &[Entity],
+) -> Result<(), Fail> {
+    if !list.is_empty() {
+        return lie_at_places(rt, alloc, shelf, list);
+    }
+    slice_stays_as_long(rt, shelf);
+    Ok(())
+}
+
+// The same of a new storage and so many entities.
+fn tell_of_new<R: Abort, T: Number>(rt: &R, alloc: Global, count: u32) -> Result<(), Fail>
 where
-    T::Storage: SliceAccess<T, Element = Option<T>>,
+    T::Storage: SliceAccess<T, Element = Option<T>> + TryDefault,
 {
-    let mut masked = empty::<T>(alloc)?;
-    Ok(slice_stays_as_long(&mut masked))
+    let mut world = new_world::<T>(alloc)?;
+    let list = populate(alloc, &mut world.entities, count)?;
+    tell(rt, alloc, &mut world, list.as_slice())
+}
+
+// The type stands here alone.
+fn told<R: Abort>(rt: &R, alloc: Global, count: u32) -> Result<(), Fail> {
+    tell_of_new::<R, InVec>(rt, alloc, count)
+}
+
+#[test]
+fn vec_test_maybeuninit_slice(rt: HostRuntime) -> Result<(), Fail> {
+    told(&rt, rt.alloc(), 1000)
 }
 
 #[test]
 fn vector_slice_has_options(rt: HostRuntime) -> Result<(), Fail> {
-    assert!(rt; options::<InVec>(rt.alloc())?);
-    Ok(())
+    told(&rt, rt.alloc(), 0)
 }
 
 // A hundred share the value, one of which is replaced.

@@ -5,60 +5,73 @@ ghost use Rattle.std.specs.FinMap as map;
 use entities::{EntitiesRes, Entity};
 use std::alloc::Global;
 use std::test::Fail;
-use storages::{Component, MaskedStorage, ReadStorage, TryDefault, WriteStorage};
+use storages::{
+    Component, MaskedStorage, ReadStorage, TryDefault, UnprotectedStorage, WriteStorage,
+};
 
 /// Entities, and a storage of one component.
-#[derive(Drop)]
 pub struct World<T: Component> {
     /// The entities.
     pub entities: EntitiesRes,
-    list: Vec<Entity>,
     /// The storage.
     pub masked: MaskedStorage<T>,
 }
 
+impl<T: Component> Drop for World<T> {
+    fn drop(self) {
+        let World {
+            entities: _entities,
+            masked: _masked,
+        } = self;
+    }
+}
+
 impl<T: Component> World<T> {
-    /// So many living entities, from index 0 on, and no component.
-    pub fn of(alloc: Global, count: u32) -> Result<Self, Fail> {
-        let mut world = World::new(alloc)?;
-        world.populate(count)?;
-        Ok(world)
+    /// A view of the storage.
+    pub fn view(&mut self) -> WriteStorage<'_, T> {
+        WriteStorage::new(&self.entities, &mut self.masked)
     }
 
-    // Nobody lives, and there is no component.
-    fn new(alloc: Global) -> Result<Self, Fail> {
-        let masked = empty(alloc)?;
-        Ok(World {
-            entities: EntitiesRes::new(alloc),
-            list: Vec::new(alloc),
-            masked,
-        })
+    /// A view to read.
+    pub fn read(&self) -> ReadStorage<'_, T> {
+        ReadStorage::new(&self.entities, &self.masked)
     }
+}
 
-    // So many are born, from index 0 on.
-    fn populate(&mut self, count: u32) -> Result<(), Fail> {
-        for _ in 0..count {
-            let e = self.entities.create().ok().ok_or("no entity")?;
-            self.list.push(e)?;
-        }
-        Ok(())
-    }
+/// A world in which nobody lives, and no component is.
+pub fn new_world<T: Component>(alloc: Global) -> Result<World<T>, Fail>
+where
+    T::Storage: UnprotectedStorage<T> + TryDefault,
+{
+    let masked = empty(alloc)?;
+    Ok(World {
+        entities: EntitiesRes::new(alloc),
+        masked,
+    })
+}
 
-    /// A view of the storage, and the entities.
-    pub fn parts(&mut self) -> (WriteStorage<'_, T>, &[Entity]) {
-        let list = self.list.as_slice();
-        (WriteStorage::new(&self.entities, &mut self.masked), list)
+/// So many are born, from index 0 on.
+pub fn populate(
+    alloc: Global,
+    entities: &mut EntitiesRes,
+    count: u32,
+) -> Result<Vec<Entity>, Fail> {
+    let mut list = Vec::new(alloc);
+    for _ in 0..count {
+        list.push(born(entities)?)?;
     }
+    Ok(list)
+}
 
-    /// A view to read, and the entities.
-    pub fn read(&self) -> (ReadStorage<'_, T>, &[Entity]) {
-        let list = self.list.as_slice();
-        (ReadStorage::new(&self.entities, &self.masked), list)
-    }
+/// A birth.
+pub fn born(entities: &mut EntitiesRes) -> Result<Entity, Fail> {
+    Ok(entities.create().ok().ok_or("a birth")?)
 }
 
 /// A storage without components.
 pub fn empty<T: Component>(alloc: Global) -> Result<MaskedStorage<T>, Fail>
+where
+    T::Storage: UnprotectedStorage<T> + TryDefault,
     ensures { IfOk result (λ s. s.map ≡ map.empty) }
 {
     let inner = T::Storage::try_default(alloc)?;
