@@ -148,23 +148,11 @@ fn selects_each<R: Abort, P, H, S: Has<Position, P> + Has<Health, H>>(
 ) -> Result<(), Fail> {
     populate(world)?;
     let (one, other) = (positions::<P, S>(), healths::<H, S>());
-    assert!(rt;
-        selects(world, &conjunction(alloc, one, other)?, &[0]),
-        "and"
-    );
-    assert!(rt;
-        selects(world, &disjunction(alloc, one, other)?, &[0, 1]),
-        "or"
-    );
-    assert!(rt; selects(world, &exclusive(alloc, one, other)?, &[1]), "xor");
-    assert!(rt;
-        selects(world, &complement(alloc, one, other)?, &[1]),
-        "not"
-    );
-    assert!(rt;
-        selects(world, &living_without_position(alloc, one)?, &[1, 2]),
-        "living"
-    );
+    holds!(rt; selects(world, &conjunction(alloc, one, other)?, &[0]));
+    holds!(rt; selects(world, &disjunction(alloc, one, other)?, &[0, 1]));
+    holds!(rt; selects(world, &exclusive(alloc, one, other)?, &[1]));
+    holds!(rt; selects(world, &complement(alloc, one, other)?, &[1]));
+    holds!(rt; selects(world, &living_without_position(alloc, one)?, &[1, 2]));
     Ok(())
 }
 
