@@ -1,41 +1,79 @@
 #!/usr/bin/env python3
 """Lets the checks that come after `rt ci` stand on the libraries that it built.
 
-    python3 tools/keep_libraries.py
+    python3 tools/keep_libraries.py --begin      before `rt ci`
+    python3 tools/keep_libraries.py              after it passed
 
 `rt ci` leaves each library in crates/NAME/out/rlib without the stamp by which other commands know that it is built of these sources, so that they
-would prove all of them again: more than an hour of a processor. This writes the stamps, as the kit itself makes them. It is right after a run of `rt ci` that passed, with
-nothing changed since: the libraries that one run leaves were built over one another. Where the kit has another form, nothing is written, and they are built again.
+would prove all of them again: more than an hour of a processor. This writes the stamps, as the kit itself makes them.
+
+A stamp is the sum of all that a library is built from: the kit, its own files, and those of the libraries below it. What stands without a stamp before `rt ci`
+may be built of other sources, and `rt ci` would put it back: --begin removes it, and records each library's sum and the time. Afterwards
+a library gets its stamp only where its sum is the recorded one and all of its files are younger than the record. Whatever else is found, and where the kit has another form,
+no stamp is written, and the library is built again.
 
 Run at the top of the repository."""
+import glob
+import json
 import os
 import shutil
 import sys
+import time
+
+RECORD = ".git/libraries-begun.json"
+KEPT = ("crates/*/out/rlib", ".git/rt-aside/*/rlib")
 
 
-def libraries():
-    """The crates of which a library is left without a stamp."""
-    for name in sorted(os.listdir("crates")):
-        if os.path.isdir(f"crates/{name}/out/rlib/{name}.rlib") and not os.path.exists(f"crates/{name}/out/rlib/stamp"):
-            yield name
-
-
-def main():
+def stamps():
+    """The sum of each library's sources, as the kit makes it."""
     sys.path.insert(0, os.path.dirname(os.path.realpath(shutil.which("rt"))))
     import rtlib
 
-    known = {}
-    for name in libraries():
+    known, found = {}, {}
+    for name in sorted(os.listdir("crates")):
         folder = os.path.abspath(f"crates/{name}")
-        crate = known[folder] = known.get(folder) or rtlib.Crate(folder, rtlib.root_above(folder), known)
-        stamp = crate.stamp()
-        with open(f"{folder}/out/rlib/stamp", "w", encoding="utf-8") as it:
+        if os.path.isfile(f"{folder}/src/lib.rt"):
+            crate = known[folder] = known.get(folder) or rtlib.Crate(folder, rtlib.root_above(folder), known)
+            found[name] = crate.stamp()
+    return found
+
+
+def oldest(folder):
+    """When the oldest file below a folder was written."""
+    return min((os.stat(f"{at}/{it}").st_mtime_ns for at, _, names in os.walk(folder) for it in names), default=0)
+
+
+def begin():
+    """Removes what has no stamp, and records the sums and the time."""
+    if os.path.exists(RECORD):
+        os.remove(RECORD)
+    for folder in (it for kept in KEPT for it in glob.glob(kept)):
+        if not os.path.exists(f"{folder}/stamp"):
+            shutil.rmtree(folder)
+    record = {"time": time.time_ns(), "stamps": stamps()}
+    with open(RECORD, "w", encoding="utf-8") as it:
+        json.dump(record, it)
+
+
+def end():
+    """Writes the stamp of each library that was built since of the sources that are recorded."""
+    with open(RECORD, encoding="utf-8") as it:
+        record = json.load(it)
+    os.remove(RECORD)
+    for name, stamp in stamps().items():
+        folder = f"crates/{name}/out/rlib"
+        if not os.path.isdir(f"{folder}/{name}.rlib") or os.path.exists(f"{folder}/stamp"):
+            continue
+        if record["stamps"].get(name) != stamp or oldest(folder) < record["time"]:
+            print(f"library {name}: not built of these sources in this run: it is built again for the wrong bodies", flush=True)
+            continue
+        with open(f"{folder}/stamp", "w", encoding="utf-8") as it:
             it.write(stamp)
         print(f"library {name}: kept for the wrong bodies", flush=True)
 
 
 if __name__ == "__main__":
     try:
-        main()
+        begin() if sys.argv[1:] == ["--begin"] else end()
     except Exception as why:
         print(f"libraries are built again for the wrong bodies: {why!r}", flush=True)

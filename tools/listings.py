@@ -1,8 +1,11 @@
 #!/usr/bin/env python3
 """Puts listings of proved code into pages: the block of code behind a line `<!-- listing FILE: NAME -->` is the item NAME of FILE (of an impl 'TRAIT for TYPE'), with its lines before it.
 The block behind `<!-- file FILE -->` is the whole file, and that behind `<!-- output NAME -->` what the example NAME prints; the picture docs/orbits.svg is what `orbits` prints.
+The lines that docs/SCRIPT.md shows below `./specs-run < examples/NAME.script`: are those of that script, each with its reply in examples/NAME.expected.
 
     python3 tools/listings.py [--check]      writes each page of docs/ anew; --check only says whether that would change one
+
+A comment of another form is refused, and in TUTORIAL and USING each block that is no `sh` has such a comment before it.
 
 An item begins at the first of its comment and attribute lines, and ends at the first line that is `}` or ends with `;` at its own depth.
 What the examples print is crates/examples/stdout, which the gate compares with what they do."""
@@ -15,6 +18,8 @@ os.chdir(os.path.join(os.path.dirname(os.path.abspath(__file__)), ".."))
 LISTING = re.compile(r"^<!-- listing (\S+): (.+) -->$")
 FILE = re.compile(r"^<!-- file (\S+) -->$")
 OUTPUT = re.compile(r"^<!-- output (\S+) -->$")
+SESSION = re.compile(r"^`\./specs-run < (examples/\w+)\.script`:$")
+ALL_LISTED = ("docs/TUTORIAL.md", "docs/USING.md")
 PRINTED = "crates/examples/stdout"
 PICTURES = {"docs/orbits.svg": "orbits"}
 
@@ -59,22 +64,49 @@ def block(line):
     return None
 
 
-def made(text):
+def session(name):
+    """The lines of a script, each with its reply."""
+    lines, replies = (read(f"{name}.{it}").rstrip("\n").split("\n") for it in ("script", "expected"))
+    if len(lines) != len(replies):
+        raise SystemExit(f"{name}.script has {len(lines)} lines, and {name}.expected {len(replies)}")
+    wide = max(map(len, lines)) + 3
+    return [f"    {line:{wide}}{reply}" for line, reply in zip(lines, replies)]
+
+
+def after_block(lines, k):
+    """The place behind the block of code that begins at a place."""
+    return next(j for j in range(k + 1, len(lines)) if lines[j] == "```") + 1
+
+
+def made(page, text):
     """The page with its listings made anew."""
     lines, out, k = text.split("\n"), [], 0
     while k < len(lines):
-        out.append(lines[k])
-        new = block(lines[k])
+        line = lines[k]
+        out.append(line)
+        new = block(line)
         k += 1
         if new:
             if k < len(lines) and lines[k].startswith("```"):
-                k = next(j for j in range(k + 1, len(lines)) if lines[j] == "```") + 1
+                k = after_block(lines, k)
             out += new
+        elif mark := SESSION.match(line):
+            while k < len(lines) and (not lines[k] or lines[k].startswith("    ")):
+                k += 1
+            out += ["", *session(mark[1]), ""]
+        elif "<!--" in line:
+            raise SystemExit(f"{page}: this comment is no listing, file or output: {line}")
+        elif line.startswith("```"):
+            if page in ALL_LISTED and line != "```sh":
+                raise SystemExit(f"{page}: line {k}: no comment says of which file this block is")
+            end = after_block(lines, k - 1)
+            out += lines[k:end]
+            k = end
     return "\n".join(out)
 
 
 def main():
-    pages = {page: made(read(page)) for page in sorted(glob.glob("docs/*.md"))}
+    pages = {page: made(page, read(page)) for page in sorted(glob.glob("docs/*.md"))}
     pages |= {picture: "\n".join(output(name)) + "\n" for picture, name in PICTURES.items()}
     changed = [page for page, new in pages.items() if not os.path.exists(page) or read(page) != new]
     if "--check" in sys.argv[1:]:

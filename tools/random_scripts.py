@@ -1,17 +1,19 @@
 #!/usr/bin/env python3
 """Runs random scripts by ./specs-run, and judges each reply by a plain model of sets, dictionaries and lists.
 
-    python3 tools/random_scripts.py [COUNT] [SEED]      COUNT: how many scripts (10000); SEED: that of the first (1)
+    python3 tools/random_scripts.py [--unproved] [COUNT] [SEED]      COUNT: how many scripts (10000); SEED: that of the first (1)
 
-Script k is made from seed SEED + k. A birth may take any free index, so the model follows the entity that the program printed, if the rule
+--unproved runs them by one `rt try`, which proves nothing, in place of ./specs-run. Script k is made from seed SEED + k. A birth may take any free index, so the model follows the entity that the program printed, if the rule
 allows it. A job that creates an entity does not tell which, nor does a load: the model keeps every world that the replies so far allow. A reply that none of
 them gives is printed, with its script and its seed, and the status is 1."""
 import copy
 import json
 import os
 import random
+import re
 import subprocess
 import sys
+import tempfile
 
 TOP = os.path.dirname(os.path.dirname(os.path.abspath(__file__)))
 LIMIT = 1 << 24
@@ -525,18 +527,47 @@ def disagreement(script, ran):
     return None
 
 
+def text_of(script):
+    return "".join(line + "\n" for line in script.lines)
+
+
+def proved_runs(scripts):
+    """Each script with its run by ./specs-run."""
+    for script in scripts:
+        yield script, subprocess.run([os.path.join(TOP, "specs-run")], input=text_of(script), capture_output=True, text=True, check=False)
+
+
+def unproved_runs(scripts):
+    """Each script with its run by one `rt try`, which prints `== NAME` before what a run prints, and a line `case=NAME ..` after what it tells."""
+    with tempfile.TemporaryDirectory(prefix="random-scripts-") as cases:
+        for k, script in enumerate(scripts):
+            with open(f"{cases}/{k:06}", "w", encoding="utf-8") as it:
+                it.write(text_of(script))
+        # with a step alone the interpreter leaves each run to the program that is built with checks
+        words = ["rt", "try", "--seconds", "3600", "--steps", "1", "--cases", cases]
+        ran = subprocess.run(words, cwd=os.path.join(TOP, "crates/specs_run_main"), stdin=subprocess.DEVNULL, capture_output=True, text=True, check=False)
+    printed = re.split(r"^== (\d{6})\n", ran.stdout, flags=re.M)[1:]
+    ends = re.split(r"^case=(\d{6}) run=ended status=(\d+) [^\n]*\n", ran.stderr, flags=re.M)
+    told = {ends[k + 1]: (ends[k], int(ends[k + 2])) for k in range(0, len(ends) - 3, 3)}
+    replies = dict(zip(printed[::2], printed[1::2]))
+    for k, script in enumerate(scripts):
+        name = f"{k:06}"
+        # a run that did not end has no status that fits
+        stderr, status = told.get(name, (ran.stderr[-1000:], -1))
+        yield script, subprocess.CompletedProcess(words, status, replies.get(name, ""), stderr)
+
+
 def main():
-    count = int(sys.argv[1]) if len(sys.argv) > 1 else 10000
-    seed = int(sys.argv[2]) if len(sys.argv) > 2 else 1
-    lines = 0
-    for k in range(count):
-        script = Script(seed + k)
+    words = [it for it in sys.argv[1:] if it != "--unproved"]
+    count = int(words[0]) if words else 10000
+    seed = int(words[1]) if len(words) > 1 else 1
+    scripts = (Script(seed + k) for k in range(count))
+    runs, lines = unproved_runs(list(scripts)) if "--unproved" in sys.argv[1:] else proved_runs(scripts), 0
+    for k, (script, ran) in enumerate(runs):
         lines += len(script.lines)
-        text = "".join(line + "\n" for line in script.lines)
-        ran = subprocess.run([os.path.join(TOP, "specs-run")], input=text, capture_output=True, text=True, check=False)
         fault = disagreement(script, ran)
         if fault:
-            print(f"{text}seed {seed + k}: {fault}")
+            print(f"{text_of(script)}seed {seed + k}: {fault}")
             return 1
     print(f"{count} scripts agreed ({lines} lines, seeds {seed} to {seed + count - 1})")
     return 0

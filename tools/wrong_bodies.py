@@ -1,169 +1,98 @@
 #!/usr/bin/env python3
-"""Tries the wrong bodies crates/NAME/wrong/*.edit in groups: the prover must refuse each of them, for the clause that it breaks.
+"""Tries the wrong bodies crates/NAME/wrong/*.edit and the right ones crates/NAME/right/*.edit in groups: the prover must refuse each wrong one
+for the clauses that it breaks, and accept each right one by the same means.
 
-    python3 tools/wrong_bodies.py [--anew | --alone | --explain] [NAME..]      NAME: a crate, or a crate and an edit, as hibits or hibits/add_of_a_neighbour
+    python3 tools/wrong_bodies.py [--anew | --alone | --explain | --list] [NAME..]      NAME: a crate, or a crate and an edit, as hibits or hibits/add_of_a_neighbour
 
-An edit has the lines of a must-fail edit ('file: src/FILE', 'old: TEXT', 'new: TEXT', each TEXT once in the file), and two more:
-'fn: PATH', the function that has to be refused, as the check names it without its crate, and 'clause: WORD', of which a goal that the
-check leaves open in that function must be: a clause's name, or the name of another goal. Where the check refuses a function before it looks at its
-clauses (a loop without an end, a step that a table of shared words forbids), 'says: TEXT' stands in the place of the clause: what the check must say.
-An edit that reaches beyond its function (a constant) has a line 'alone: WHY', and no other edit in its group.
+An edit has the lines of a must-fail edit ('file: src/FILE', 'old: TEXT', 'new: TEXT', each TEXT once in the file), a comment ('# TEXT') that says why
+it breaks what it names, and 'fn: PATH', the function that has to be refused, as the check names it without its crate. Then, as often as it is so,
+'clause: WORD', a clause that the body breaks: each has to be left open by the prover's search. WORD is the name of a clause that the function promises; of a promise without
+a name `returns`, or the goal as it begins, as `returns-then-contains`; of what a call wants or a type keeps the goal's name, as `f-requires` or `invariant_of-self`.
+Where the check refuses a function before it looks at its clauses (a loop without an end, a step that a table of shared words forbids), 'says: TEXT'
+stands in the place of the clause: what the check must say. An edit that reaches beyond its function (a constant) has a line 'alone: WHY', and no other edit in its group.
+
+A right variant is the same function in another right form. It has lines 'beside: NAME' in the place of clauses: the wrong bodies of its function beside which
+it stands. None of the clauses that these name may be left open of it: so what refuses them is the clause, and not that the body is another.
+
+An answer by hand (Answers.antt) fits the body for which it was written. Where one no longer fits, that shows nothing: it is taken out, and the function is checked
+again, three times at most. Only a goal that the search then leaves open counts. A name that is lost, an answer that no longer fits or a text that is not read counts nothing.
 
 Edits of one crate that change different functions are applied together, so that one check tries up to sixty of them. It checks the functions of
-the edits and what these call, and no other (`rt check --only`). Each edit is judged by itself: the check must have a line for its function that
-says that it is not proved, for itself and not for a function that it calls, and name the goal.
-A missing step of a proof shows nothing, so a goal is not counted where a proof file only names what the edit took away.
-What a group did not show is tried again without the others, then alone, and last by a check of the whole crate.
+the edits and what these call, and no other (`rt check --only`). Each edit is judged by itself, and what a group did not show is tried again alone.
 
 First the libraries below the edited crates are built in the tree, lowest first, each once: what `rt ci` leaves of them may not serve another check, and each room
 would build them again. There are as many lanes as processors, or RT_JOBS. A lane takes the crate that has the most left, makes a room for it (a copy of the tree), and tries
 one group after another there. What a group's check proved and the next did not change is kept in the room. Where every crate has its lane, the next
 lane makes a second room for the crate that has the most left, so that all lanes end at about one time. The verdicts come as they are found.
 
-That an edit was refused is kept on this machine, by the checksum of all that decides it: the kit, this script, the edit, and the files of its crate and
+What an edit showed is kept on this machine, by the checksum of all that decides it: the kit, these scripts, the edit but for its comments, and the files of its crate and
 of those below. So a later run tries what changed, and what stands above it, as `rt ci` proves it; --anew tries all.
 
-Run at the top of the repository; --alone tries each edit alone, and --explain only tells, of each edit alone, which functions the check of the whole
-crate refuses for themselves, and at which goals: for writing an edit's lines 'fn:' and 'clause:'."""
+Run at the top of the repository; --alone tries each edit alone, --explain only tells which goals each leaves open, for writing its lines 'clause:', and --list
+only reads the edits. It fails where there is no edit, or another file among them."""
 import concurrent.futures
 import functools
 import hashlib
 import os
-import re
 import shutil
 import subprocess
 import sys
 import tempfile
 import threading
 
-GROUP = 60
-LOST = re.compile(r"has no field|is not in scope|has no `|was not admitted|is no name")
+from edits import applied, edits_of, groups_of
+from refusals import Said, answers_of, judge, without
+
+MOST = 60
+ROUNDS = 3
 
 
-class Edit:
-    def __init__(self, path):
-        self.path, self.crate = path, path.split("/")[1]
-        self.name = f"{self.crate}/{os.path.basename(path)[: -len('.edit')]}"
-        self.changes, self.function, self.clause, self.says, self.alone = [], None, None, None, False
-        file = old = None
+def checked(room, crate, edits, out=None):
+    """What the check says of the edits' functions and what they call, with the edits, and without the answers by hand that are named, by function."""
+    folder, out = f"{room}/crates/{crate}", out or {}
+    texts = {f"{folder}/{file}": text for file, text in applied(folder, edits).items()}
+    for function, names in out.items():
+        path = answers_of(folder, function)
         with open(path, encoding="utf-8") as it:
-            for line in it.read().split("\n"):
-                word, _, text = line.partition(":")
-                text = text.removeprefix(" ")
-                if word == "file":
-                    file = text.strip()
-                elif word == "fn":
-                    self.function = text.strip()
-                elif word == "clause":
-                    self.clause = text.strip()
-                elif word == "alone":
-                    self.alone = True
-                elif word == "says":
-                    self.says = text.strip()
-                elif word == "old":
-                    old = text
-                elif word == "new":
-                    self.changes.append((file, old, text))
-
-    def fault(self, how):
-        """Why the edit cannot be tried, if it cannot."""
-        if not self.changes or how != "--explain" and not (self.function and (self.clause or self.says)):
-            return "it lacks a line 'file:', 'fn:', 'clause:' or 'says:', 'old:' or 'new:'"
-        for file, old, _ in self.changes:
-            source = f"crates/{self.crate}/{file}"
-            if not os.path.isfile(source):
-                return f"there is no {source}"
-            with open(source, encoding="utf-8") as it:
-                count = it.read().count(old)
-            if count != 1:
-                return f"its old text stands {count} times in {source}"
-        return None
-
-
-def edits_of(wanted):
-    """The edits of each crate, or those that are wanted."""
-    found = {}
-    for crate in sorted(os.listdir("crates")):
-        folder = f"crates/{crate}/wrong"
-        names = sorted(os.listdir(folder)) if os.path.isdir(folder) else []
-        edits = [Edit(f"{folder}/{it}") for it in names if it.endswith(".edit")]
-        edits = [it for it in edits if not wanted or crate in wanted or it.name in wanted]
-        if edits:
-            found[crate] = edits
-    return found
-
-
-def applied(folder, edits):
-    """The texts of the crate's files that the edits change, by file; nothing where the edits cannot stand together."""
-    texts = {}
-    for edit in edits:
-        for file, old, new in edit.changes:
-            if file not in texts:
-                with open(f"{folder}/{file}", encoding="utf-8") as it:
-                    texts[file] = it.read()
-            if texts[file].count(old) != 1:
-                return None
-            texts[file] = texts[file].replace(old, new)
-    return texts
-
-
-def groups_of(crate, edits):
-    """The crate's edits in groups that stand together, of which no two change one function."""
-    groups = []
-    for edit in edits:
-        for group in [] if edit.alone else groups:
-            is_free = len(group) < GROUP and all(not it.alone and it.function != edit.function for it in group)
-            if is_free and applied(f"crates/{crate}", [*group, edit]) is not None:
-                group.append(edit)
-                break
-        else:
-            groups.append([edit])
-    return groups
-
-
-def checked(room, group, only=True):
-    """What the check says of the edits' functions and what they call, or of the whole crate, with the edits of the group."""
-    crate = f"{room}/crates/{group[0].crate}"
+            texts[path] = without(it.read(), names)
     kept = {}
-    for file, text in applied(crate, group).items():
-        with open(f"{crate}/{file}", encoding="utf-8") as it:
-            kept[file] = it.read()
-        with open(f"{crate}/{file}", "w", encoding="utf-8") as it:
+    for path, text in texts.items():
+        with open(path, encoding="utf-8") as it:
+            kept[path] = it.read()
+        with open(path, "w", encoding="utf-8") as it:
             it.write(text)
-    words = [word for edit in group for word in ("--only", edit.function)] if only else []
+    words = [word for edit in edits for word in ("--only", edit.function)]
     try:
-        ran = subprocess.run(["rt", "check", "--jobs", "1", *words], cwd=crate, stdin=subprocess.DEVNULL, stdout=subprocess.PIPE, stderr=subprocess.STDOUT, errors="replace")
+        ran = subprocess.run(["rt", "check", "--jobs", "1", *words], cwd=folder, stdin=subprocess.DEVNULL, stdout=subprocess.PIPE, stderr=subprocess.STDOUT, errors="replace")
     finally:
-        for file, text in kept.items():
-            with open(f"{crate}/{file}", "w", encoding="utf-8") as it:
+        for path, text in kept.items():
+            with open(path, "w", encoding="utf-8") as it:
                 it.write(text)
     return ran.stdout
 
 
-def refused(said, crate):
-    """The functions that the check refused for themselves, each with the goals that it left open there."""
-    found = {}
-    for line in re.finditer(rf"^fn {crate}::(\S+): (?:not proved|no proof)(?!: it calls)(?!; it waits)(.*)$", said, re.M):
-        goals = re.findall(r"`([^`]+)`", line[2].partition("did not prove")[2])
-        folder = r"/\+?".join(re.escape(it) for it in line[1].split("::"))
-        for at in re.finditer(rf"^\./proofs/\+?{folder}/\w+\.antt:\d+:\d+: error: `([^`]+)`: (.*)$", said, re.M):
-            if not LOST.search(at[2]):
-                goals.append(at[1])
-        found[line[1]] = goals
-    return found
-
-
-def judge(said, edit):
-    """Whether the edit is refused as it must be, and what to say."""
-    goals = refused(said, edit.crate).get(edit.function)
-    if goals is None:
-        return False, "NOT REFUSED"
-    if edit.says:
-        return edit.says in said, f"refused: {edit.says}" if edit.says in said else f"refused, but it does not say: {edit.says}"
-    hit = next((it for it in goals if edit.clause in it.split("-") or edit.clause == it), None)
-    if hit is None:
-        return False, f"refused, but not for `{edit.clause}`: {', '.join(goals) or 'no goal is named'}"
-    return True, f"refused: {hit}"
+def shown(room, edits):
+    """Each edit with its verdict. Answers by hand that no longer fit are taken out, and the functions that had some are checked again."""
+    crate, told, out = edits[0].crate, {}, {}
+    for _ in range(ROUNDS):
+        text = checked(room, crate, edits, out)
+        again = []
+        for edit in edits:
+            said = Said(text, crate, edit.function)
+            if edit.says:
+                does = edit.says in text and said.is_refused
+                told[edit] = does, f"refused: {edit.says}" if does else f"NOT SHOWN: it does not say {edit.says}", said
+                continue
+            told[edit] = *judge(said, edit), said
+            new = said.erring - out.get(edit.function, set())
+            if new and (edit.is_right or not told[edit][0]) and answers_of(f"{room}/crates/{crate}", edit.function):
+                out[edit.function] = out.get(edit.function, set()) | new
+                again.append(edit)
+        edits = again
+        out = {it.function: out[it.function] for it in again}
+        if not edits:
+            break
+    return told
 
 
 @functools.cache
@@ -210,9 +139,10 @@ def files_of(crate):
 
 
 def place_of(edit):
-    """Where it is kept that the edit was refused."""
-    sums = hashlib.sha256(kit())
-    for path in (__file__, edit.path):
+    """Where it is kept what the edit showed."""
+    sums = hashlib.sha256(kit() + repr(edit.meaning()).encode())
+    here = os.path.dirname(os.path.abspath(__file__))
+    for path in (f"{here}/{it}.py" for it in ("wrong_bodies", "edits", "refusals")):
         with open(path, "rb") as it:
             sums.update(hashlib.sha256(it.read()).digest())
     for crate in sorted({edit.crate, *below(edit.crate)}):
@@ -222,7 +152,7 @@ def place_of(edit):
 
 
 def kept(edit):
-    """What was said of the edit when it was refused here, if it was."""
+    """What was said of the edit when it showed what it must here, if it did."""
     try:
         with open(place_of(edit), encoding="utf-8") as it:
             return it.read()
@@ -231,7 +161,7 @@ def kept(edit):
 
 
 def keep(edit, text):
-    """Keeps that the edit was refused."""
+    """Keeps that the edit showed what it must."""
     place = place_of(edit)
     try:
         os.makedirs(os.path.dirname(place), exist_ok=True)
@@ -269,25 +199,16 @@ def room_for(crate, top):
         shutil.copytree(f"crates/{crate}/out/incremental", f"{top}/crates/{crate}/out/incremental")
 
 
-def explained(said, edit):
-    """What the check refuses with the edit."""
-    found = refused(said, edit.crate)
-    return "; ".join(f"fn {name}: {', '.join(goals) or 'no goal is named'}" for name, goals in found.items()) or "NOT REFUSED"
-
-
-def tried(room, group, how):
-    """Each edit of the group with its verdict."""
-    if how == "--explain":
-        return [(it, True, explained(checked(room, [it], only=False), it)) for it in group]
-    said = checked(room, group)
-    told = {it: judge(said, it) for it in group}
-    rest = [it for it in group if not told[it][0]]
-    if len(group) == 1 and rest:
-        told[group[0]] = judge(checked(room, group, only=False), group[0])
-    elif rest:
-        for some in [rest] if len(rest) < len(group) else [[it] for it in rest]:
-            told.update((edit, (well, text)) for edit, well, text in tried(room, some, how))
-    return [(it, *told[it]) for it in group]
+def tried(room, group):
+    """Each edit of the group with its verdict. What the group did not show is tried again alone; a group of which the check looked at no function, in halves."""
+    told = shown(room, group)
+    if len(group) > 1:
+        half = len(group) // 2
+        if all(said.line is None for _, _, said in told.values()):
+            return [*tried(room, group[:half]), *tried(room, group[half:])]
+        for edit in [it for it in group if not told[it][0]]:
+            told |= shown(room, [edit])
+    return [(it, *told[it][:2]) for it in group]
 
 
 class Work:
@@ -317,49 +238,75 @@ class Work:
             return None
 
 
-def lane(work, how, tell):
+def lane(work, look, tell):
     """Tries the groups of one crate in a room of its own, and then those of the next, until none is left."""
     while crate := work.crate():
         with tempfile.TemporaryDirectory(prefix="wrong-bodies-") as top:
             room_for(crate, top)
             while group := work.group(crate):
-                tell(tried(top, group, how))
+                tell(look(top, group))
+
+
+def explained(room, group):
+    """What each edit of the group leaves open, once the answers that no longer fit are out."""
+    return [(edit, True, f"{text} [open: {', '.join(said.open) or 'none'}; {said.line}]") for edit, (_, text, said) in shown(room, group).items()]
+
+
+def read_edits(wanted, explains):
+    """The edits by crate; nothing where one is at fault, or there is none."""
+    found, faults = edits_of(wanted)
+    for edits in found.values():
+        faults += [f"{it.label}: BAD EDIT: {why}" for it in edits if (why := it.fault(explains))]
+    if not wanted and not any(not it.is_right for edits in found.values() for it in edits):
+        faults.append("there is no wrong body")
+    for it in faults:
+        print(it)
+    if faults:
+        print(f"0 passed, {len(faults)} failed")
+    return None if faults else found
+
+
+def not_kept(found, verdicts):
+    """The edits of which nothing is kept; of the others it is told."""
+    rest = {}
+    for crate, edits in found.items():
+        told = {it: text for it in edits if (text := kept(it))}
+        for edit, text in told.items():
+            print(f"{edit.label}: {text}, as kept", flush=True)
+        verdicts += [True] * len(told)
+        if left := [it for it in edits if it not in told]:
+            rest[crate] = left
+    return rest
 
 
 def main(words):
     how = next((it for it in words if it.startswith("--")), "")
-    if how not in ("", "--anew", "--alone", "--explain"):
+    if how not in ("", "--anew", "--alone", "--explain", "--list"):
         print(__doc__)
         return 2
-    found = edits_of([it for it in words if not it.startswith("--")])
-    faults = [(it, it.fault(how)) for edits in found.values() for it in edits if it.fault(how)]
-    for edit, why in faults:
-        print(f"wrong body {edit.name}: BAD EDIT: {why}")
-    if faults:
-        print(f"0 passed, {len(faults)} failed")
+    found = read_edits([it for it in words if not it.startswith("--")], how == "--explain")
+    if found is None:
         return 1
+    if how == "--list":
+        for edit in (it for edits in found.values() for it in edits):
+            print(f"{edit.label}: {edit.function}: {', '.join(edit.clauses) or edit.says}")
+        return 0
     verdicts = []
 
     def tell(told):
         for edit, well, text in told:
-            print(f"wrong body {edit.name}: {text}", flush=True)
+            print(f"{edit.label}: {text}", flush=True)
             verdicts.append(well)
             if well and how != "--explain":
                 keep(edit, text)
 
     if how == "":
-        for crate, edits in list(found.items()):
-            told = {it: text for it in edits if (text := kept(it))}
-            for edit, text in told.items():
-                print(f"wrong body {edit.name}: {text}, as kept", flush=True)
-            verdicts += [True] * len(told)
-            found[crate] = [it for it in edits if it not in told]
-        found = {crate: edits for crate, edits in found.items() if edits}
+        found = not_kept(found, verdicts)
     build_below(found)
-    work = Work({crate: groups_of(crate, edits) if how in ("", "--anew") else [[it] for it in edits] for crate, edits in found.items()})
+    work = Work({crate: [[it] for it in edits] if how == "--alone" else groups_of(crate, edits, MOST) for crate, edits in found.items()})
     lanes = int(os.environ.get("RT_JOBS") or len(os.sched_getaffinity(0)))
     with concurrent.futures.ThreadPoolExecutor(lanes) as pool:
-        for it in [pool.submit(lane, work, how, tell) for _ in range(lanes)]:
+        for it in [pool.submit(lane, work, explained if how == "--explain" else tried, tell) for _ in range(lanes)]:
             it.result()
     passed = sum(verdicts)
     print(f"{passed} passed, {len(verdicts) - passed} failed")

@@ -7,7 +7,9 @@ ghost use Rattle.specs.specs.Steps.{world_state};
 ghost use Rattle.specs.specs.declared.job.Job.TheVariants.{Own};
 ghost use Rattle.callers.specs.Spreads.{Given};
 
-use specs::{Core, CreateError, Entity, LazyUpdate, Maintained, Parts, Storages, World, WorldJob};
+use specs::{
+    Core, CreateError, Entity, Held, LazyUpdate, Maintained, Parts, Storages, World, WorldJob,
+};
 use std::alloc::AllocError;
 
 /// Queues itself, so it runs again at each turn.
@@ -17,7 +19,7 @@ pub struct Again {
     pub name: u64,
 }
 
-impl<S: Storages> WorldJob<S> for Again {
+impl<S: Held> WorldJob<S> for Again {
     ghost use Rattle.std.specs.Prelude.{◌≡◌, [], ◌∷◌};
     ghost use Rattle.specs.specs.Lawful.{still_grows, still_lives};
     ghost use Rattle.specs.specs.declared.job.Job.TheVariants.{Own};
@@ -46,14 +48,14 @@ impl<S: Storages> WorldJob<S> for Again {
 
 /// Queues an insertion, and does nothing itself.
 #[derive(Drop)]
-pub struct Late<S: Storages> {
+pub struct Late<S: Held> {
     /// The entity.
     pub entity: Entity,
     /// The component.
     pub value: S::Value,
 }
 
-impl<S: Storages> WorldJob<S> for Late<S> {
+impl<S: Held> WorldJob<S> for Late<S> {
     ghost use Rattle.std.specs.Prelude.{◌≡◌, [], ◌∷◌};
     ghost use Rattle.specs.specs.Lawful.{still_grows, still_lives};
     ghost use Rattle.specs.specs.declared.job.Job.TheVariants.{Insert};
@@ -86,7 +88,7 @@ impl<S: Storages> WorldJob<S> for Late<S> {
 
 /// Makes an entity with a component. Where no index is left it does nothing; where the component is refused the entity stays without it.
 #[derive(Drop)]
-pub struct Spread<S: Storages> {
+pub struct Spread<S: Held> {
     /// The component.
     pub value: S::Value,
 }
@@ -123,7 +125,7 @@ impl<S: Storages> WorldJob<S> for Spread<S> {
 }
 
 /// A birth at once.
-fn birth<S: Storages>(core: &mut Core<S>) -> Result<Entity, CreateError>
+fn birth<S: Held>(core: &mut Core<S>) -> Result<Entity, CreateError>
     ensures ok { IfOk result (λ e. OnPeople (λ p p'. Births born p e p') (core_state S.table S.ids core.old) (core_state S.table S.ids core.new)) }
     ensures err { OnErr result (core_state S.table S.ids core.new ≡ core_state S.table S.ids core.old) }
 {

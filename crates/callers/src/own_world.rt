@@ -8,7 +8,7 @@ ghost use Rattle.specs.specs.State.{state_of};
 
 use crate::worlds::new_world;
 use composed::Of5;
-use specs::{Command, EntitiesRes, Entity, Has, Refusal, Storages, World, by_type, slot, value};
+use specs::{Command, EntitiesRes, Entity, Has, Held, Refusal, World, by_type, slot, value};
 use std::alloc::Global;
 use storages::{
     Component, DenseVecStorage, HashMapStorage, NullComponent, NullStorage, UnprotectedStorage,
@@ -67,13 +67,13 @@ pub type Game = World<Parts>;
 
 /// A game that begins: each component belongs to a living entity, and a run keeps that.
 pub fn new_game(alloc: Global) -> Game
-    ensures { OnlyLiving (state_of ⟦<Parts as Storages>⟧.table ⟦<Parts as Storages>⟧.ids result) }
+    ensures { OnlyLiving (state_of ⟦<Parts as Held>⟧.table ⟦<Parts as Held>⟧.ids result) }
 {
     new_world(alloc)
 }
 
 /// The slot of a component type, by the type's name.
-pub fn load_slot() -> <Parts as Storages>::Slot
+pub fn load_slot() -> <Parts as Held>::Slot
     ensures { result ≡ Rest (First TheSole) }
 {
     slot::<Load, Parts, _>()

@@ -5,7 +5,7 @@ ghost use Rattle.composed.specs.declared.either.Either.TheVariants.{First, Rest}
 
 use crate::either::Either;
 use hibits::BitSet;
-use specs::{ComponentEvent, EntitiesRes, Entity, MarkError, ReaderId, Refusal, Storages};
+use specs::{ComponentEvent, EntitiesRes, Entity, Held, MarkError, ReaderId, Refusal, Storages};
 use std::alloc::{AllocError, Global};
 
 /// The storages of both. A call goes to the part that its slot or its value names, and costs what it costs there.
@@ -25,11 +25,8 @@ impl<A: Drop, B: Drop> Drop for Both<A, B> {
     }
 }
 
-impl<A: Storages, B: Storages> Storages for Both<A, B> {
-    ghost use Rattle.std.specs.Prelude.{refl};
-    ghost use Rattle.composed.specs.Exact.{exact_by};
+impl<A: Held, B: Held> Held for Both<A, B> {
     ghost use Rattle.composed.specs.Both.{table_of_both, place_of_both, of_either, markers_of_both};
-    ghost use Rattle.composed.specs.Places.{idless_of_both};
 
     type Slot = Either<A::Slot, B::Slot>;
 
@@ -37,19 +34,26 @@ impl<A: Storages, B: Storages> Storages for Both<A, B> {
 
     ghost table = { λ s. table_of_both (A.table s.first) (B.table s.rest) };
 
-    ghost room = { λ s. of_either (A.room s.first) (B.room s.rest) };
-
-    ghost exact = { exact_by _ A.Slot.eq B.Slot.eq (λ x y. refl) (λ x y. refl) (λ x y. refl) (λ x y. refl) A.exact B.exact };
+    ghost place = { place_of_both A.place B.place };
 
     ghost marks = { markers_of_both A.marks B.marks };
 
     ghost ids = { λ s. of_either (A.ids s.first) (B.ids s.rest) };
+}
 
-    ghost idless = { λ s. idless_of_both A.marks.holds B.marks.holds (A.ids s.first) (B.ids s.rest) (A.idless s.first) (B.idless s.rest) };
+impl<A: Storages, B: Storages> Storages for Both<A, B> {
+    ghost use Rattle.std.specs.Prelude.{refl};
+    ghost use Rattle.composed.specs.Exact.{exact_by};
+    ghost use Rattle.composed.specs.Both.{of_either};
+    ghost use Rattle.composed.specs.Places.{idless_of_both};
 
-    ghost place = { place_of_both A.place B.place };
+    ghost room = { λ s. of_either (A.room s.first) (B.room s.rest) };
 
     ghost allocates = { of_either A.allocates B.allocates };
+
+    ghost exact = { exact_by _ A.Slot.eq B.Slot.eq (λ x y. refl) (λ x y. refl) (λ x y. refl) (λ x y. refl) A.exact B.exact };
+
+    ghost idless = { λ s. idless_of_both A.marks.holds B.marks.holds (A.ids s.first) (B.ids s.rest) (A.idless s.first) (B.idless s.rest) };
 
     fn slot_of(value: &Self::Value) -> Self::Slot {
         match value {
@@ -62,13 +66,6 @@ impl<A: Storages, B: Storages> Storages for Both<A, B> {
         match slot {
             Either::First(slot) => self.first.register(alloc, slot),
             Either::Rest(slot) => self.rest.register(alloc, slot),
-        }
-    }
-
-    fn is_registered(&self, slot: Self::Slot) -> bool {
-        match slot {
-            Either::First(slot) => self.first.is_registered(slot),
-            Either::Rest(slot) => self.rest.is_registered(slot),
         }
     }
 

@@ -6,9 +6,9 @@ use crate::either::Either;
 use crate::marking::Marking;
 use crate::only::{Only, Sole};
 use saveload::{Marker, MarkerAllocator};
-use specs::{Duplicate, Field, Has, Storages};
+use specs::{Field, Has, Held};
 use std::marker::PhantomData;
-use storages::{Component, MaskedStorage, MaybeTracked};
+use storages::{Component, MaskedStorage};
 
 /// In the struct itself.
 pub struct Here;
@@ -109,10 +109,7 @@ impl<T: Component, I, A, B: Field<MaskedStorage<T>, I>> Field<MaskedStorage<T>, 
     }
 }
 
-impl<T: Component + Duplicate> Has<T, Here> for Only<T>
-where
-    T::Storage: MaybeTracked<T>,
-{
+impl<T: Component + Drop> Has<T, Here> for Only<T> {
     ghost use Rattle.composed.specs.declared.only.Sole.TheVariants.{Sole};
     ghost use Rattle.composed.specs.Places.{sees_only};
     ghost use Rattle.std.proofs.Common.{refl, inl};
@@ -142,10 +139,7 @@ where
     ghost places = { λ t. refl };
 }
 
-impl<M: Marker + Duplicate, A: MarkerAllocator<M>> Has<M, Here> for Marking<M, A>
-where
-    M::Storage: MaybeTracked<M>,
-{
+impl<M: Marker, A: MarkerAllocator<M>> Has<M, Here> for Marking<M, A> {
     ghost use Rattle.composed.specs.declared.only.Sole.TheVariants.{Sole};
     ghost use Rattle.composed.specs.Places.{sees_only};
     ghost use Rattle.specs.specs.Field.{field_column};
@@ -176,7 +170,7 @@ where
     ghost places = { λ t. refl };
 }
 
-impl<T: Component, I, A: Has<T, I>, B: Storages> Has<T, InFirst<I>> for Both<A, B> {
+impl<T: Component, I, A: Has<T, I>, B: Held> Has<T, InFirst<I>> for Both<A, B> {
     ghost use Rattle.composed.specs.declared.either.Either.TheVariants.{First, Rest};
     ghost use Rattle.composed.specs.Both.{of_either};
     ghost use Rattle.composed.specs.Places.{sees_first, only_first};
@@ -213,7 +207,7 @@ impl<T: Component, I, A: Has<T, I>, B: Storages> Has<T, InFirst<I>> for Both<A, 
     ghost places = { λ t. ap First (A.places t) };
 }
 
-impl<T: Component, I, A: Storages, B: Has<T, I>> Has<T, InRest<I>> for Both<A, B> {
+impl<T: Component, I, A: Held, B: Has<T, I>> Has<T, InRest<I>> for Both<A, B> {
     ghost use Rattle.composed.specs.declared.either.Either.TheVariants.{First, Rest};
     ghost use Rattle.composed.specs.Both.{of_either};
     ghost use Rattle.composed.specs.Places.{sees_rest, only_rest};

@@ -3,7 +3,7 @@ use crate::only::{Only, Sole};
 use hibits::BitSet;
 use saveload::{Marker, MarkerAllocator, SimpleMarker, SimpleMarkerAllocator};
 use specs::{
-    ComponentEvent, Duplicate, EntitiesRes, Entity, MarkError, ReaderId, Refusal, Storages,
+    ComponentEvent, Duplicate, EntitiesRes, Entity, Held, MarkError, ReaderId, Refusal, Storages,
     field_marks,
 };
 use std::alloc::{AllocError, Global};
@@ -43,14 +43,9 @@ impl<T> Marking<SimpleMarker<T>, SimpleMarkerAllocator<T>> {
     }
 }
 
-impl<M: Marker + Duplicate, A: MarkerAllocator<M>> Storages for Marking<M, A>
-where
-    M::Storage: MaybeTracked<M>,
-{
-    ghost use Rattle.std.specs.Prelude.{refl, true};
-    ghost use Rattle.std.proofs.Common.{true≢false};
-    ghost use Rattle.composed.specs.Exact.{sole_is};
-    ghost use Rattle.specs.specs.Field.{field_column, field_room};
+impl<M: Marker, A: MarkerAllocator<M>> Held for Marking<M, A> {
+    ghost use Rattle.std.specs.Prelude.{true};
+    ghost use Rattle.specs.specs.Field.{field_column};
     ghost use Rattle.composed.specs.declared.only.Sole.TheVariants.{Sole};
 
     type Slot = Sole;
@@ -59,19 +54,29 @@ where
 
     ghost table = { λ s _. field_column s.markers.field };
 
-    ghost room = { λ s _. field_room s.markers.field };
-
-    ghost exact = { λ a b. (λ _. sole_is a b, λ _. refl) };
+    ghost place = { λ _. Sole };
 
     ghost marks = { record { holds = λ _. true; comes = λ _ left m. A.ComesNext left (M.id_of m) } };
 
     ghost ids = { λ s _. A.ids s.allocator };
+}
 
-    ghost idless = { λ _ _ h. absurd (true≢false h) };
+impl<M: Marker + Duplicate, A: MarkerAllocator<M>> Storages for Marking<M, A>
+where
+    M::Storage: MaybeTracked<M>,
+{
+    ghost use Rattle.std.specs.Prelude.{refl};
+    ghost use Rattle.std.proofs.Common.{true≢false};
+    ghost use Rattle.composed.specs.Exact.{sole_is};
+    ghost use Rattle.specs.specs.Field.{field_room};
 
-    ghost place = { λ _. Sole };
+    ghost room = { λ s _. field_room s.markers.field };
 
     ghost allocates = { λ _. M.allocates };
+
+    ghost exact = { λ a b. (λ _. sole_is a b, λ _. refl) };
+
+    ghost idless = { λ _ _ h. absurd (true≢false h) };
 
     fn slot_of(_value: &M) -> Sole {
         Sole::Sole
@@ -79,10 +84,6 @@ where
 
     fn register(&mut self, alloc: Global, slot: Sole) -> Result<(), AllocError> {
         self.markers.register(alloc, slot)
-    }
-
-    fn is_registered(&self, slot: Sole) -> bool {
-        self.markers.is_registered(slot)
     }
 
     fn mask(&self, slot: Sole) -> Option<&BitSet> {

@@ -1,7 +1,8 @@
 //! A struct of storages for one component type.
 use hibits::BitSet;
 use specs::{
-    ComponentEvent, Duplicate, EntitiesRes, Entity, MarkError, ReaderId, Refusal, Storages, field,
+    ComponentEvent, Duplicate, EntitiesRes, Entity, Held, MarkError, ReaderId, Refusal, Storages,
+    field,
 };
 use std::alloc::{AllocError, Global};
 use storages::{Component, MaskedStorage, MaybeTracked};
@@ -36,13 +37,9 @@ impl<T: Component> Only<T> {
     }
 }
 
-impl<T: Component + Duplicate> Storages for Only<T>
-where
-    T::Storage: MaybeTracked<T>,
-{
-    ghost use Rattle.std.specs.Prelude.{refl, false, Some};
-    ghost use Rattle.composed.specs.Exact.{sole_is};
-    ghost use Rattle.specs.specs.Field.{field_column, field_room};
+impl<T: Component + Drop> Held for Only<T> {
+    ghost use Rattle.std.specs.Prelude.{Some};
+    ghost use Rattle.specs.specs.Field.{field_column};
     ghost use Rattle.specs.specs.Marks.{no_markers};
     ghost use Rattle.composed.specs.declared.only.Sole.TheVariants.{Sole};
 
@@ -52,19 +49,28 @@ where
 
     ghost table = { λ s _. field_column s.field };
 
-    ghost room = { λ s _. field_room s.field };
-
-    ghost exact = { λ a b. (λ _. sole_is a b, λ _. refl) };
+    ghost place = { λ _. Sole };
 
     ghost marks = { no_markers };
 
     ghost ids = { λ _ _. Some 0 };
+}
 
-    ghost idless = { λ _ _ _. refl };
+impl<T: Component + Duplicate> Storages for Only<T>
+where
+    T::Storage: MaybeTracked<T>,
+{
+    ghost use Rattle.std.specs.Prelude.{refl};
+    ghost use Rattle.composed.specs.Exact.{sole_is};
+    ghost use Rattle.specs.specs.Field.{field_room};
 
-    ghost place = { λ _. Sole };
+    ghost room = { λ s _. field_room s.field };
 
     ghost allocates = { λ _. T.allocates };
+
+    ghost exact = { λ a b. (λ _. sole_is a b, λ _. refl) };
+
+    ghost idless = { λ _ _ _. refl };
 
     fn slot_of(_value: &T) -> Sole {
         Sole::Sole
@@ -75,10 +81,6 @@ where
             self.field = Some(field::empty(alloc)?);
         }
         Ok(())
-    }
-
-    fn is_registered(&self, _slot: Sole) -> bool {
-        self.field.is_some()
     }
 
     fn mask(&self, _slot: Sole) -> Option<&BitSet> {

@@ -1,8 +1,11 @@
 //! Values that take others of their kind in.
 ghost use Rattle.std.specs.Prelude.{◌≡◌, ◌+◌, OnOk, OnErr};
 
+use thiserror::Error;
+
 /// A value did not take another in, and is as it was.
-#[derive(Clone, Copy, Debug, PartialEq, Eq)]
+#[derive(Clone, Copy, Debug, PartialEq, Eq, Error)]
+#[error("the value refuses to combine with another")]
 pub struct Refused;
 
 /// A value that takes others of its kind in, one after another. It stands for `AddAssign` of specs, whose sums can overflow.

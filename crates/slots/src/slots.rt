@@ -2,7 +2,7 @@
 use crate::components::{Defense, Health, Link, Mapped, Position, Tag, Treed, Velocity};
 use composed::{Both, Either, Marking, Of2, Of6, Sole};
 use saveload::{SimpleMarker, SimpleMarkerAllocator};
-use specs::Storages;
+use specs::Held;
 
 /// The kind of the program's markers.
 #[derive(Clone, Copy)]
@@ -24,10 +24,10 @@ pub type SavedSlots = Both<SavedPlaces, Labels>;
 pub type Slots = Both<Of6<Velocity, Defense, Mapped, Treed, Tag, Health>, SavedSlots>;
 
 /// A component type of the program.
-pub type Slot = <Slots as Storages>::Slot;
+pub type Slot = <Slots as Held>::Slot;
 
 /// A component of the program.
-pub type Value = <Slots as Storages>::Value;
+pub type Value = <Slots as Held>::Value;
 
 /// `vel`: whole numbers, in a dense vector.
 pub const VEL: Slot = Either::First(Either::First(Either::First(Sole::Sole)));

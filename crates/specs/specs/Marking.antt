@@ -1,5 +1,5 @@
 -- Markers for entities of a state.
-use Rattle.std.specs.Prelude.{◌≡◌, Bool, Option}
+use Rattle.std.specs.Prelude.{◌≡◌, Bool, true, Option}
 use Rattle.entities.specs.declared.entity.Entity.{Entity}
 use Rattle.saveload.specs.declared.mark_error.MarkError.{MarkError}
 use Rattle.specs.specs.Ids.{IdsAfter}
@@ -12,8 +12,9 @@ pub record GivesMarkerIn {K V : Type 0} (marks : Markers K V) (slot : K) (e : En
   pub table : GivesMarker (marks.comes slot (old.ids slot)) old.people old.table slot e given new.table
   pub ids : IdsAfter given old.ids slot new.ids
 
--- an entity has a marker then, if it is alive, whether it had one before or not
+-- an entity has a marker then, if it is alive, whether it had one before or not, and the slot holds markers
 pub record HasMarkerThen {K V : Type 0} (marks : Markers K V) (slot : K) (e : Entity) (old new : State K V) : Type 0 where
+  pub holds : marks.holds slot ≡ true
   pub given : Option Bool
   pub gives : GivesMarkerIn marks slot e given old new
 

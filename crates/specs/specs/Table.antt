@@ -5,6 +5,7 @@ use Rattle.hibits.specs.Sets.{Layered}
 use Rattle.hibits.specs.Left.{left}
 use Rattle.entities.specs.declared.entity.Entity.{Entity}
 use Rattle.entities.specs.declared.entity.WrongGeneration.{WrongGeneration}
+use Rattle.storages.specs.declared.write_storage.TheConstants.{INSERT}
 use Rattle.entities.specs.Population.{index_of, number_of, Population, IsAlive, generation_now}
 use Rattle.specs.specs.Maps.{has_value, no_value}
 use Rattle.specs.specs.Column.{Column, IsFresh, WantsNone, wants_memory, with_value, without_value, emptied}
@@ -37,10 +38,11 @@ pub record Inserts {K V : Type 0} (place : V → K) (p : Population) (old : Tabl
   pub told : before ≡ column.values (index_of e)
   pub put : Becomes old (place value) (with_value column (index_of e) value) new
 
--- the refused entity is not alive, and the refusal tells the generation that its index has now
+-- the refused entity is not alive, and the refusal tells that it was an insertion, and the generation that its index has now
 pub record InsertIsStale (p : Population) (e : Entity) (w : WrongGeneration) : Type 0 where
   pub dead : IsAlive p e → ⊥
   pub entity : w.entity ≡ e
+  pub action : w.action.now ≡ INSERT.now
   pub actual : number_of w.actual_gen ≡ generation_now p (index_of e)
 
 -- memory is wanted only by an entity that is alive, and has no value yet or somebody hears of it

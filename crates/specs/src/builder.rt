@@ -8,22 +8,24 @@ ghost use Rattle.specs.specs.Marking.{HasMarkerThen, GetsNoMarker};
 use crate::command::Refusal;
 use crate::core_parts::Core;
 use crate::has::{Field, Has};
-use crate::slots::Storages;
+use crate::slots::{Held, Storages};
 use entities::Entity;
 use saveload::MarkError;
-use storages::Component;
+use storages::{Component, UnprotectedStorage};
 
 /// Puts components at an entity that is being built. Ports `specs::Builder`.
-pub trait Builder<S: Storages>: Sized {
+pub trait Builder<S: Held>: Sized {
     /// The builder again, once the component is at its entity. A refused call drops the builder, and hands the component back.
     fn with<T: Component + Drop, I>(self, component: T) -> Result<Self, (Refusal, T)>
     where
-        S: Has<T, I>;
+        S: Has<T, I>,
+        T::Storage: UnprotectedStorage<T>;
 
     /// The same for a component that is there, and without one the builder again.
     fn maybe_with<T: Component + Drop, I>(self, component: Option<T>) -> Result<Self, (Refusal, T)>
     where
-        S: Has<T, I>;
+        S: Has<T, I>,
+        T::Storage: UnprotectedStorage<T>;
 
     /// The entity, which then is as it is: nothing marks it.
     fn build(self) -> Entity;
@@ -71,11 +73,12 @@ impl<'a, S: Storages> EntityBuilder<'a, S> {
     }
 }
 
-impl<'a, S: Storages> Builder<S> for EntityBuilder<'a, S> {
+impl<'a, S: Held> Builder<S> for EntityBuilder<'a, S> {
     #[inline(always)]
     fn with<T: Component + Drop, I>(self, component: T) -> Result<Self, (Refusal, T)>
     where
         S: Has<T, I>,
+        T::Storage: UnprotectedStorage<T>,
         ensures* rests { sem 𝓛 (RestsMarked S.row S.table S.ids self.entry result) }
         ensures same_reference { IfOk result (λ b. (lent_to b).ghost_name ≡ (lent_to self.entry).ghost_name) }
         ensures entity { IfOk result (λ b. built b ≡ built self.entry) }
@@ -90,6 +93,7 @@ impl<'a, S: Storages> Builder<S> for EntityBuilder<'a, S> {
     fn maybe_with<T: Component + Drop, I>(self, component: Option<T>) -> Result<Self, (Refusal, T)>
     where
         S: Has<T, I>,
+        T::Storage: UnprotectedStorage<T>,
         ensures* rests { sem 𝓛 (RestsMarked S.row S.table S.ids self.entry result) }
         ensures same_reference { IfOk result (λ b. (lent_to b).ghost_name ≡ (lent_to self.entry).ghost_name) }
         ensures entity { IfOk result (λ b. built b ≡ built self.entry) }

@@ -17,12 +17,12 @@ use crate::command::Refusal;
 use crate::core_parts::{Core, Parts};
 use crate::create_iter::CreateIter;
 use crate::has::{Field, Has};
-use crate::slots::Storages;
+use crate::slots::{Held, Storages};
 use entities::{CreateError, Entity};
 use saveload::MarkError;
-use storages::Component;
+use storages::{Component, UnprotectedStorage};
 
-impl<S: Storages> Core<S> {
+impl<S: Held> Core<S> {
     /// The birth of an entity, at once, with a builder for it. Ports `WorldExt::create_entity`.
     #[inline(always)]
     pub fn create_entity(&mut self) -> Result<EntityBuilder<'_, S>, CreateError>
@@ -56,6 +56,7 @@ impl<S: Storages> Core<S> {
     ) -> Result<EntityBuilder<'_, S>, (Refusal, T)>
     where
         S: Has<T, I>,
+        T::Storage: UnprotectedStorage<T>,
         ensures* rests { sem 𝓛 (RestsMarkedAt S.row S.table S.ids self.entry entity result) }
         ensures same_reference { IfOk result (λ b. (lent_to b).ghost_name ≡ self.entry.ghost_name) }
         ensures entity { IfOk result (λ b. built b ≡ entity) }
@@ -66,7 +67,9 @@ impl<S: Storages> Core<S> {
         put_or_mark(&mut self.parts, entity, component)?;
         Ok(EntityBuilder { core: self, entity })
     }
+}
 
+impl<S: Storages> Core<S> {
     // `EntityBuilder::marked`, of the core and the entity that it held.
     pub(crate) fn build_marked(
         &mut self,
@@ -91,6 +94,8 @@ fn put_or_mark<T: Component + Drop, S: Has<T, I>, I>(
     entity: Entity,
     component: T,
 ) -> Result<(), (Refusal, T)>
+where
+    T::Storage: UnprotectedStorage<T>,
     ensures ok { OnOk result (PutsAlone S.place entity (S.as_value component) (parts_state S.table S.ids parts.old) (parts_state S.table S.ids parts.new)) }
     ensures err { OnErr result (OnPeople (λ p p'. MarkedIfAlive p entity p') (parts_state S.table S.ids parts.old) (parts_state S.table S.ids parts.new)) }
     ensures refused { IfErr result (λ r. FieldInsertIsRefused (parts_state S.table S.ids parts.old).people (field_column (S.part parts.old.storages)) entity r.0) }

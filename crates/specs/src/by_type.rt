@@ -14,7 +14,7 @@ use crate::field;
 use crate::has::Has;
 use entities::{EntitiesRes, Entity};
 use std::alloc::{AllocError, Global};
-use storages::{Component, MaskedStorage};
+use storages::{Component, MaskedStorage, UnprotectedStorage};
 
 /// Puts a component at an entity that is alive, and answers the one before. A refused component is handed back, and nothing changed.
 #[inline(always)]
@@ -24,6 +24,8 @@ pub fn insert<T: Component, S: Has<T, I>, I>(
     e: Entity,
     component: T,
 ) -> Result<Option<T>, (Refusal, T)>
+where
+    T::Storage: UnprotectedStorage<T>,
     ensures ok { IfOk result (λ before. Inserts S.place (population entities.now) (S.table storages.old) e (S.as_value component) (option_map S.as_value before) (S.table storages.new)) }
     ensures field { IfOk result (λ before. FieldInserts (population entities.now) (field_column (S.part storages.old)) e component before (field_column (S.part storages.new))) }
     ensures refused { IfErr result (λ r. FieldInsertIsRefused (population entities.now) (field_column (S.part storages.old)) e r.0) }
@@ -45,6 +47,8 @@ pub fn get<T: Component + Duplicate, S: Has<T, I>, I>(
     entities: &EntitiesRes,
     e: Entity,
 ) -> Result<Option<T>, Refusal>
+where
+    T::Storage: UnprotectedStorage<T>,
     ensures ok { IfOk result (λ found. Gets (population entities.now) (S.table storages.now) S.the_slot e (option_map S.as_value found)) }
     ensures field { IfOk result (λ found. FieldGets (population entities.now) (field_column (S.part storages.now)) e found) }
     ensures refused { IfErr result (FieldGetIsRefused T.allocates (population entities.now) (field_column (S.part storages.now)) e) }
@@ -62,6 +66,8 @@ pub fn remove<T: Component, S: Has<T, I>, I>(
     entities: &EntitiesRes,
     e: Entity,
 ) -> Result<Option<T>, Refusal>
+where
+    T::Storage: UnprotectedStorage<T>,
     ensures ok { IfOk result (λ found. Removes (population entities.now) (S.table storages.old) S.the_slot e (option_map S.as_value found) (S.table storages.new)) }
     ensures field { IfOk result (λ found. FieldRemoves (population entities.now) (field_column (S.part storages.old)) e found (field_column (S.part storages.new))) }
     ensures refused { IfErr result (FieldRemoveIsRefused (population entities.now) (field_column (S.part storages.old)) e) }
@@ -78,6 +84,8 @@ pub fn remove<T: Component, S: Has<T, I>, I>(
 
 /// Removes every component. It takes memory for events alone, and a refused call changes nothing.
 pub fn clear<T: Component, S: Has<T, I>, I>(storages: &mut S) -> Result<(), Refusal>
+where
+    T::Storage: UnprotectedStorage<T>,
     ensures ok { OnOk result (Clears (S.table storages.old) S.the_slot (S.table storages.new)) }
     ensures field { OnOk result (FieldClears (field_column (S.part storages.old)) (field_column (S.part storages.new))) }
     ensures refused { IfErr result (FieldClearIsRefused (field_column (S.part storages.old))) }
@@ -98,6 +106,8 @@ pub fn register<T: Component, S: Has<T, I>, I>(
     storages: &mut S,
     alloc: Global,
 ) -> Result<(), AllocError>
+where
+    T::Storage: UnprotectedStorage<T>,
     ensures ok { OnOk result (Registers (S.table storages.old) S.the_slot (S.table storages.new)) }
     ensures succeeds { T.Storage.TakesNone → IsOk result }
     ensures memory { OnErr result (S.table storages.old S.the_slot ≡ None) }

@@ -1,9 +1,10 @@
 //! Commands and their replies.
 use crate::job::Job;
 use crate::no_job::NoJob;
-use crate::slots::Storages;
+use crate::slots::Held;
 use entities::{Entity, Index, WrongGeneration};
 use storages::{ComponentEvent, ReaderId};
+use thiserror::Error;
 
 /// A set of indices below the limit.
 #[derive(Debug, Drop)]
@@ -24,7 +25,7 @@ pub enum SetExpr<K> {
 
 /// What a world over the storages `S`, with jobs `J` of the user's, is asked to do.
 #[derive(Drop)]
-pub enum Command<S: Storages, J = NoJob> {
+pub enum Command<S: Held, J = NoJob> {
     /// Makes an empty storage for a slot that has none.
     Register(S::Slot),
     /// A birth at once.
@@ -112,18 +113,24 @@ pub struct Maintained {
 }
 
 /// Why a command was refused.
-#[derive(Clone, Copy, Debug, PartialEq, Eq)]
+#[derive(Clone, Copy, Debug, PartialEq, Eq, Error)]
 pub enum Refusal {
     /// The entity is not alive.
+    #[error("{0}")]
     WrongGeneration(WrongGeneration),
     /// The slot has no storage.
+    #[error("the slot is not registered")]
     Unregistered,
     /// No index is free, and each index below the limit was born.
+    #[error("every index below the limit is used")]
     IndexLimit,
     /// Memory was refused.
+    #[error("out of memory")]
     OutOfMemory,
     /// The slot's storage has no channel of events.
+    #[error("the slot's storage has no channel of events")]
     Untracked,
     /// The number is of no registered reader of the slot.
+    #[error("the number is of no registered reader")]
     UnknownReader,
 }

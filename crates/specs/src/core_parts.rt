@@ -14,16 +14,19 @@ ghost use Rattle.specs.specs.Lending.{LendsParts};
 ghost use Rattle.specs.specs.Table.{WantsMemory};
 
 use crate::command::Refusal;
-use crate::slots::Storages;
+use crate::slots::{Held, Storages};
 use entities::{EntitiesRes, Entity, WrongGeneration};
 use std::alloc::{AllocError, Global};
+use thiserror::Error;
 
 /// Why a list of entities was not deleted. Nothing changed.
-#[derive(Clone, Copy, Debug, PartialEq, Eq)]
+#[derive(Clone, Copy, Debug, PartialEq, Eq, Error)]
 pub enum DeleteError {
     /// The first entity of the list that is not alive, or that equals an earlier one.
+    #[error("{0}")]
     WrongGeneration(WrongGeneration),
     /// Memory was refused.
+    #[error("out of memory")]
     OutOfMemory,
 }
 
@@ -72,7 +75,7 @@ impl<S: Drop> Drop for Core<S> {
     }
 }
 
-impl<S: Storages> Core<S> {
+impl<S: Held> Core<S> {
     /// A core without entities, over storages that are empty or not registered.
     #[tactic(auto, using(crate::specs::Living::begins))]
     pub fn new(alloc: Global, storages: S) -> Self
@@ -113,7 +116,9 @@ impl<S: Storages> Core<S> {
     {
         self.parts.entities.is_alive(e) && self.parts.entities.alive().contains(e.id())
     }
+}
 
+impl<S: Storages> Core<S> {
     /// The death at once of an entity, with its components. Ports `WorldExt::delete_entity`.
     #[tactic(auto, using(crate::proofs::Gone::gone_deleted_one))]
     pub fn delete_entity(&mut self, e: Entity) -> Result<(), DeleteError>

@@ -24,13 +24,15 @@ use hibits::BitSet;
 use std::alloc::{AllocError, Global};
 use storages::{
     Component, ComponentEvent, InsertError, MaskedStorage, MaybeTracked, ReadStorage, ReaderId,
-    TryDefault, WriteStorage,
+    TryDefault, UnprotectedStorage, WriteStorage,
 };
 
 pub type Field<T> = Option<MaskedStorage<T>>;
 
 /// An empty storage. Where the first value of its kind takes no memory, as of each kind of `storages`, it takes none.
 pub fn empty<T: Component>(alloc: Global) -> Result<MaskedStorage<T>, AllocError>
+where
+    T::Storage: UnprotectedStorage<T>,
     ensures fresh { IfOk result (λ s. IsFresh (column_of s)) }
     ensures succeeds { T.Storage.TakesNone → IsOk result }
 {
@@ -57,6 +59,8 @@ pub fn insert<T: Component>(
     e: Entity,
     value: T,
 ) -> Result<Option<T>, (Refusal, T)>
+where
+    T::Storage: UnprotectedStorage<T>,
     ensures ok { IfOk result (λ before. FieldInserts (population entities.now) (field_column field.old) e value before (field_column field.new)) }
     ensures refused { IfErr result (λ r. FieldInsertIsRefused (population entities.now) (field_column field.old) e r.0) }
     ensures back { IfErr result (λ r. r.1 ≡ value) }
@@ -77,6 +81,8 @@ pub fn insert_in<T: Component>(
     e: Entity,
     value: T,
 ) -> Result<Option<T>, (Refusal, T)>
+where
+    T::Storage: UnprotectedStorage<T>,
     ensures ok { IfOk result (λ before. FieldInserts (population entities.now) (Some (column_of storage.old)) e value before (Some (column_of storage.new))) }
     ensures refused { IfErr result (λ r. FieldInsertIsRefused (population entities.now) (Some (column_of storage.old)) e r.0) }
     ensures back { IfErr result (λ r. r.1 ≡ value) }
@@ -102,6 +108,8 @@ fn put<T: Component>(
     e: Entity,
     value: T,
 ) -> Result<Option<T>, InsertError<T>>
+where
+    T::Storage: UnprotectedStorage<T>,
     ensures before { IfOk result (λ before. before ≡ found_in entities.now storage.old e) }
     ensures alive { OnOk result (is_alive (population entities.now) e ≡ true) }
     ensures map { OnOk result (storage.new.map ≡ map.insert storage.old.map (index_of e) value) }
@@ -120,6 +128,8 @@ pub fn find<'a, T: Component>(
     entities: &EntitiesRes,
     e: Entity,
 ) -> Option<&'a T>
+where
+    T::Storage: UnprotectedStorage<T>,
     ensures { FieldGets (population entities.now) (Some (column_of storage.now)) e (option_copied result) }
 {
     if entities.is_alive(e) {
@@ -135,6 +145,8 @@ pub fn get<T: Component + Duplicate>(
     entities: &EntitiesRes,
     e: Entity,
 ) -> Result<Option<T>, Refusal>
+where
+    T::Storage: UnprotectedStorage<T>,
     ensures ok { IfOk result (λ found. FieldGets (population entities.now) (field_column field.now) e found) }
     ensures refused { IfErr result (FieldGetIsRefused T.allocates (population entities.now) (field_column field.now) e) }
 {
@@ -150,6 +162,8 @@ pub fn get_in<T: Component + Duplicate>(
     entities: &EntitiesRes,
     e: Entity,
 ) -> Result<Option<T>, Refusal>
+where
+    T::Storage: UnprotectedStorage<T>,
     ensures ok { IfOk result (λ found. FieldGets (population entities.now) (Some (column_of storage.now)) e found) }
     ensures refused { IfErr result (FieldGetIsRefused T.allocates (population entities.now) (Some (column_of storage.now)) e) }
 {
@@ -168,6 +182,8 @@ pub fn remove<T: Component>(
     entities: &EntitiesRes,
     e: Entity,
 ) -> Result<Option<T>, Refusal>
+where
+    T::Storage: UnprotectedStorage<T>,
     ensures ok { IfOk result (λ found. FieldRemoves (population entities.now) (field_column field.old) e found (field_column field.new)) }
     ensures refused { IfErr result (FieldRemoveIsRefused (population entities.now) (field_column field.old) e) }
     ensures err { OnErr result (field_column field.new ≡ field_column field.old) }
@@ -184,6 +200,8 @@ pub fn remove_in<T: Component>(
     entities: &EntitiesRes,
     e: Entity,
 ) -> Result<Option<T>, Refusal>
+where
+    T::Storage: UnprotectedStorage<T>,
     ensures ok { IfOk result (λ found. FieldRemoves (population entities.now) (Some (column_of storage.old)) e found (Some (column_of storage.new))) }
     ensures refused { IfErr result (FieldRemoveIsRefused (population entities.now) (Some (column_of storage.old)) e) }
     ensures err { OnErr result (column_of storage.new ≡ column_of storage.old) }
@@ -203,6 +221,8 @@ fn take<T: Component>(
     entities: &EntitiesRes,
     e: Entity,
 ) -> Result<Option<T>, AllocError>
+where
+    T::Storage: UnprotectedStorage<T>,
     ensures found { IfOk result (λ x. x ≡ found_in entities.now storage.old e) }
     ensures map { OnOk result (IsSome (found_in entities.now storage.old e) → storage.new.map ≡ map.remove storage.old.map (index_of e)) }
     ensures channel { OnOk result (IsSome (found_in entities.now storage.old e) → storage.new.channel ≡ emitted (Removed (index_of e)) storage.old.channel) }
@@ -217,6 +237,8 @@ fn take<T: Component>(
 
 /// Removes every component.
 pub fn clear<T: Component>(field: &mut Field<T>) -> Result<(), Refusal>
+where
+    T::Storage: UnprotectedStorage<T>,
     ensures ok { OnOk result (FieldClears (field_column field.old) (field_column field.new)) }
     ensures refused { IfErr result (FieldClearIsRefused (field_column field.old)) }
     ensures err { OnErr result (field_column field.new ≡ field_column field.old) }
@@ -230,6 +252,8 @@ pub fn clear<T: Component>(field: &mut Field<T>) -> Result<(), Refusal>
 /// Removes every component from its storage.
 #[tactic(auto, using(crate::proofs::Values::same))]
 pub fn clear_in<T: Component>(storage: &mut MaskedStorage<T>) -> Result<(), Refusal>
+where
+    T::Storage: UnprotectedStorage<T>,
     ensures ok { OnOk result (FieldClears (Some (column_of storage.old)) (Some (column_of storage.new))) }
     ensures refused { IfErr result (FieldClearIsRefused (Some (column_of storage.old))) }
     ensures err { OnErr result (column_of storage.new ≡ column_of storage.old) }
@@ -244,6 +268,8 @@ pub fn clear_in<T: Component>(storage: &mut MaskedStorage<T>) -> Result<(), Refu
 
 /// Makes room for the events of the removal of the components of so many entities.
 pub fn reserve_drop<T: Component>(field: &mut Field<T>, count: usize) -> Result<(), AllocError>
+where
+    T::Storage: UnprotectedStorage<T>,
     ensures same { field_column field.new ≡ field_column field.old }
     ensures ok { OnOk result (HasRoom (field_room field.new) count) }
     ensures none { count ≡ 0 → IsOk result }
@@ -258,6 +284,8 @@ pub fn reserve_drop<T: Component>(field: &mut Field<T>, count: usize) -> Result<
 // The same of a storage.
 #[tactic(auto, using(crate::proofs::Values::same, crate::proofs::Values::has_room, crate::proofs::Values::no_room))]
 fn reserve_in<T: Component>(storage: &mut MaskedStorage<T>, count: usize) -> Result<(), AllocError>
+where
+    T::Storage: UnprotectedStorage<T>,
     ensures same { column_of storage.new ≡ column_of storage.old }
     ensures ok { OnOk result (HasRoom storage.new.room count) }
     ensures none { count ≡ 0 → IsOk result }
@@ -270,6 +298,8 @@ fn reserve_in<T: Component>(storage: &mut MaskedStorage<T>, count: usize) -> Res
 /// Removes the components at the indices of a list of entities, in room that is there for the events.
 #[tactic(auto, using(crate::proofs::Values::lost_all))]
 pub fn drop_all<T: Component>(field: &mut Field<T>, es: &[Entity])
+where
+    T::Storage: UnprotectedStorage<T>,
     requires { HasRoom (field_room field.old) (length es.now) }
     ensures { field_column field.new ≡ option_map (without_values es.now) (field_column field.old) }
 {

@@ -7,7 +7,7 @@ ghost use Rattle.specs.specs.Field.{field_column};
 ghost use Rattle.specs.specs.Lending.{LendsPart};
 ghost use Rattle.specs.specs.Shows.{column_as};
 
-use crate::slots::Storages;
+use crate::slots::Held;
 use storages::{Component, MaskedStorage};
 
 /// A struct with a part of a type, or none, at a place.
@@ -33,7 +33,7 @@ pub trait Field<M, I>: Sized {
 }
 
 /// A struct of storages with one of a component type.
-pub trait Has<T: Component, I>: Storages + Field<MaskedStorage<T>, I> {
+pub trait Has<T: Component, I>: Held + Field<MaskedStorage<T>, I> {
     /// The component type's slot.
     ghost the_slot: { Self.Slot };
 

@@ -5,7 +5,7 @@ ghost use Rattle.specs.specs.Queue.{queued, listed};
 ghost use Rattle.specs.specs.declared.job.Job.TheVariants.{Insert, InsertAll, Remove, Mark, Own};
 
 use crate::no_job::NoJob;
-use crate::slots::Storages;
+use crate::slots::Held;
 use entities::Entity;
 use std::alloc::{AllocError, Global};
 use std::collections::VecDeque;
@@ -15,7 +15,7 @@ const MANY: usize = 1 << 20;
 
 /// A job, which `World::maintain` does.
 #[derive(Drop)]
-pub enum Job<S: Storages, J = NoJob> {
+pub enum Job<S: Held, J = NoJob> {
     /// Puts a value at an entity, in the value's slot.
     Insert(Entity, S::Value),
     /// Puts values at entities, one after another.
@@ -30,28 +30,28 @@ pub enum Job<S: Storages, J = NoJob> {
 
 /// The queue of a world's jobs, which `World::maintain` does from the front. Where memory is refused, a call hands back what it was given, and
 /// the queue is as before. Each call takes memory for the jobs that it queues alone. Ports `specs::LazyUpdate`.
-pub struct LazyUpdate<S: Storages, J = NoJob> {
+pub struct LazyUpdate<S: Held, J = NoJob> {
     jobs: VecDeque<Job<S, J>>,
 }
 
-impl<S: Storages, J: Drop> Drop for LazyUpdate<S, J> {
+impl<S: Held, J: Drop> Drop for LazyUpdate<S, J> {
     fn drop(self) {
         let LazyUpdate { jobs: _jobs } = self;
     }
 }
 
 /// Jobs in order, made where no queue is at hand, to be appended to one.
-pub struct JobList<S: Storages, J = NoJob> {
+pub struct JobList<S: Held, J = NoJob> {
     jobs: VecDeque<Job<S, J>>,
 }
 
-impl<S: Storages, J: Drop> Drop for JobList<S, J> {
+impl<S: Held, J: Drop> Drop for JobList<S, J> {
     fn drop(self) {
         let JobList { jobs: _jobs } = self;
     }
 }
 
-impl<S: Storages, J: Drop> LazyUpdate<S, J> {
+impl<S: Held, J: Drop> LazyUpdate<S, J> {
     /// The empty queue.
     pub fn new(alloc: Global) -> Self
         ensures { queued result ≡ [] }
@@ -182,7 +182,7 @@ impl<S: Storages, J: Drop> LazyUpdate<S, J> {
     }
 }
 
-impl<S: Storages, J: Drop> JobList<S, J> {
+impl<S: Held, J: Drop> JobList<S, J> {
     /// The empty list.
     pub fn new(alloc: Global) -> Self
         ensures { listed result ≡ [] }

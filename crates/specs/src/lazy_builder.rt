@@ -10,19 +10,19 @@ ghost use Rattle.specs.specs.State.{core_state, OnPeople};
 ghost use Rattle.specs.specs.declared.job.Job.TheVariants.{Insert, Mark};
 
 use crate::job::Job;
-use crate::slots::Storages;
+use crate::slots::Held;
 use crate::world::WorldParts;
 use entities::{CreateError, Entity};
 use std::alloc::AllocError;
 
 /// A builder of an entity whose birth is pending; its components are queued. Dropped unbuilt, it marks the entity if it is alive. It borrows the
 /// world's parts, from which queue and entities come. Ports `specs::world::LazyBuilder`.
-pub struct LazyBuilder<'a, S: Storages, J: Drop> {
+pub struct LazyBuilder<'a, S: Held, J: Drop> {
     pub(crate) parts: &'a mut WorldParts<S, J>,
     pub(crate) entity: Entity,
 }
 
-impl<S: Storages, J: Drop> WorldParts<S, J> {
+impl<S: Held, J: Drop> WorldParts<S, J> {
     /// A birth that is pending, with a builder that queues what the entity gets. Ports `LazyUpdate::create_entity`.
     pub fn create_entity(&mut self) -> Result<LazyBuilder<'_, S, J>, CreateError>
         ensures* rests { sem 𝓛 (RestsUnborn S.row J.row S.Slot.row S.Value.row self.entry result) }
@@ -60,7 +60,7 @@ impl<S: Storages, J: Drop> WorldParts<S, J> {
 }
 
 // Queues a job, or marks the entity that it is for.
-fn push_or_mark<S: Storages, J: Drop>(
+fn push_or_mark<S: Held, J: Drop>(
     parts: &mut WorldParts<S, J>,
     entity: Entity,
     job: Job<S, J>,
@@ -79,7 +79,7 @@ fn push_or_mark<S: Storages, J: Drop>(
     }
 }
 
-impl<S: Storages, J: Drop> Drop for LazyBuilder<'_, S, J> {
+impl<S: Held, J: Drop> Drop for LazyBuilder<'_, S, J> {
     ghost use Rattle.specs.specs.LazyBuilding.{lent_to, built, Marked};
 
     fn drop(self)
@@ -90,7 +90,7 @@ impl<S: Storages, J: Drop> Drop for LazyBuilder<'_, S, J> {
     }
 }
 
-impl<'a, S: Storages, J: Drop> LazyBuilder<'a, S, J> {
+impl<'a, S: Held, J: Drop> LazyBuilder<'a, S, J> {
     /// The entity that is being built.
     pub fn entity(&self) -> Entity
         ensures { result ≡ built self.now }

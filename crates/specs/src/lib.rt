@@ -41,7 +41,7 @@ pub use laws::{events_lead, only_living, quiet_runs, stays_dead};
 pub use lazy_builder::LazyBuilder;
 pub use no_job::NoJob;
 pub use saveload::MarkError;
-pub use slots::Storages;
+pub use slots::{Held, Storages};
 pub use storages::{ComponentEvent, ReaderId};
 pub use typed::Unregistered;
 pub use world::{World, WorldParts};

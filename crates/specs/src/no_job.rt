@@ -1,7 +1,7 @@
 //! Worlds without jobs of the user's.
 use crate::core_parts::Core;
 use crate::job::LazyUpdate;
-use crate::slots::Storages;
+use crate::slots::Held;
 use crate::world_job::WorldJob;
 use std::alloc::AllocError;
 
@@ -9,7 +9,7 @@ use std::alloc::AllocError;
 #[derive(Clone, Copy, Debug, PartialEq, Eq, Drop)]
 pub struct NoJob;
 
-impl<S: Storages> WorldJob<S> for NoJob {
+impl<S: Held> WorldJob<S> for NoJob {
     ghost use Rattle.specs.specs.Lawful.{DoesNothing, still_grows, still_lives, nothing_tells};
 
     ghost does = { λ j old more new. DoesNothing old more new };

@@ -9,7 +9,7 @@ ghost use Rattle.specs.specs.declared.job.Job.{Job};
 use crate::command::Refusal;
 use crate::core_parts::{Core, Parts};
 use crate::job::{Job, LazyUpdate};
-use crate::slots::Storages;
+use crate::slots::{Held, Storages};
 use crate::world_job::WorldJob;
 use entities::Entity;
 use saveload::MarkError;
@@ -18,7 +18,7 @@ use std::collections::VecDeque;
 
 /// What became of a job: how many refusals it counted, and what is kept of it where it found no memory.
 #[derive(Drop)]
-pub(crate) struct Outcome<S: Storages, J> {
+pub(crate) struct Outcome<S: Held, J> {
     pub refused: u64,
     pub kept: Option<Job<S, J>>,
 }
@@ -183,7 +183,7 @@ pub(crate) fn run_one<S: Storages, J: WorldJob<S>>(
     }
 }
 
-fn next<S: Storages, J: Drop>(
+fn next<S: Held, J: Drop>(
     first: &mut Option<Job<S, J>>,
     queue: &mut LazyUpdate<S, J>,
 ) -> Option<Job<S, J>>

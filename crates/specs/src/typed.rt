@@ -10,11 +10,11 @@ ghost use Rattle.specs.specs.Writing.{lent, RestsUnregistered};
 use crate::by_type;
 use crate::core_parts::Core;
 use crate::has::{Field, Has};
-use crate::slots::Storages;
+use crate::slots::Held;
 use crate::writing::Writing;
 use std::alloc::AllocError;
 use std::marker::PhantomData;
-use storages::{Component, ReadStorage};
+use storages::{Component, ReadStorage, UnprotectedStorage};
 use thiserror::Error;
 
 /// No storage is registered for the component type. Nothing changed.
@@ -22,12 +22,13 @@ use thiserror::Error;
 #[error("the component type is not registered")]
 pub struct Unregistered;
 
-impl<S: Storages> Core<S> {
+impl<S: Held> Core<S> {
     /// Makes an empty storage for a component type where none was, else changes nothing. Where the first value of the storage's kind takes no
     /// memory, as of each kind of `storages`, it is not refused. Ports `WorldExt::register`.
     pub fn register<T: Component, I>(&mut self) -> Result<(), AllocError>
     where
         S: Has<T, I>,
+        T::Storage: UnprotectedStorage<T>,
         ensures ok { OnOk result (OnTable (λ t t'. Registers t S.the_slot t') (core_state S.table S.ids self.old) (core_state S.table S.ids self.new)) }
         ensures succeeds { T.Storage.TakesNone → IsOk result }
         ensures memory { OnErr result ((core_state S.table S.ids self.old).table S.the_slot ≡ None) }

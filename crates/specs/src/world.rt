@@ -17,19 +17,19 @@ use crate::core_parts::Core;
 use crate::job::{Job, LazyUpdate};
 use crate::no_job::NoJob;
 use crate::running::run_jobs;
-use crate::slots::Storages;
+use crate::slots::{Held, Storages};
 use crate::world_job::WorldJob;
 use std::alloc::{AllocError, Global};
 
 /// What a world lends: its entities with their components, and its queue of jobs.
-pub struct WorldParts<S: Storages, J = NoJob> {
+pub struct WorldParts<S: Held, J = NoJob> {
     /// Entities and storages.
     pub core: Core<S>,
     /// The queue.
     pub lazy: LazyUpdate<S, J>,
 }
 
-impl<S: Storages + Drop, J: Drop> Drop for WorldParts<S, J> {
+impl<S: Held + Drop, J: Drop> Drop for WorldParts<S, J> {
     fn drop(self) {
         let WorldParts {
             core: _core,
@@ -39,13 +39,13 @@ impl<S: Storages + Drop, J: Drop> Drop for WorldParts<S, J> {
 }
 
 /// Entities, their components, and jobs that wait, those of the user's of type `J`. Ports `specs::World` with `specs::WorldExt`.
-pub struct World<S: Storages, J = NoJob> {
+pub struct World<S: Held, J = NoJob> {
     pub(crate) parts: WorldParts<S, J>,
     // A job that found no memory, which goes before the queue.
     pub(crate) kept: Option<Job<S, J>>,
 }
 
-impl<S: Storages + Drop, J: Drop> Drop for World<S, J> {
+impl<S: Held + Drop, J: Drop> Drop for World<S, J> {
     fn drop(self) {
         let World {
             parts: _parts,
@@ -54,7 +54,7 @@ impl<S: Storages + Drop, J: Drop> Drop for World<S, J> {
     }
 }
 
-impl<S: Storages, J: WorldJob<S>> World<S, J> {
+impl<S: Held, J: Drop> World<S, J> {
     /// A world without entities and jobs, over storages that are empty or not registered.
     pub fn new(alloc: Global, storages: S) -> Self
         ensures storages { result.parts.core.parts.storages ≡ storages }
@@ -82,6 +82,20 @@ impl<S: Storages, J: WorldJob<S>> World<S, J> {
         &mut self.parts
     }
 
+    /// How many jobs wait.
+    pub fn waiting(&self) -> usize
+        ensures { result ≡ length (world_state S.table S.ids self.now).jobs }
+    {
+        let queued = self.parts.lazy.count();
+        if self.kept.is_some() {
+            queued + 1
+        } else {
+            queued
+        }
+    }
+}
+
+impl<S: Storages, J: WorldJob<S>> World<S, J> {
     /// Takes up pending births, lets the marked die with their components, and then does jobs in order while fewer than `limit` were done;
     /// those that jobs queue come last. It takes memory for the list of the dead, for events, and for what the jobs do. A refused call did
     /// nothing. A job that finds no memory ends the run and stays the first. Ports `WorldExt::maintain`.
@@ -105,18 +119,6 @@ impl<S: Storages, J: WorldJob<S>> World<S, J> {
             left: self.waiting(),
             stopped: ending.stopped,
         })
-    }
-
-    /// How many jobs wait.
-    pub fn waiting(&self) -> usize
-        ensures { result ≡ length (world_state S.table S.ids self.now).jobs }
-    {
-        let queued = self.parts.lazy.count();
-        if self.kept.is_some() {
-            queued + 1
-        } else {
-            queued
-        }
     }
 
     /// Does commands in order, with room for all replies got first. Where that room was refused, nothing was done. The empty list is not refused.

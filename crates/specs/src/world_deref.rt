@@ -3,12 +3,12 @@ ghost use Rattle.std.specs.Prelude.{◌≡◌};
 ghost use Rattle.std.specs.Borrow.{sem};
 
 use crate::core_parts::Core;
-use crate::slots::Storages;
+use crate::slots::Held;
 use crate::world::World;
 use std::ops::{Deref, DerefMut};
 
 /// The calls of a core are a world's: `world.write_storage::<T, _>()`, `world.create_entity()`.
-impl<S: Storages, J> Deref for World<S, J> {
+impl<S: Held, J> Deref for World<S, J> {
     type Target = Core<S>;
 
     ghost deref_gives = { λ w c. c ≡ w.parts.core };
@@ -20,7 +20,7 @@ impl<S: Storages, J> Deref for World<S, J> {
 
 /// What is done to the core is done to the world's. A caller whose own contract says what a view or a builder of the world did makes it in a
 /// function of `&mut Core<S>`, and passes `&mut **world`.
-impl<S: Storages, J> DerefMut for World<S, J> {
+impl<S: Held, J> DerefMut for World<S, J> {
     ghost use Rattle.specs.specs.Lending.{LendsCore};
 
     ghost deref_mut_gives = { λ w c. c ≡ w.parts.core };

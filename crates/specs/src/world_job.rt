@@ -9,11 +9,11 @@ ghost use Rattle.specs.specs.declared.job.Job.{Job};
 
 use crate::core_parts::Core;
 use crate::job::LazyUpdate;
-use crate::slots::Storages;
+use crate::slots::Held;
 use std::alloc::AllocError;
 
 /// A job of the user's, which `World::maintain` does when its turn comes. Ports what `LazyUpdate::exec_mut` is given.
-pub trait WorldJob<S: Storages>: Sized + Drop {
+pub trait WorldJob<S: Held>: Sized + Drop {
     /// What the job may do: from a state, with the further jobs that it queues, to a state.
     ghost does: { Self → State S.Slot S.Value → List (Job S Self S.Slot S.Value) → State S.Slot S.Value → Type 0 };
 

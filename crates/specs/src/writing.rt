@@ -19,7 +19,7 @@ use crate::{by_type, field};
 use entities::{Entity, Index};
 use std::alloc::AllocError;
 use std::marker::PhantomData;
-use storages::{Component, InsertError, MaskedStorage, NotLent, ReadStorage};
+use storages::{Component, InsertError, MaskedStorage, NotLent, ReadStorage, UnprotectedStorage};
 
 /// The storage of a component type in a core, to write to. It holds the core, so that each call through it is one of the core's. The
 /// component type is registered when the view is made, and no call of the view ends that. Ports `specs::WriteStorage` of a world.
@@ -42,6 +42,23 @@ impl<'a, S: Has<T, I>, T: Component, I> Writing<'a, S, T, I> {
         }
     }
 
+    /// The storage without the entities: its components to write to, its channel, its cursors.
+    pub fn masked_mut(&mut self) -> &mut MaskedStorage<T>
+        requires { IsSome (S.part (storages_of self.old)) }
+        ensures* lends { sem 𝓛 (LendsMasked S.row T.row I.row T.Storage.row T.Storage.meaning self.entry result (S.with_part (storages_of self.old))) }
+        ensures slot { S.part (storages_of self.old) ≡ Some result.now }
+    {
+        let core = &mut *self.core;
+        let parts = &mut core.parts;
+        let storages = &mut parts.storages;
+        here(storages)
+    }
+}
+
+impl<'a, S: Has<T, I>, T: Component, I> Writing<'a, S, T, I>
+where
+    T::Storage: UnprotectedStorage<T>,
+{
     /// The component of an entity that is alive. Ports `Storage::get`.
     pub fn get(&self, e: Entity) -> Option<&T>
         requires { IsSome (S.part (storages_of self.now)) }
@@ -142,18 +159,6 @@ impl<'a, S: Has<T, I>, T: Component, I> Writing<'a, S, T, I> {
         let parts = &mut core.parts;
         component_mut(&mut parts.storages, e.id())
     }
-
-    /// The storage without the entities: its components to write to, its channel, its cursors.
-    pub fn masked_mut(&mut self) -> &mut MaskedStorage<T>
-        requires { IsSome (S.part (storages_of self.old)) }
-        ensures* lends { sem 𝓛 (LendsMasked S.row T.row I.row T.Storage.row T.Storage.meaning self.entry result (S.with_part (storages_of self.old))) }
-        ensures slot { S.part (storages_of self.old) ≡ Some result.now }
-    {
-        let core = &mut *self.core;
-        let parts = &mut core.parts;
-        let storages = &mut parts.storages;
-        here(storages)
-    }
 }
 
 // The component of an index in the storage of its type.
@@ -161,6 +166,8 @@ fn component_mut<T: Component, S: Has<T, I>, I>(
     storages: &mut S,
     id: Index,
 ) -> Result<&mut T, NotLent>
+where
+    T::Storage: UnprotectedStorage<T>,
     requires { IsSome (S.part storages.old) }
     ensures* writes_back { sem 𝓛 (LendsValue S.row T.row S.part S.with_part storages.entry id result) }
     ensures value { IfOk result (λ x. option_map (λ (w : masked.Slot T). map.get w.map id) (S.part storages.old) ≡ Some (Some x.now)) }

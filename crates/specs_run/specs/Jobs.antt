@@ -8,7 +8,7 @@ use Rattle.specs.specs.declared.job.Job.TheVariants.{Own}
 use Rattle.specs.specs.Evolving.{Evolves, ValuesLive}
 use Rattle.specs.specs.Following.{IsFollowed, Spared, Each}
 use Rattle.specs.specs.Lawful.{still_grows, still_lives, still_tells, pending_grows, pending_lives}
-use Rattle.specs.specs.People.{Births, IsFull}
+use Rattle.specs.specs.People.{Births, BirthWantsMemory, IsFull}
 use Rattle.specs.specs.Reached.{OnlyLiving}
 use Rattle.specs.specs.State.{State, OnPeople}
 use Rattle.specs_run.specs.declared.script_job.ScriptJob.{ScriptJob}
@@ -30,6 +30,11 @@ module _ {K V : Type 0} where
   raise_table : (old new : State K V) → MayRaise old new → new.table ≡ old.table
   raise_table old new (inl s) = s.1.table
   raise_table old new (inr s) = ap (λ (s : State K V). s.table) s.1
+
+-- one may find no memory for the queue, the other only where a birth wants some
+abbrev pub Wants : {K V : Type 0} → ScriptJob → State K V → Type 0
+Wants Again s = Unit {0}
+Wants Create s = BirthWantsMemory s.people
 
 -- neither touches a channel
 abbrev pub Spares : {K : Type 0} → ScriptJob → K → ℕ → Type 0

@@ -4,13 +4,13 @@ use crate::sets::set;
 use crate::slot_names::Named;
 use crate::values::Worded;
 use crate::words::{entity, index, number};
-use specs::{Command, Entity, Job, ReaderId, Storages};
+use specs::{Command, Entity, Held, Job, ReaderId};
 use std::alloc::{AllocError, Global};
 use std::str;
 
 /// What a line asks for.
 #[derive(Drop)]
-pub enum Line<'a, S: Storages, J> {
+pub enum Line<'a, S: Held, J> {
     /// A command of the world.
     Command(Command<S, J>),
     /// What has to do with labels.
@@ -34,10 +34,7 @@ pub enum Saving<'a> {
 pub type ScriptLine<'a, S> = Line<'a, S, ScriptJob>;
 
 /// What a line without its line feed asks for, if it can be read.
-pub fn read<S: Storages>(
-    alloc: Global,
-    line: &[u8],
-) -> Result<Option<ScriptLine<'_, S>>, AllocError>
+pub fn read<S: Held>(alloc: Global, line: &[u8]) -> Result<Option<ScriptLine<'_, S>>, AllocError>
 where
     S::Slot: Named,
     S::Value: Worded<S::Slot>,
@@ -64,7 +61,7 @@ fn load(text: &str) -> Option<Saving<'_>> {
 }
 
 /// What words ask for that are parted by one space.
-fn words<S: Storages>(alloc: Global, text: &str) -> Result<Option<ScriptLine<'_, S>>, AllocError>
+fn words<S: Held>(alloc: Global, text: &str) -> Result<Option<ScriptLine<'_, S>>, AllocError>
 where
     S::Slot: Named,
     S::Value: Worded<S::Slot>,
@@ -88,7 +85,7 @@ where
 }
 
 /// A command of the world.
-fn command<S: Storages>(
+fn command<S: Held>(
     alloc: Global,
     words: &[&str],
 ) -> Result<Option<Command<S, ScriptJob>>, AllocError>
@@ -114,7 +111,7 @@ where
 }
 
 /// A command that holds no list and no set.
-fn plain<S: Storages>(words: &[&str]) -> Option<Command<S, ScriptJob>>
+fn plain<S: Held>(words: &[&str]) -> Option<Command<S, ScriptJob>>
 where
     S::Slot: Named,
     S::Value: Worded<S::Slot>,
@@ -146,7 +143,7 @@ where
 }
 
 /// A job.
-fn job<S: Storages>(words: &[&str]) -> Option<Job<S, ScriptJob>>
+fn job<S: Held>(words: &[&str]) -> Option<Job<S, ScriptJob>>
 where
     S::Slot: Named,
     S::Value: Worded<S::Slot>,

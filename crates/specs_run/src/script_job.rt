@@ -1,9 +1,10 @@
 //! The jobs of a script's own.
 ghost use Rattle.std.specs.Prelude.{◌≡◌, OnOk, OnErr};
 ghost use Rattle.specs.specs.State.{core_state};
+ghost use Rattle.specs.specs.People.{BirthWantsMemory};
 ghost use Rattle.specs_run.specs.Jobs.{MayRaise};
 
-use specs::{Core, CreateError, LazyUpdate, Storages, WorldJob};
+use specs::{Core, CreateError, Held, LazyUpdate, WorldJob};
 use std::alloc::AllocError;
 
 /// A job of a script's own.
@@ -15,12 +16,12 @@ pub enum ScriptJob {
     Create,
 }
 
-impl<S: Storages> WorldJob<S> for ScriptJob {
-    ghost use Rattle.specs_run.specs.Jobs.{Does, Spares, grows, lives_on, tells};
+impl<S: Held> WorldJob<S> for ScriptJob {
+    ghost use Rattle.specs_run.specs.Jobs.{Does, Wants, Spares, grows, lives_on, tells};
 
     ghost does = { Does };
 
-    ghost wants = { λ j s. Unit {0} };
+    ghost wants = { Wants };
 
     ghost spares = { Spares };
 
@@ -46,8 +47,9 @@ impl<S: Storages> WorldJob<S> for ScriptJob {
 }
 
 /// A pending birth, or nothing where no index is left.
-fn raise<S: Storages>(core: &mut Core<S>) -> Result<(), AllocError>
+fn raise<S: Held>(core: &mut Core<S>) -> Result<(), AllocError>
     ensures ok { OnOk result (MayRaise (core_state S.table S.ids core.old) (core_state S.table S.ids core.new)) }
+    ensures wanted { OnErr result (BirthWantsMemory (core_state S.table S.ids core.old).people) }
     ensures err { OnErr result (core_state S.table S.ids core.new ≡ core_state S.table S.ids core.old) }
 {
     match core.parts().entities.create() {

@@ -41,4 +41,4 @@ pub use reader_id::{ReaderId, UnknownReader};
 pub use slices::{SliceAccess, SliceAccessMut};
 pub use tracked::Tracked;
 pub use unprotected::{Component, Kind, TryDefault, UnprotectedStorage};
-pub use write_storage::{InsertError, WriteStorage};
+pub use write_storage::{INSERT, InsertError, WriteStorage};

@@ -2,6 +2,7 @@
 ghost use Rattle.std.specs.Prelude.{◌≡◌};
 
 use std::marker::Model;
+use thiserror::Error;
 
 /// The number of a reader. Ports `shrev::ReaderId`.
 #[derive(Drop, Debug, PartialEq, Eq)]
@@ -39,5 +40,6 @@ impl ReaderId {
 }
 
 /// The number is of no registered reader. Nothing has changed. Not in specs, whose channel panics there.
-#[derive(Clone, Copy, Debug, PartialEq, Eq)]
+#[derive(Clone, Copy, Debug, PartialEq, Eq, Error)]
+#[error("the number is of no registered reader")]
 pub struct UnknownReader;

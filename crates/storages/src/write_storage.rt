@@ -19,8 +19,8 @@ use std::alloc::AllocError;
 use std::fmt::Debug;
 use std::{error, fmt, mem};
 
-// What a refused insertion was to do.
-pub(crate) const INSERT: &str = "insert component for entity";
+/// What a refused insertion was to do, as `WrongGeneration` names it.
+pub const INSERT: &str = "insert component for entity";
 
 // What a refused entry was to do.
 const ENTRY: &str = "attempting to get an entry to a storage";

@@ -13,6 +13,6 @@ returns-in_ok-storage-clause-ok g c =
     let w = c.in_ok-storage.storage in
     let new = g.S.Field.with_part old w in
     let none : g.S.Field.part old ≡ None = search rules in
-    rw c.set_field.ensures (registers_fresh value g.S.Has.the_slot (g.S.Storages.table old) (g.S.Storages.table new) (column_of w) (laws.sees old ∙ ap (λ x. option_map (column_as value) (field_column x)) none)
+    rw c.set_field.ensures (registers_fresh value g.S.Has.the_slot (g.S.Held.table old) (g.S.Held.table new) (column_of w) (laws.sees old ∙ ap (λ x. option_map (column_as value) (field_column x)) none)
     (laws.sees new ∙ ap (λ x. option_map (column_as value) (field_column x)) (g.met.S.Field.puts old w)) c.in_ok-storage.ensures.fresh
-    (others_stay g.S.Has.the_slot (g.S.Storages.table old) (g.S.Storages.table new) (laws.only old w)))
+    (others_stay g.S.Has.the_slot (g.S.Held.table old) (g.S.Held.table new) (laws.only old w)))

@@ -17,6 +17,6 @@ returns-then-is_none-clause-registers g c =
     let w = c.new.result in
     let new = g.S.Field.with_part old w in
     let none : g.S.Field.part old ≡ None = search rules in
-    rw c.set_field.ensures (registers_as g.S.Has.the_slot (g.S.Storages.table old) (g.S.Storages.table new) _ (laws.sees old ∙ ap (λ x. option_map (column_as value) (field_column x)) none)
+    rw c.set_field.ensures (registers_as g.S.Has.the_slot (g.S.Held.table old) (g.S.Held.table new) _ (laws.sees old ∙ ap (λ x. option_map (column_as value) (field_column x)) none)
     (laws.sees new ∙ ap (λ x. option_map (column_as value) (field_column x)) (g.met.S.Field.puts old w) ∙ ap Some (column_is (no_values_as value w.map c.new.ensures.map) c.new.ensures.channel (ap is_some c.new.ensures.inner_room)))
-    (others_stay g.S.Has.the_slot (g.S.Storages.table old) (g.S.Storages.table new) (laws.only old w)))
+    (others_stay g.S.Has.the_slot (g.S.Held.table old) (g.S.Held.table new) (laws.only old w)))

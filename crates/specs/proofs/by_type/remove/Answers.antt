@@ -13,7 +13,7 @@ returns-in-Some-clause-ok g c =
     let s = c.in-Some.storage.now in
     let w = c.remove_in.new.storage in
     let new = g.S.Field.with_part old w in
-    let shows = in_slot g.S.Has.the_slot value (g.S.Storages.table old) (g.S.Storages.table new) (Some (column_of s)) (Some (column_of w))
+    let shows = in_slot g.S.Has.the_slot value (g.S.Held.table old) (g.S.Held.table new) (Some (column_of s)) (Some (column_of w))
     (laws.sees old ∙ ap (λ x. option_map (column_as value) (field_column x)) c.in-Some.ensures.value)
     (laws.sees new ∙ ap (λ x. option_map (column_as value) (field_column x)) (g.met.S.Field.puts old w))
     (laws.only old w) in

@@ -7,9 +7,9 @@ use Rattle.specs.proofs.running.insert_all.Given as goal
 
 abbrev pub invariant-loop-e : goal.invariant-loop-e
 invariant-loop-e g l =
-    let state = core_state g.S.Storages.table g.S.Storages.ids in
+    let state = core_state g.S.Held.table g.S.Held.ids in
     record {
-      inserting : Inserting g.S.Storages.place (state l.fn.core) l.fn.pairs.items l.left.items l.refused (state l.core);
+      inserting : Inserting g.S.Held.place (state l.fn.core) l.fn.pairs.items l.left.items l.refused (state l.core);
       few : l.refused + deque_len l.left ≤ vec_len l.fn.pairs;
     }
 

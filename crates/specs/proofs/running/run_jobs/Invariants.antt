@@ -7,11 +7,11 @@ use Rattle.specs.proofs.running.run_jobs.Given as goal
 
 abbrev pub invariant-loop-ran : goal.invariant-loop-ran
 invariant-loop-ran g l =
-    let state = core_state g.S.Storages.table g.S.Storages.ids in
+    let state = core_state g.S.Held.table g.S.Held.ids in
     record {
       within : l.ran ≤ l.limit;
       few : l.refused ≤ l.ran * 18446744073709551615;
-      done : Ran g.S.Storages.place g.S.Storages.marks g.J.WorldJob.does l.ran l.refused (state l.fn.core) (option_to_list l.fn.first ++ queued l.fn.queue) (state l.core) (option_to_list l.first ++ queued l.queue);
+      done : Ran g.S.Held.place g.S.Held.marks g.J.WorldJob.does l.ran l.refused (state l.fn.core) (option_to_list l.fn.first ++ queued l.fn.queue) (state l.core) (option_to_list l.first ++ queued l.queue);
     }
 
 abbrev pub decreases-loop-ran : goal.decreases-loop-ran

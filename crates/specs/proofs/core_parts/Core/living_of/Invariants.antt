@@ -5,4 +5,4 @@ use Rattle.specs.specs.State.{core_state}
 use Rattle.specs.proofs.core_parts.Core.living_of.Given as goal
 
 abbrev pub invariant-loop-e : goal.invariant-loop-e
-invariant-loop-e g l = l.living.items ≡ filter (is_alive (core_state g.S.Storages.table g.S.Storages.ids l.fn.self).people) (take l.e-index l.list)
+invariant-loop-e g l = l.living.items ≡ filter (is_alive (core_state g.S.Held.table g.S.Held.ids l.fn.self).people) (take l.e-index l.list)

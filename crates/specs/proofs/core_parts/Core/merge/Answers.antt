@@ -34,7 +34,7 @@ returns-clause-merged g c =
     let same = ap (λ (x : Census). x) c.alloc_mut.ensures.value in
     let people : population c.merge.new.self ≡ merge p = c.in_ok-dead.ensures.merged ∙ ap (λ (x : Census). merge (population x)) same in
     let dead : c.as_slice.result.now ≡ the_marked p = c.as_slice.ensures.value ∙ c.in_ok-dead.ensures.dead ∙ ap (λ (x : Census). the_marked (population x)) same in
-    let table : g.S.Storages.table c.drop_all.new.self ≡ (λ slot. option_map (without_values (the_marked p)) (g.S.Storages.table c.args.self.now.parts.storages slot)) =
-    fun_ext (λ s. c.drop_all.ensures.values s ∙ ap (λ es. option_map (without_values es) (g.S.Storages.table c.reserve_drop.new.self s)) dead ∙ ap (λ (t : Table _ _). option_map (without_values (the_marked p)) (t s)) c.in_ok-reserve_drop.ensures.same) in
+    let table : g.S.Held.table c.drop_all.new.self ≡ (λ slot. option_map (without_values (the_marked p)) (g.S.Held.table c.args.self.now.parts.storages slot)) =
+    fun_ext (λ s. c.drop_all.ensures.values s ∙ ap (λ es. option_map (without_values es) (g.S.Held.table c.reserve_drop.new.self s)) dead ∙ ap (λ (t : Table _ _). option_map (without_values (the_marked p)) (t s)) c.in_ok-reserve_drop.ensures.same) in
     let ids = c.drop_all.ensures.ids ∙ c.reserve_drop.ensures.ids in
     rw (people, table, ids) refl

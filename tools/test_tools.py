@@ -1,0 +1,500 @@
+#!/usr/bin/env python3
+"""Tests of the gate's scripts: each of them refuses what it has to. The trees are made up, and `rt` is a stand-in that proves nothing.
+
+    python3 tools/test_tools.py
+
+Run at the top of the repository; it takes seconds, and ends with status 1 if a test fails."""
+import os
+import shutil
+import stat
+import subprocess
+import sys
+import tempfile
+import unittest
+
+TOP = os.path.dirname(os.path.dirname(os.path.abspath(__file__)))
+sys.path.insert(0, os.path.join(TOP, "tools"))
+
+from contracts import is_empty, is_nothing
+from edits import Edit
+from refusals import Said, judge, stands_for, without
+
+PASSES = "#!/bin/sh\nexit 0\n"
+
+
+class Tree(unittest.TestCase):
+    """A folder with some of the repository's scripts, in which a test stands."""
+
+    def setUp(self):
+        self.top = tempfile.mkdtemp(prefix="test-tools-")
+        self.addCleanup(shutil.rmtree, self.top)
+
+    def write(self, path, text, runs=False):
+        path = os.path.join(self.top, path)
+        os.makedirs(os.path.dirname(path), exist_ok=True)
+        with open(path, "w", encoding="utf-8") as it:
+            it.write(text)
+        if runs:
+            os.chmod(path, os.stat(path).st_mode | stat.S_IXUSR)
+        return path
+
+    def take(self, *paths):
+        for path in paths:
+            to = os.path.join(self.top, path)
+            os.makedirs(os.path.dirname(to), exist_ok=True)
+            shutil.copy2(os.path.join(TOP, path), to)
+
+    def run_in(self, *words):
+        path = f"{self.top}/bin:{os.environ['PATH']}"
+        return subprocess.run(words, cwd=self.top, env={**os.environ, "PATH": path, "XDG_CACHE_HOME": f"{self.top}/cache"}, stdin=subprocess.DEVNULL,
+                              stdout=subprocess.PIPE, stderr=subprocess.STDOUT, text=True, check=False)
+
+    def refuses(self, ran, text):
+        self.assertNotEqual(ran.returncode, 0, ran.stdout)
+        self.assertIn(text, ran.stdout)
+
+    def accepts(self, ran):
+        self.assertEqual(ran.returncode, 0, ran.stdout)
+
+
+GATE_TOOLS = ("test_tools.py", "api.py", "chart.py", "listings.py", "wrong_bodies.py", "keep_libraries.py")
+
+
+class Gate(Tree):
+    """.ci/run, over scripts that pass."""
+
+    def setUp(self):
+        super().setUp()
+        self.take(".ci/run")
+        self.write("HANDLES", "Handles allowed: Threads, Wait.\n")
+        self.write("crates/low/proofs/f/Answers.antt", "pub returns : goal.returns\nreturns c = refl\n")
+        self.write("tools/check_promises.sh", PASSES)
+        for name in GATE_TOOLS:
+            self.write(f"tools/{name}", "print('3 passed, 0 failed')\n")
+        self.rt("echo '5 passed, 0 failed'")
+        self.commit()
+
+    def rt(self, body):
+        self.write("bin/rt", f"#!/bin/sh\n{body}\n", runs=True)
+
+    def commit(self):
+        for words in (["init", "-q"], ["add", "-A"], ["-c", "user.name=a", "-c", "user.email=a@b", "commit", "-qm", "all"]):
+            subprocess.run(["git", *words], cwd=self.top, check=True)
+
+    def gate(self):
+        return self.run_in("bash", ".ci/run")
+
+    def test_it_adds_up(self):
+        ran = self.gate()
+        self.accepts(ran)
+        self.assertEqual(ran.stdout.split("\n")[-2], "8 passed, 0 failed")
+
+    def test_no_git(self):
+        shutil.rmtree(f"{self.top}/.git")
+        self.refuses(self.gate(), "no folder .git")
+
+    def test_git_that_lists_nothing(self):
+        shutil.rmtree(f"{self.top}/.git")
+        os.mkdir(f"{self.top}/.git")
+        self.refuses(self.gate(), "git")
+
+    def test_tracked_outputs(self):
+        self.write("crates/low/out/it", "")
+        self.commit()
+        self.refuses(self.gate(), "files under out/ are tracked")
+
+    def test_a_hole(self):
+        self.write("crates/low/proofs/f/Answers.antt", "returns c = ?\n")
+        self.commit()
+        self.refuses(self.gate(), "a hole stands in a proof")
+
+    def test_another_handle(self):
+        self.write("HANDLES", "Handles allowed: Net.\n")
+        self.refuses(self.gate(), "HANDLES must hold one line")
+
+    def test_failures_that_end_well(self):
+        self.rt("echo '19 passed, 3 failed'")
+        ran = self.gate()
+        self.refuses(ran, "rt ci failed")
+        self.assertEqual(ran.stdout.split("\n")[-2], "19 passed, 3 failed")
+
+    def test_a_bad_end_of_a_good_count(self):
+        self.rt("echo '19 passed, 0 failed'; exit 1")
+        self.refuses(self.gate(), "19 passed, 1 failed")
+
+    def test_no_count(self):
+        self.rt("echo done")
+        self.refuses(self.gate(), "rt ci gave no count")
+
+    def test_nothing_proved(self):
+        self.rt("echo '0 passed, 0 failed'")
+        self.refuses(self.gate(), "rt ci failed")
+
+    def test_wrong_bodies_that_fail(self):
+        self.write("tools/wrong_bodies.py", "import sys\nprint('3 passed, 1 failed')\nsys.exit('--list' not in sys.argv)\n")
+        ran = self.gate()
+        self.refuses(ran, "the wrong bodies failed")
+        self.assertEqual(ran.stdout.split("\n")[-2], "8 passed, 1 failed")
+
+    def test_no_wrong_body_tried(self):
+        self.write("tools/wrong_bodies.py", "print('0 passed, 0 failed')\n")
+        self.refuses(self.gate(), "the wrong bodies failed")
+
+    def test_each_quick_check(self):
+        for name in GATE_TOOLS:
+            if name != "keep_libraries.py":
+                self.write(f"tools/{name}", "import sys\nsys.exit(1)\n")
+                self.assertNotEqual(self.gate().returncode, 0, name)
+                self.write(f"tools/{name}", "print('3 passed, 0 failed')\n")
+        self.write("tools/check_promises.sh", "exit 1\n")
+        self.assertNotEqual(self.gate().returncode, 0)
+
+
+SOURCE = "pub fn one() -> u32\n    ensures { result ≡ 1 }\n{\n    1\n}\n"
+WRONG = "# two is not one\nfile: src/lib.rt\nfn: one\nclause: returns\nold:     1\nnew:     2\n"
+RIGHT = "# the sum is one\nfile: src/lib.rt\nfn: one\nbeside: two\nold:     1\nnew:     0 + 1\n"
+
+
+class WrongBodies(Tree):
+    """tools/wrong_bodies.py, over a stand-in for `rt check` that says what a test has put down: of the body with `2`, with `0 + 1`, and with an answer taken out."""
+
+    def setUp(self):
+        super().setUp()
+        self.take("tools/wrong_bodies.py", "tools/edits.py", "tools/refusals.py")
+        self.write("crates.txt", "low: thiserror\n")
+        self.write("crates/low/src/lib.rt", SOURCE)
+        self.write("crates/low/wrong/two.edit", WRONG)
+        self.write("bin/rt", "#!/bin/sh\n[ \"$1\" = check ] || { echo rattle; exit 0; }\nnext=wrong\ngrep -q '0 + 1' src/lib.rt && next=right\n"
+                   f"[ -f proofs/one/Answers.antt ] && ! grep -q 'pub returns' proofs/one/Answers.antt && next=$next-again\ncat {self.top}/said/$next\n", runs=True)
+
+    def says(self, which, *lines):
+        self.write(f"said/{which}", "".join(f"{it}\n" for it in lines))
+
+    def tried(self, *words):
+        return self.run_in("python3", "tools/wrong_bodies.py", *words)
+
+    OPEN = "fn low::one: no proof: expected answers in ./proofs/one/Answers.antt; `search` did not prove `returns`"
+    BY_HAND = "./proofs/one/Answers.antt:3:5: error: `returns`: the two types differ"
+
+    def answer(self):
+        self.write("crates/low/proofs/one/Answers.antt", "pub other : goal.other\nother c = refl\n\npub returns : goal.returns\nreturns c = refl\n")
+
+    def test_a_clause_that_is_left_open(self):
+        self.says("wrong", self.OPEN)
+        ran = self.tried()
+        self.accepts(ran)
+        self.assertIn("1 passed, 0 failed", ran.stdout)
+        self.assertIn("as kept", self.tried().stdout)
+
+    def test_a_body_that_is_proved(self):
+        self.says("wrong", "fn low::one: proved")
+        self.refuses(self.tried(), "NOT REFUSED")
+
+    def test_a_caller_of_what_is_not_proved(self):
+        self.says("wrong", "fn low::one: not proved: it calls `low::two`")
+        self.refuses(self.tried(), "NOT REFUSED")
+
+    def test_another_clause_that_is_left_open(self):
+        self.write("crates/low/wrong/two.edit", WRONG.replace("clause: returns", "clause: value"))
+        self.says("wrong", self.OPEN.replace("`returns`", "`returns-clause-other`"))
+        self.refuses(self.tried(), "NOT SHOWN: value")
+
+    def test_each_clause_that_is_named(self):
+        self.write("crates/low/wrong/two.edit", WRONG.replace("clause: returns", "clause: value\nclause: other"))
+        self.says("wrong", self.OPEN.replace("`returns`", "`returns-clause-other`"))
+        self.refuses(self.tried(), "NOT SHOWN: value;")
+        self.says("wrong", self.OPEN.replace("`returns`", "`returns-clause-other`, `returns-clause-value`"))
+        self.accepts(self.tried())
+
+    def test_returns_for_a_promise_with_names(self):
+        self.says("wrong", self.OPEN.replace("`returns`", "`returns-clause-value`"))
+        self.refuses(self.tried(), "NOT SHOWN: returns")
+
+    def test_a_name_that_is_lost(self):
+        self.answer()
+        self.says("wrong", "./proofs/one/Answers.antt:3:5: error: `returns`: record `c.put`", "  has no field `look`", "fn low::one: not proved")
+        self.says("wrong-again", "fn low::one: proved")
+        self.refuses(self.tried(), "NOT REFUSED")
+
+    def test_an_answer_that_no_longer_fits(self):
+        self.answer()
+        self.says("wrong", self.BY_HAND, "fn low::one: not proved")
+        self.says("wrong-again", "fn low::one: proved")
+        self.refuses(self.tried(), "NOT REFUSED")
+        self.says("wrong-again", self.OPEN)
+        self.accepts(self.tried())
+
+    def test_a_name_that_is_lost_in_an_invariant(self):
+        self.says("wrong", "./proofs/one/Invariants.antt:3:5: error: `returns` is not in scope", "fn low::one: not proved")
+        self.refuses(self.tried(), "NOT SHOWN")
+
+    def test_a_text_that_is_not_read(self):
+        self.says("wrong", "src/lib.rt:4:5: error: expected an expression")
+        self.refuses(self.tried(), "NOT SHOWN: the check has no line for its function")
+
+    def test_a_right_variant(self):
+        self.write("crates/low/right/sum.edit", RIGHT)
+        self.says("wrong", self.OPEN)
+        self.says("right", "fn low::one: proved")
+        ran = self.tried()
+        self.accepts(ran)
+        self.assertIn("2 passed, 0 failed", ran.stdout)
+
+    def test_a_right_variant_that_is_refused(self):
+        self.write("crates/low/right/sum.edit", RIGHT)
+        self.says("wrong", self.OPEN)
+        for said in ([self.OPEN], [self.BY_HAND, "fn low::one: not proved"], ["src/lib.rt:4:5: error: expected an expression"]):
+            self.says("right", *said)
+            self.refuses(self.tried(), "NOT ACCEPTED")
+
+    def test_a_right_variant_by_the_search(self):
+        self.answer()
+        self.write("crates/low/right/sum.edit", RIGHT)
+        self.says("wrong", self.OPEN)
+        self.says("right", self.BY_HAND, "fn low::one: not proved")
+        self.says("right-again", "fn low::one: proved")
+        self.says("wrong-again", self.OPEN)
+        self.accepts(self.tried())
+
+    def test_a_right_variant_beside_nothing(self):
+        self.write("crates/low/right/sum.edit", RIGHT.replace("two", "three"))
+        self.refuses(self.tried(), "three is no wrong body of its function")
+
+    def test_no_wrong_body(self):
+        os.remove(f"{self.top}/crates/low/wrong/two.edit")
+        self.refuses(self.tried(), "there is no wrong body")
+
+    def test_another_suffix(self):
+        os.rename(f"{self.top}/crates/low/wrong/two.edit", f"{self.top}/crates/low/wrong/two.edits")
+        self.write("crates/low/wrong/three.edit", WRONG)
+        self.refuses(self.tried("--list"), "two.edits")
+
+    def test_a_name_of_nothing(self):
+        self.refuses(self.tried("low/three"), "low/three: there is no such crate or edit")
+
+    def test_edits_that_do_not_hold(self):
+        for new, why in ((WRONG.replace("old:     1", "old:     3"), "its old text stands 0 times"), (WRONG.replace("clause: returns\n", ""), "a wrong body has lines"),
+                         (WRONG.replace("returns", "invariant_of"), "is no name of a clause"), (WRONG.replace("clause:", "claus:"), "a line is none of"),
+                         (WRONG.replace("src/lib.rt", "proofs/one/Answers.antt"), "is no code"), (WRONG.replace("new:     2", "new:     1"), "it changes nothing"), (WRONG.replace("# two is not one\n", ""), "its first line is no comment")):
+            self.write("crates/low/wrong/two.edit", new)
+            self.refuses(self.tried("--list"), why)
+
+
+class Refusals(unittest.TestCase):
+    """What a goal's name stands for."""
+
+    def test_clauses(self):
+        for clause, goal in (("room", "returns-in-Ok-clause-room"), ("returns", "returns"), ("returns", "returns-then-f"), ("returns-then-f", "returns-then-f-2"),
+                             ("f-requires", "f-requires-clause-end"), ("invariant_of-self", "invariant_of-self-else-f"), ("value", "returns-clause-value-left")):
+            self.assertTrue(stands_for(clause, goal), (clause, goal))
+        for clause, goal in (("room", "f-requires-clause-room"), ("returns", "returns-clause-room"), ("room", "returns-clause-had_room"), ("returns-then-f", "returns-then-f-clause-was"),
+                             ("room", "returns-room"), ("clause", "returns-clause-room")):
+            self.assertFalse(stands_for(clause, goal), (clause, goal))
+
+    def test_goals_of_the_function_alone(self):
+        text = ("note: src/a.rt:1:2: it is not proved that it holds (`returns-clause-theirs`)\nfn low::two: not proved\n"
+                "note: src/a.rt:1:2: it is not proved that it holds (`returns-clause-own`); `search` gave up\nfn low::one: not proved\n")
+        self.assertEqual(Said(text, "low", "one").open, ["returns-clause-own"])
+        self.assertEqual(Said("fn low::one: no proof: `search` did not prove `a`; it calls `low::two`\n", "low", "one").open, ["a"])
+
+    def test_answers_out(self):
+        text = "use it\n\npub a : goal.a\na c = refl\n\npub ab : goal.ab\nab c = refl\n"
+        self.assertEqual(without(text, {"a"}), "use it\n\npub ab : goal.ab\nab c = refl\n")
+
+
+ROW = "| It is one | `low::one` | - | proved | `low/two` |\n"
+PAGE = "# Promises\n\n| Promise | Function | Clause | Status | Wrong body |\n|---|---|---|---|---|\n"
+
+
+class Promises(Tree):
+    """tools/check_promises.py."""
+
+    def setUp(self):
+        super().setUp()
+        self.take("tools/check_promises.py", "tools/contracts.py", "tools/edits.py")
+        self.write("crates/low/src/lib.rt", SOURCE + "pub fn none()\n    ensures a { Unit {0} }\n    ensures b { AllRead }\n    ensures c { 1 ≡ 1 }\n{\n}\nimpl Two for One {\n    ghost gives = { Pairs };\n    ghost takes = { Unit };\n}\n")
+        self.write("crates/low/specs/Reads.antt", "abbrev pub AllRead : Type 0\nAllRead = ⊤\n")
+        self.write("crates/low/wrong/two.edit", WRONG)
+
+    def check(self, row, *words):
+        self.write("docs/PROMISES.md", PAGE + row)
+        return self.run_in("python3", "tools/check_promises.py", *words)
+
+    def test_rows_that_hold(self):
+        for row in (ROW, ROW.replace("`low/two`", "-"), ROW.replace("`low/two`", "through `low/two`"), "| Later | - | - | not promised | - |\n",
+                    "| Two | `Two for low::One` | - | proved | - |\n", "| Two | `Two for low::One` | `gives` | proved | - |\n"):
+            self.accepts(self.check(row))
+
+    def test_rows_that_do_not(self):
+        for row, why in (("", "has no row"), (ROW.replace("one |", "one | or two |"), "cells"), (ROW.replace("| `low/two` ", ""), "cells"), (ROW[2:], "cells"),
+                         (ROW.replace("proved", "Proved"), "its status is none of"), (ROW.replace("`low::one`", "-"), "it names no function"),
+                         (ROW.replace("::one", "::two"), "no public function"), (ROW.replace("| - |", "| `value` |"), "no clause value"),
+                         ("| It | `low::none` | `a` | proved | - |\n", "says nothing"), ("| It | `low::none` | `b` | proved | - |\n", "says nothing"),
+                         ("| It | `low::none` | `c` | proved | - |\n", "says nothing"), (ROW.replace("low/two", "low/three"), "there is no wrong body"),
+                         ("| Two | `Three for low::One` | - | proved | - |\n", "there is no impl"), ("| Two | `Two for low::One` | `takes` | proved | - |\n", "says nothing"),
+                         ("| It | `low::none` | `a` | tested | `low/two` |\n", "does not name")):
+            self.refuses(self.check(row), why)
+
+    def test_rows_without_a_wrong_body(self):
+        ran = self.check(ROW.replace("`low/two`", "none yet"), "--without")
+        self.accepts(ran)
+        self.assertIn("low::one", ran.stdout)
+
+    def test_clauses_that_say_nothing(self):
+        for clause in ("", "Unit", "⊤", "Unit {0}", "λ x. Unit {0}", "a ≡ a"):
+            self.assertTrue(is_nothing(clause), clause)
+        self.assertFalse(is_empty("MatchOption result (Unit {0}) (λ x. x ≡ e)"))
+
+
+class Listings(Tree):
+    """tools/listings.py."""
+
+    def setUp(self):
+        super().setUp()
+        self.take("tools/listings.py")
+        self.write("src/a.rt", "fn one() {\n}\n")
+        self.write("crates/examples/stdout", "== orbits\n<svg/>\n")
+        self.write("docs/orbits.svg", "<svg/>\n")
+        self.write("examples/a.script", "create\nalive 0:1\n")
+        self.write("examples/a.expected", "0:1\ntrue\n")
+        self.write("docs/SCRIPT.md", "`./specs-run < examples/a.script`:\n\n    create      0:1\n    alive 0:1   true\n\nEnd.\n")
+        self.page("<!-- listing src/a.rt: one -->")
+
+    def page(self, mark):
+        self.write("docs/USING.md", f"{mark}\n```rust\nfn one() {{\n}}\n```\n")
+
+    def check(self):
+        return self.run_in("python3", "tools/listings.py", "--check")
+
+    def test_it_holds(self):
+        self.accepts(self.check())
+
+    def test_a_marker_misspelt(self):
+        for mark in ("<!-- listed src/a.rt: one -->", "<!--listing src/a.rt: one -->", "listing src/a.rt: one"):
+            self.page(mark)
+            self.assertNotEqual(self.check().returncode, 0, mark)
+
+    def test_another_listing(self):
+        self.write("src/a.rt", "fn one() {\n    two()\n}\n")
+        self.refuses(self.check(), "docs/USING.md")
+
+    def test_another_session(self):
+        self.write("examples/a.expected", "0:1\nfalse\n")
+        self.refuses(self.check(), "docs/SCRIPT.md")
+        self.write("examples/a.expected", "0:1\n")
+        self.refuses(self.check(), "lines")
+
+
+class Program(Tree):
+    """specs-run, over a stand-in for `rt` that writes a program which tells how often one was built."""
+
+    def setUp(self):
+        super().setUp()
+        self.take("specs-run")
+        self.write("crates.txt", "low: thiserror\nspecs_run_main: low\n")
+        self.write("crates/low/src/lib.rt", "fn low() {}\n")
+        self.write("crates/low/src/more.rt", "fn more() {}\n")
+        self.write("crates/low/proofs/f/Answers.antt", "use it\n")
+        self.write("crates/specs_run_main/src/main.rt", "fn main() {}\n")
+        self.write("bin/rt", "#!/bin/sh\n[ \"$1\" = run ] || exit 0\nmkdir -p out\necho built >>out/builds\n"
+                   "printf '#!/bin/sh\\necho \"builds: $(grep -c . %s/out/builds)\"\\n' \"$PWD\" >out/specs_run_main\nchmod +x out/specs_run_main\n", runs=True)
+
+    def builds(self, count):
+        ran = self.run_in("./specs-run")
+        self.accepts(ran)
+        self.assertIn(f"builds: {count}", ran.stdout)
+
+    def test_it_builds_once(self):
+        self.builds(1)
+        self.builds(1)
+
+    def test_it_builds_after_each_change(self):
+        self.builds(1)
+        os.remove(f"{self.top}/crates/low/src/more.rt")
+        self.builds(2)
+        os.remove(f"{self.top}/crates/low/proofs/f/Answers.antt")
+        self.builds(3)
+        self.write("crates.txt", "low: thiserror json\nspecs_run_main: low\n")
+        self.builds(4)
+        # a change that is older than the program, as `cp -a` leaves it
+        path = self.write("crates/low/src/lib.rt", "fn other() {}\n")
+        os.utime(path, (0, 0))
+        self.builds(5)
+        os.rename(path, path.replace("lib", "library"))
+        self.builds(6)
+
+    def test_a_build_that_fails(self):
+        self.write("bin/rt", "#!/bin/sh\nexit 1\n", runs=True)
+        self.refuses(self.run_in("./specs-run"), "was not built")
+
+
+KIT = """import hashlib, os
+def root_above(folder): return folder
+class Crate:
+    def __init__(self, folder, root, known): self.folder = folder
+    def stamp(self): return hashlib.sha256(open(f"{self.folder}/src/lib.rt", "rb").read()).hexdigest()
+"""
+
+
+class KeptLibraries(Tree):
+    """tools/keep_libraries.py, over a stand-in for the kit."""
+
+    def setUp(self):
+        super().setUp()
+        self.take("tools/keep_libraries.py")
+        os.mkdir(f"{self.top}/.git")
+        self.write("crates/low/src/lib.rt", SOURCE)
+        self.write("bin/rt", PASSES, runs=True)
+        self.write("bin/rtlib.py", KIT)
+
+    def keep(self, *words):
+        return self.run_in("python3", "tools/keep_libraries.py", *words)
+
+    def build(self):
+        self.write("crates/low/out/rlib/low.rlib/format", "built\n")
+
+    def is_stamped(self):
+        return os.path.exists(f"{self.top}/crates/low/out/rlib/stamp")
+
+    def test_what_was_built_of_these_sources(self):
+        self.keep("--begin")
+        self.build()
+        self.keep()
+        self.assertTrue(self.is_stamped())
+
+    def test_what_stood_before(self):
+        self.build()
+        self.write(".git/rt-aside/low/rlib/low.rlib/format", "older\n")
+        self.keep("--begin")
+        self.assertFalse(os.path.exists(f"{self.top}/crates/low/out/rlib"))
+        self.assertFalse(os.path.exists(f"{self.top}/.git/rt-aside/low/rlib"))
+
+    def test_what_is_older_than_the_run(self):
+        self.keep("--begin")
+        self.build()
+        os.utime(f"{self.top}/crates/low/out/rlib/low.rlib/format", (0, 0))
+        self.keep()
+        self.assertFalse(self.is_stamped())
+
+    def test_sources_that_changed_meanwhile(self):
+        self.keep("--begin")
+        self.build()
+        self.write("crates/low/src/lib.rt", "fn other() {}\n")
+        self.keep()
+        self.assertFalse(self.is_stamped())
+
+    def test_a_run_that_was_not_begun(self):
+        self.build()
+        self.keep()
+        self.assertFalse(self.is_stamped())
+
+    def test_a_kit_of_another_form(self):
+        self.write("bin/rtlib.py", "")
+        self.keep("--begin")
+        self.build()
+        self.keep()
+        self.assertFalse(self.is_stamped())
+
+
+if __name__ == "__main__":
+    unittest.main(verbosity=0)
