@@ -44,7 +44,7 @@ fn position_of<P, S: Has<Position, P>>(value: S::Value) -> Option<i64> {
 }
 
 /// A new world over empty storages.
-pub fn fresh<S: Empty, J: WorldJob<S>>(alloc: Global) -> World<S, J> {
+pub fn fresh<S: Storages + Empty, J: WorldJob<S>>(alloc: Global) -> World<S, J> {
     World::new(alloc, S::empty(alloc))
 }
 
@@ -102,7 +102,7 @@ pub fn has<S: Storages, J: WorldJob<S>>(world: &mut World<S, J>, slot: S::Slot, 
 }
 
 /// The position of an entity, by a command.
-pub fn position_at<P, S: Has<Position, P>, J: WorldJob<S>>(
+pub fn position_at<P, S: Storages + Has<Position, P>, J: WorldJob<S>>(
     world: &mut World<S, J>,
     e: Entity,
 ) -> Option<i64> {
@@ -121,7 +121,9 @@ pub fn run<S: Storages>(
 }
 
 /// Registers a component type.
-pub fn register<T: Component, I, S: Has<T, I>, J: WorldJob<S>>(world: &mut World<S, J>) -> bool
+pub fn register<T: Component, I, S: Storages + Has<T, I>, J: WorldJob<S>>(
+    world: &mut World<S, J>,
+) -> bool
 where
     T::Storage: UnprotectedStorage<T>,
 {
@@ -129,7 +131,7 @@ where
 }
 
 /// Registers positions and healths.
-pub fn register_both<P, H, S: Has<Position, P> + Has<Health, H>, J: WorldJob<S>>(
+pub fn register_both<P, H, S: Storages + Has<Position, P> + Has<Health, H>, J: WorldJob<S>>(
     world: &mut World<S, J>,
 ) -> bool {
     let there = register::<Position, P, S, J>(world);

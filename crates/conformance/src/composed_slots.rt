@@ -28,7 +28,7 @@ impl<S: Drop> Drop for Clinic<S> {
 }
 
 /// A clinic in which nobody was born.
-fn fresh<S: Empty>(alloc: Global) -> Clinic<S> {
+fn fresh<S: Storages + Empty>(alloc: Global) -> Clinic<S> {
     Clinic {
         entities: EntitiesRes::new(alloc),
         slots: S::empty(alloc),
@@ -58,12 +58,12 @@ impl<S: Storages> Clinic<S> {
 }
 
 /// The storage of healths, if it is there.
-fn ward<H, S: Has<Health, H>>(slots: &mut S) -> Option<&mut MaskedStorage<Health>> {
+fn ward<H, S: Storages + Has<Health, H>>(slots: &mut S) -> Option<&mut MaskedStorage<Health>> {
     slots.field_mut()
 }
 
 /// Registers a reader of the healths.
-fn listen<H, S: Has<Health, H>>(clinic: &mut Clinic<S>) -> bool {
+fn listen<H, S: Storages + Has<Health, H>>(clinic: &mut Clinic<S>) -> bool {
     match ward(&mut clinic.slots) {
         Some(healths) => healths.register_reader().is_ok(),
         None => false,
@@ -71,7 +71,10 @@ fn listen<H, S: Has<Health, H>>(clinic: &mut Clinic<S>) -> bool {
 }
 
 /// Whether the reader of the healths reads just these events.
-fn reads<H, S: Has<Health, H>>(clinic: &mut Clinic<S>, wanted: &[ComponentEvent]) -> bool {
+fn reads<H, S: Storages + Has<Health, H>>(
+    clinic: &mut Clinic<S>,
+    wanted: &[ComponentEvent],
+) -> bool {
     match ward(&mut clinic.slots) {
         Some(healths) => match healths.read(&ReaderId::of(0)) {
             Ok(events) => events.as_slice() == wanted,
@@ -82,12 +85,12 @@ fn reads<H, S: Has<Health, H>>(clinic: &mut Clinic<S>, wanted: &[ComponentEvent]
 }
 
 /// Puts a position at an entity, by its type.
-fn move_to<P, S: Has<Position, P>>(clinic: &mut Clinic<S>, e: Entity, x: i64) -> bool {
+fn move_to<P, S: Storages + Has<Position, P>>(clinic: &mut Clinic<S>, e: Entity, x: i64) -> bool {
     by_type::insert(&mut clinic.slots, &clinic.entities, e, Position(x)).is_ok()
 }
 
 /// The position of an entity, by its type.
-fn place<P, S: Has<Position, P>>(clinic: &Clinic<S>, e: Entity) -> Option<Position> {
+fn place<P, S: Storages + Has<Position, P>>(clinic: &Clinic<S>, e: Entity) -> Option<Position> {
     match by_type::get(&clinic.slots, &clinic.entities, e) {
         Ok(found) => found,
         Err(_) => None,
@@ -95,7 +98,7 @@ fn place<P, S: Has<Position, P>>(clinic: &Clinic<S>, e: Entity) -> Option<Positi
 }
 
 /// Registers both slots, and a reader of the healths, for two entities.
-fn open<R: Abort, P, H, S: Has<Position, P> + Has<Health, H>>(
+fn open<R: Abort, P, H, S: Storages + Has<Position, P> + Has<Health, H>>(
     rt: &R,
     alloc: Global,
     clinic: &mut Clinic<S>,
@@ -108,7 +111,7 @@ fn open<R: Abort, P, H, S: Has<Position, P> + Has<Health, H>>(
     Ok((e, f))
 }
 
-fn tells_each_change<R: Abort, P, H, S: Has<Position, P> + Has<Health, H>>(
+fn tells_each_change<R: Abort, P, H, S: Storages + Has<Position, P> + Has<Health, H>>(
     rt: &R,
     alloc: Global,
     clinic: &mut Clinic<S>,
@@ -130,7 +133,7 @@ fn tells_each_change<R: Abort, P, H, S: Has<Position, P> + Has<Health, H>>(
 }
 
 /// Tells of each change of new storages.
-pub fn tell_of_new<R: Abort, P, H, S: Empty + Has<Position, P> + Has<Health, H> + Drop>(
+pub fn tell_of_new<R: Abort, P, H, S: Storages + Empty + Has<Position, P> + Has<Health, H> + Drop>(
     rt: &R,
     alloc: Global,
 ) -> Result<(), Fail> {

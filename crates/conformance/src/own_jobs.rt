@@ -45,7 +45,7 @@ impl<S: Storages> WorldJob<Listed<S>> for Push {
 type Listing<S> = World<Listed<S>, Push>;
 
 /// A new world, with an empty list beside its storages.
-pub fn listing<S: Empty, J: WorldJob<Listed<S>>>(alloc: Global) -> World<Listed<S>, J> {
+pub fn listing<S: Storages + Empty, J: WorldJob<Listed<S>>>(alloc: Global) -> World<Listed<S>, J> {
     World::new(
         alloc,
         Listed {
@@ -92,7 +92,7 @@ pub enum Story {
 }
 
 /// Tells a story of a new world, whose list is empty.
-pub fn tell_of_new<R: Abort, S: Empty + Drop>(rt: &R, alloc: Global, story: Story) {
+pub fn tell_of_new<R: Abort, S: Storages + Empty + Drop>(rt: &R, alloc: Global, story: Story) {
     let mut world = listing::<S, Push>(alloc);
     match story {
         Story::InOrder => in_order(rt, &mut world),

@@ -11,7 +11,7 @@ use std::test::Fail;
 use storages::{Component, TryDefault, UnprotectedStorage};
 
 /// An entity with a position and a health.
-fn build<P, H, S: Has<Position, P> + Has<Health, H>>(
+fn build<P, H, S: Storages + Has<Position, P> + Has<Health, H>>(
     world: &mut World<S>,
     x: i64,
     points: i64,
@@ -20,7 +20,7 @@ fn build<P, H, S: Has<Position, P> + Has<Health, H>>(
 }
 
 /// Such an entity, if its builder is refused nothing.
-fn built<P, H, S: Has<Position, P> + Has<Health, H>>(
+fn built<P, H, S: Storages + Has<Position, P> + Has<Health, H>>(
     world: &mut World<S>,
     x: i64,
     points: i64,
@@ -38,7 +38,7 @@ fn built_empty<S: Storages>(world: &mut World<S>) -> Option<Entity> {
 }
 
 /// The position of an entity.
-fn position<P, S: Has<Position, P>>(world: &World<S>, e: Entity) -> Option<Position> {
+fn position<P, S: Storages + Has<Position, P>>(world: &World<S>, e: Entity) -> Option<Position> {
     match world.read_storage::<Position, _>() {
         Ok(positions) => positions.get(e).copied(),
         Err(_) => None,
@@ -46,7 +46,7 @@ fn position<P, S: Has<Position, P>>(world: &World<S>, e: Entity) -> Option<Posit
 }
 
 /// The health of an entity.
-fn health<H, S: Has<Health, H>>(world: &World<S>, e: Entity) -> Option<Health> {
+fn health<H, S: Storages + Has<Health, H>>(world: &World<S>, e: Entity) -> Option<Health> {
     match world.read_component::<Health, _>() {
         Ok(healths) => healths.get(e).copied(),
         Err(_) => None,
@@ -54,7 +54,7 @@ fn health<H, S: Has<Health, H>>(world: &World<S>, e: Entity) -> Option<Health> {
 }
 
 /// Puts a position at an entity, by a view, and answers whether it is there then.
-fn place<P, S: Has<Position, P>>(world: &mut World<S>, e: Entity, x: i64) -> bool {
+fn place<P, S: Storages + Has<Position, P>>(world: &mut World<S>, e: Entity, x: i64) -> bool {
     match world.write_storage::<Position, _>() {
         Ok(mut positions) => {
             let put = positions.insert(e, Position(x)).is_ok();
@@ -98,7 +98,7 @@ fn are_five<R: Abort, S: Storages>(
     Ok(())
 }
 
-fn are_built_and_written<R: Abort, P, H, S: Has<Position, P> + Has<Health, H>>(
+fn are_built_and_written<R: Abort, P, H, S: Storages + Has<Position, P> + Has<Health, H>>(
     rt: &R,
     world: &mut World<S>,
 ) -> Result<(), Fail> {
@@ -117,7 +117,7 @@ fn are_built_and_written<R: Abort, P, H, S: Has<Position, P> + Has<Health, H>>(
 }
 
 /// An entity whose builder is given a position and no health.
-fn built_in_part<P, H, S: Has<Position, P> + Has<Health, H>>(
+fn built_in_part<P, H, S: Storages + Has<Position, P> + Has<Health, H>>(
     world: &mut World<S>,
 ) -> Option<Entity> {
     let builder = world.create_entity().ok()?;
@@ -126,7 +126,7 @@ fn built_in_part<P, H, S: Has<Position, P> + Has<Health, H>>(
     Some(builder.build())
 }
 
-fn may_lack_a_component<R: Abort, P, H, S: Has<Position, P> + Has<Health, H>>(
+fn may_lack_a_component<R: Abort, P, H, S: Storages + Has<Position, P> + Has<Health, H>>(
     rt: &R,
     world: &mut World<S>,
 ) -> Result<(), Fail> {
@@ -139,7 +139,7 @@ fn may_lack_a_component<R: Abort, P, H, S: Has<Position, P> + Has<Health, H>>(
 }
 
 /// Registers an empty storage of a component type.
-fn register_empty<T: Component, I, S: Has<T, I>>(
+fn register_empty<T: Component, I, S: Storages + Has<T, I>>(
     alloc: Global,
     world: &mut World<S>,
 ) -> Result<(), Fail>
@@ -151,14 +151,18 @@ where
 }
 
 /// Puts a health at an entity, by a view, and answers the one before.
-fn heal<H, S: Has<Health, H>>(world: &mut World<S>, e: Entity, points: i64) -> Option<Health> {
+fn heal<H, S: Storages + Has<Health, H>>(
+    world: &mut World<S>,
+    e: Entity,
+    points: i64,
+) -> Option<Health> {
     match world.write_component::<Health, _>() {
         Ok(mut healths) => healths.insert(e, Health(points)).ok()?,
         Err(_) => None,
     }
 }
 
-fn takes_storages<R: Abort, P, H, S: Has<Position, P> + Has<Health, H>>(
+fn takes_storages<R: Abort, P, H, S: Storages + Has<Position, P> + Has<Health, H>>(
     rt: &R,
     alloc: Global,
     world: &mut World<S>,
@@ -195,7 +199,7 @@ fn marks_the_dropped<R: Abort, S: Storages>(rt: &R, world: &mut World<S>) -> Res
 }
 
 /// An entity whose builder was refused a component, and the component that came back.
-fn refused<P, S: Has<Position, P>>(world: &mut World<S>) -> Option<(Entity, Position)> {
+fn refused<P, S: Storages + Has<Position, P>>(world: &mut World<S>) -> Option<(Entity, Position)> {
     let builder = world.create_entity().ok()?;
     let e = builder.entity();
     match builder.with(Position(5)) {
@@ -204,7 +208,7 @@ fn refused<P, S: Has<Position, P>>(world: &mut World<S>) -> Option<(Entity, Posi
     }
 }
 
-fn marks_the_refused<R: Abort, P, S: Has<Position, P>>(
+fn marks_the_refused<R: Abort, P, S: Storages + Has<Position, P>>(
     rt: &R,
     world: &mut World<S>,
 ) -> Result<(), Fail> {
@@ -215,16 +219,16 @@ fn marks_the_refused<R: Abort, P, S: Has<Position, P>>(
 }
 
 /// Whether positions are refused to be read.
-fn reads_none<P, S: Has<Position, P>>(world: &World<S>) -> bool {
+fn reads_none<P, S: Storages + Has<Position, P>>(world: &World<S>) -> bool {
     matches!(&world.read_storage::<Position, _>(), Err(Unregistered))
 }
 
 /// Whether positions are refused to be written to.
-fn writes_none<P, S: Has<Position, P>>(world: &mut World<S>) -> bool {
+fn writes_none<P, S: Storages + Has<Position, P>>(world: &mut World<S>) -> bool {
     matches!(&world.write_storage::<Position, _>(), Err(Unregistered))
 }
 
-fn has_no_positions<R: Abort, P, S: Has<Position, P>>(rt: &R, world: &mut World<S>) {
+fn has_no_positions<R: Abort, P, S: Storages + Has<Position, P>>(rt: &R, world: &mut World<S>) {
     holds!(rt; reads_none(world));
     holds!(rt; writes_none(world));
 }
@@ -234,7 +238,7 @@ fn delete_components<S: Storages>(world: &mut World<S>, list: &[Entity]) -> bool
     world.delete_components(list).is_ok()
 }
 
-fn lose_components<R: Abort, P, H, S: Has<Position, P> + Has<Health, H>>(
+fn lose_components<R: Abort, P, H, S: Storages + Has<Position, P> + Has<Health, H>>(
     rt: &R,
     world: &mut World<S>,
 ) -> Result<(), Fail> {
@@ -268,7 +272,7 @@ pub enum Story {
     LoseComponents,
 }
 
-fn tell<R: Abort, P, H, S: Has<Position, P> + Has<Health, H>>(
+fn tell<R: Abort, P, H, S: Storages + Has<Position, P> + Has<Health, H>>(
     rt: &R,
     alloc: Global,
     story: Story,
@@ -290,7 +294,7 @@ fn tell<R: Abort, P, H, S: Has<Position, P> + Has<Health, H>>(
 }
 
 /// Tells a story of a new world.
-pub fn tell_of_new<R: Abort, P, H, S: Empty + Has<Position, P> + Has<Health, H> + Drop>(
+pub fn tell_of_new<R: Abort, P, H, S: Storages + Empty + Has<Position, P> + Has<Health, H> + Drop>(
     rt: &R,
     alloc: Global,
     story: Story,

@@ -104,7 +104,7 @@ fn bears_and_merges<R: Abort, S: Storages>(rt: &R, world: &mut World<S>, nursery
 }
 
 /// Tells of births and deaths, mixed with merges.
-pub fn merges<R: Abort, S: Empty + Drop>(rt: &R, alloc: Global) {
+pub fn merges<R: Abort, S: Storages + Empty + Drop>(rt: &R, alloc: Global) {
     let mut world = fresh::<S, _>(alloc);
     let mut nursery = empty_nursery(alloc);
     bears_and_merges(rt, &mut world, &mut nursery);
@@ -132,7 +132,7 @@ impl Random {
 }
 
 /// A birth with a position.
-fn bear_at<R: Abort, P, S: Has<Position, P>>(
+fn bear_at<R: Abort, P, S: Storages + Has<Position, P>>(
     rt: &R,
     world: &mut World<S>,
     birth: Command<S>,
@@ -144,7 +144,7 @@ fn bear_at<R: Abort, P, S: Has<Position, P>>(
 }
 
 /// The positions of the entities that have one, by index.
-fn placed<P, S: Has<Position, P>>(
+fn placed<P, S: Storages + Has<Position, P>>(
     alloc: Global,
     world: &mut World<S>,
 ) -> Result<Vec<(Entity, i64)>, Fail> {
@@ -186,7 +186,7 @@ fn mark_last<R: Abort, S: Storages>(
 }
 
 /// Births of entities that wait for a merge.
-fn bear_some<R: Abort, P, S: Has<Position, P>>(
+fn bear_some<R: Abort, P, S: Storages + Has<Position, P>>(
     rt: &R,
     world: &mut World<S>,
     random: &mut Random,
@@ -199,7 +199,7 @@ fn bear_some<R: Abort, P, S: Has<Position, P>>(
 }
 
 /// The first hundred, born at once.
-fn bear_first<R: Abort, P, S: Has<Position, P>>(
+fn bear_first<R: Abort, P, S: Storages + Has<Position, P>>(
     rt: &R,
     world: &mut World<S>,
     random: &mut Random,
@@ -210,7 +210,7 @@ fn bear_first<R: Abort, P, S: Has<Position, P>>(
     Ok(())
 }
 
-fn bears_in_vain<R: Abort, P, S: Has<Position, P>>(
+fn bears_in_vain<R: Abort, P, S: Storages + Has<Position, P>>(
     rt: &R,
     alloc: Global,
     world: &mut World<S>,
@@ -228,7 +228,7 @@ fn bears_in_vain<R: Abort, P, S: Has<Position, P>>(
 }
 
 /// Tells of births and deaths before a merge.
-pub fn are_stillborn<R: Abort, P, S: Empty + Has<Position, P> + Drop>(
+pub fn are_stillborn<R: Abort, P, S: Storages + Empty + Has<Position, P> + Drop>(
     rt: &R,
     alloc: Global,
 ) -> Result<(), Fail> {

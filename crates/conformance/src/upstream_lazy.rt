@@ -141,7 +141,7 @@ fn counted<V>(found: &Result<Option<V>, Refusal>) -> u32 {
 }
 
 /// Storages for both component types, and two entities whose births are pending.
-fn begin<R: Abort, P, H, S: Has<Position, P> + Has<Health, H>>(
+fn begin<R: Abort, P, H, S: Storages + Has<Position, P> + Has<Health, H>>(
     rt: &R,
     world: &mut Busy<S>,
 ) -> Result<(Entity, Entity), Fail> {
@@ -168,7 +168,7 @@ fn two<V: Drop>(
     Ok(pairs)
 }
 
-fn inserts<R: Abort, P, H, S: Has<Position, P> + Has<Health, H>>(
+fn inserts<R: Abort, P, H, S: Storages + Has<Position, P> + Has<Health, H>>(
     rt: &R,
     alloc: Global,
     world: &mut Busy<S>,
@@ -185,7 +185,7 @@ fn inserts<R: Abort, P, H, S: Has<Position, P> + Has<Health, H>>(
     Ok(())
 }
 
-fn removes<R: Abort, P, H, S: Has<Position, P> + Has<Health, H>>(
+fn removes<R: Abort, P, H, S: Storages + Has<Position, P> + Has<Health, H>>(
     rt: &R,
     world: &mut Busy<S>,
 ) -> Result<(), Fail> {
@@ -199,7 +199,7 @@ fn removes<R: Abort, P, H, S: Has<Position, P> + Has<Health, H>>(
 }
 
 /// A job that creates an entity; one more lives afterwards than before.
-fn executes<R: Abort, P, H, S: Has<Position, P> + Has<Health, H>>(
+fn executes<R: Abort, P, H, S: Storages + Has<Position, P> + Has<Health, H>>(
     rt: &R,
     world: &mut Busy<S>,
 ) -> Result<(), Fail> {
@@ -213,7 +213,7 @@ fn executes<R: Abort, P, H, S: Has<Position, P> + Has<Health, H>>(
 }
 
 /// A job that puts a position at an entity by itself.
-fn puts<R: Abort, P, S: Has<Position, P>>(
+fn puts<R: Abort, P, S: Storages + Has<Position, P>>(
     rt: &R,
     world: &mut World<S, Put<S>>,
 ) -> Result<(), Fail> {
@@ -228,7 +228,7 @@ fn puts<R: Abort, P, S: Has<Position, P>>(
 }
 
 /// A job that queues a job which puts a position by itself, and sees none then: both run at one maintain.
-fn puts_nested<R: Abort, P, S: Has<Position, P>>(
+fn puts_nested<R: Abort, P, S: Storages + Has<Position, P>>(
     rt: &R,
     world: &mut World<Listed<S>, Nested<S>>,
 ) -> Result<(), Fail> {
@@ -260,7 +260,7 @@ fn built<S: Storages>(world: &mut Busy<S>, value: S::Value) -> Option<Entity> {
 }
 
 /// The value comes with the next maintain.
-fn builds<R: Abort, P, H, S: Has<Position, P> + Has<Health, H>>(
+fn builds<R: Abort, P, H, S: Storages + Has<Position, P> + Has<Health, H>>(
     rt: &R,
     world: &mut Busy<S>,
 ) -> Result<(), Fail> {
@@ -280,7 +280,7 @@ fn unbuilt<S: Storages>(world: &mut Busy<S>) -> Option<Entity> {
 }
 
 /// Such an entity dies with the next maintain.
-fn drops<R: Abort, P, H, S: Has<Position, P> + Has<Health, H>>(
+fn drops<R: Abort, P, H, S: Storages + Has<Position, P> + Has<Health, H>>(
     rt: &R,
     world: &mut Busy<S>,
 ) -> Result<(), Fail> {
@@ -304,7 +304,7 @@ pub enum Story {
     Drops,
 }
 
-fn tell<R: Abort, P, H, S: Has<Position, P> + Has<Health, H>>(
+fn tell<R: Abort, P, H, S: Storages + Has<Position, P> + Has<Health, H>>(
     rt: &R,
     alloc: Global,
     story: Story,
@@ -319,7 +319,7 @@ fn tell<R: Abort, P, H, S: Has<Position, P> + Has<Health, H>>(
     }
 }
 
-fn put_in_new<R: Abort, P, S: Empty + Has<Position, P> + Drop>(
+fn put_in_new<R: Abort, P, S: Storages + Empty + Has<Position, P> + Drop>(
     rt: &R,
     alloc: Global,
 ) -> Result<(), Fail> {
@@ -327,7 +327,7 @@ fn put_in_new<R: Abort, P, S: Empty + Has<Position, P> + Drop>(
     puts(rt, &mut world)
 }
 
-fn put_nested_in_new<R: Abort, P, S: Empty + Has<Position, P> + Drop>(
+fn put_nested_in_new<R: Abort, P, S: Storages + Empty + Has<Position, P> + Drop>(
     rt: &R,
     alloc: Global,
 ) -> Result<(), Fail> {
@@ -336,7 +336,7 @@ fn put_nested_in_new<R: Abort, P, S: Empty + Has<Position, P> + Drop>(
 }
 
 /// Tells a story of a new world.
-pub fn tell_of_new<R: Abort, P, H, S: Empty + Has<Position, P> + Has<Health, H> + Drop>(
+pub fn tell_of_new<R: Abort, P, H, S: Storages + Empty + Has<Position, P> + Has<Health, H> + Drop>(
     rt: &R,
     alloc: Global,
     story: Story,

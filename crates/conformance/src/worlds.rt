@@ -23,7 +23,7 @@ fn bears_again<R: Abort, S: Storages>(rt: &R, world: &mut World<S>) -> Result<()
 }
 
 /// Six commands, of which the last is refused.
-fn six<P, H, S: Has<Position, P> + Has<Health, H>>(
+fn six<P, H, S: Storages + Has<Position, P> + Has<Health, H>>(
     alloc: Global,
     e: Entity,
 ) -> Result<Vec<Command<S>>, AllocError> {
@@ -47,7 +47,7 @@ fn are_the_six<R: Abort, V>(rt: &R, replies: &[Reply<V>]) {
     holds!(rt; matches!(&replies[5], Reply::Refused(Refusal::Unregistered)));
 }
 
-fn answers_six<R: Abort, P, H, S: Has<Position, P> + Has<Health, H>>(
+fn answers_six<R: Abort, P, H, S: Storages + Has<Position, P> + Has<Health, H>>(
     rt: &R,
     alloc: Global,
     world: &mut World<S>,
@@ -68,7 +68,9 @@ fn answers_nothing<R: Abort, S: Storages>(
 }
 
 /// Two merged entities, of which the first has a position and both have a health, and a pending one.
-fn populate<P, H, S: Has<Position, P> + Has<Health, H>>(world: &mut World<S>) -> Result<(), Fail> {
+fn populate<P, H, S: Storages + Has<Position, P> + Has<Health, H>>(
+    world: &mut World<S>,
+) -> Result<(), Fail> {
     let (e, f) = (entity(0, 1)?, entity(1, 1)?);
     let _ = does(world, Command::Register(positions::<P, S>()));
     let _ = does(world, Command::Register(healths::<H, S>()));
@@ -86,11 +88,11 @@ fn is_unregistered<S: Storages>(world: &World<S>, set: &SetExpr<S::Slot>) -> boo
     matches!(world.select(set), Err(Refusal::Unregistered))
 }
 
-fn refuses_positions<R: Abort, P, S: Has<Position, P>>(rt: &R, world: &World<S>) {
+fn refuses_positions<R: Abort, P, S: Storages + Has<Position, P>>(rt: &R, world: &World<S>) {
     holds!(rt; is_unregistered(world, &SetExpr::Slot(positions::<P, S>())));
 }
 
-fn living_and_slots<R: Abort, P, H, S: Has<Position, P> + Has<Health, H>>(
+fn living_and_slots<R: Abort, P, H, S: Storages + Has<Position, P> + Has<Health, H>>(
     rt: &R,
     world: &mut World<S>,
 ) -> Result<(), Fail> {
@@ -141,7 +143,7 @@ fn living_without_position<K: Copy>(alloc: Global, position: K) -> Result<SetExp
 }
 
 /// The first entity has both components, and the second the health.
-fn selects_each<R: Abort, P, H, S: Has<Position, P> + Has<Health, H>>(
+fn selects_each<R: Abort, P, H, S: Storages + Has<Position, P> + Has<Health, H>>(
     rt: &R,
     alloc: Global,
     world: &mut World<S>,
@@ -197,7 +199,7 @@ fn ends_at_maintain<R: Abort, S: Storages>(rt: &R, world: &mut World<S>) -> Resu
     Ok(())
 }
 
-fn takes_up_a_phase<R: Abort, P, H, S: Has<Position, P> + Has<Health, H>>(
+fn takes_up_a_phase<R: Abort, P, H, S: Storages + Has<Position, P> + Has<Health, H>>(
     rt: &R,
     alloc: Global,
     world: &mut World<S>,
@@ -229,7 +231,7 @@ pub enum Story {
     TakesUpAPhase,
 }
 
-fn tell<R: Abort, P, H, S: Has<Position, P> + Has<Health, H>>(
+fn tell<R: Abort, P, H, S: Storages + Has<Position, P> + Has<Health, H>>(
     rt: &R,
     alloc: Global,
     story: Story,
@@ -252,7 +254,7 @@ fn tell<R: Abort, P, H, S: Has<Position, P> + Has<Health, H>>(
 }
 
 /// Tells a story of a new world.
-pub fn tell_of_new<R: Abort, P, H, S: Empty + Has<Position, P> + Has<Health, H> + Drop>(
+pub fn tell_of_new<R: Abort, P, H, S: Storages + Empty + Has<Position, P> + Has<Health, H> + Drop>(
     rt: &R,
     alloc: Global,
     story: Story,

@@ -216,36 +216,6 @@ fn two_storages_are_exchanged(rt: HostRuntime) -> Result<(), Fail> {
     told(&rt, rt.alloc(), 3, Story::Exchanged)
 }
 
-/// A cursor, by its calls.
-pub trait Cursor {
-    /// The next index.
-    fn step(&mut self) -> Option<u32>;
-
-    /// Whether something stands beside the component.
-    fn is_beside(&mut self) -> bool;
-
-    /// Whether it lends the component.
-    fn lends(&mut self) -> bool;
-
-    /// Whether it lends none since none is there.
-    fn lacks(&mut self) -> bool;
-}
-
-/// A cursor before its first index, at it, and past its last.
-pub fn stands_nowhere<R: Abort, K: Cursor>(rt: &R, cursor: &mut K) {
-    holds!(rt; cursor.lacks());
-    holds!(rt; !cursor.is_beside());
-    equal!(rt; cursor.step(), Some(1));
-    holds!(rt; cursor.is_beside());
-    holds!(rt; !cursor.is_beside());
-    holds!(rt; cursor.lends());
-    holds!(rt; cursor.lends());
-    equal!(rt; cursor.step(), None);
-    holds!(rt; cursor.lacks());
-    holds!(rt; !cursor.is_beside());
-    equal!(rt; cursor.step(), None);
-}
-
 /// A cursor over two, of which both have the second alone.
 pub fn lends_only_where_it_stands<R: Abort, Y: Yard>(rt: &R, yard: &mut Y) {
     put_first(rt, yard, &[0, 1], 1);

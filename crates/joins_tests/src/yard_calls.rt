@@ -1,5 +1,5 @@
 //! The calls of a yard, one walk in each.
-use crate::cursor_tests::{Cursor, stands_nowhere};
+use crate::asserts::{equal, holds};
 use crate::cursor_walks::{
     beside_one, counted, drained, drained_at, exchange, go_on, increase, no_more_than, raise_low,
     shown_and_lent, subtract, subtract_all, sum_of_entries,
@@ -145,26 +145,62 @@ where
     }
 }
 
-impl<P: Numbered, V: Numbered> Cursor for WriteJoin<'_, P, &MaskedStorage<V>>
+/// The next index of a cursor.
+fn step<P: Numbered, V: Numbered>(cursor: &mut WriteJoin<'_, P, &MaskedStorage<V>>) -> Option<u32>
 where
     P::Storage: UnprotectedStorage<P>,
     V::Storage: UnprotectedStorage<V>,
 {
-    fn step(&mut self) -> Option<u32> {
-        self.next()
-    }
+    cursor.next()
+}
 
-    fn is_beside(&mut self) -> bool {
-        self.beside().is_some()
-    }
+/// Whether something stands beside the component.
+fn is_beside<P: Numbered, V: Numbered>(cursor: &mut WriteJoin<'_, P, &MaskedStorage<V>>) -> bool
+where
+    P::Storage: UnprotectedStorage<P>,
+    V::Storage: UnprotectedStorage<V>,
+{
+    cursor.beside().is_some()
+}
 
-    fn lends(&mut self) -> bool {
-        self.item().is_ok()
-    }
+/// Whether a cursor lends the component.
+fn lends<P: Numbered, V: Numbered>(cursor: &mut WriteJoin<'_, P, &MaskedStorage<V>>) -> bool
+where
+    P::Storage: UnprotectedStorage<P>,
+    V::Storage: UnprotectedStorage<V>,
+{
+    cursor.item().is_ok()
+}
 
-    fn lacks(&mut self) -> bool {
-        matches!(self.item(), Err(NotLent::Absent))
-    }
+/// Whether it lends none since none is there.
+fn lacks<P: Numbered, V: Numbered>(cursor: &mut WriteJoin<'_, P, &MaskedStorage<V>>) -> bool
+where
+    P::Storage: UnprotectedStorage<P>,
+    V::Storage: UnprotectedStorage<V>,
+{
+    matches!(cursor.item(), Err(NotLent::Absent))
+}
+
+/// A cursor before its first index, at it, and past its last.
+fn stands_nowhere<R: Abort, P: Numbered, V: Numbered>(
+    rt: &R,
+    cursor: &mut WriteJoin<'_, P, &MaskedStorage<V>>,
+)
+where
+    P::Storage: UnprotectedStorage<P>,
+    V::Storage: UnprotectedStorage<V>,
+{
+    holds!(rt; lacks(cursor));
+    holds!(rt; !is_beside(cursor));
+    equal!(rt; step(cursor), Some(1));
+    holds!(rt; is_beside(cursor));
+    holds!(rt; !is_beside(cursor));
+    holds!(rt; lends(cursor));
+    holds!(rt; lends(cursor));
+    equal!(rt; step(cursor), None);
+    holds!(rt; lacks(cursor));
+    holds!(rt; !is_beside(cursor));
+    equal!(rt; step(cursor), None);
 }
 
 /// Writes to the position beside the first velocity, through a view.
