@@ -8,7 +8,7 @@ use crate::workload::{Plan, Workload, report};
 use anyhow::{Result, bail};
 use composed::{Empty, Of2};
 use entities::Entity;
-use specs::{Builder, Has, World, value};
+use specs::{Builder, Has, Storages, World, value};
 use std::alloc::Global;
 use std::io::Print;
 use std::marker::PhantomData;
@@ -154,7 +154,7 @@ fn fetch<P: Pointed, I, S: Has<P, I>>(world: &World<S>, count: u32) -> Result<u6
     Ok(found)
 }
 
-fn insert_lazily<P: Pointed, I, S: Has<P, I>>(state: &mut State<S>) -> Result<()> {
+fn insert_lazily<P: Pointed, I, S: Storages + Has<P, I>>(state: &mut State<S>) -> Result<()> {
     let lazy = &mut state.0.parts().lazy;
     let mut number: u32 = 0;
     for entity in state.1.as_slice() {
@@ -185,7 +185,7 @@ fn bear_lazily<P: Pointed, I, V: Pointed, J, S: Has<P, I> + Has<V, J>>(
     Ok(())
 }
 
-fn create_lazily<P: Pointed, I, V: Pointed, J, S: Has<P, I> + Has<V, J>>(
+fn create_lazily<P: Pointed, I, V: Pointed, J, S: Storages + Has<P, I> + Has<V, J>>(
     world: &mut World<S>,
     count: u32,
 ) -> Result<()> {

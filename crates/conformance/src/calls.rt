@@ -102,7 +102,7 @@ pub fn has<S: Storages, J: WorldJob<S>>(world: &mut World<S, J>, slot: S::Slot, 
 }
 
 /// The position of an entity, by a command.
-pub fn position_at<P, S: Has<Position, P>, J: WorldJob<S>>(
+pub fn position_at<P, S: Storages + Has<Position, P>, J: WorldJob<S>>(
     world: &mut World<S, J>,
     e: Entity,
 ) -> Option<i64> {

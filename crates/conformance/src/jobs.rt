@@ -15,7 +15,7 @@ use std::test::Fail;
 type Busy<S> = World<S, ScriptJob>;
 
 /// Two entities, and storages for both component types.
-fn begin<R: Abort, P, H, S: Has<Position, P> + Has<Health, H>>(
+fn begin<R: Abort, P, H, S: Storages + Has<Position, P> + Has<Health, H>>(
     rt: &R,
     world: &mut Busy<S>,
 ) -> Result<(Entity, Entity), Fail> {
@@ -43,7 +43,7 @@ fn repeats<R: Abort, S: Storages>(rt: &R, world: &mut Busy<S>) {
 }
 
 /// The lists of two workers, of which the second has the last word.
-fn appends<R: Abort, P, H, S: Has<Position, P> + Has<Health, H>>(
+fn appends<R: Abort, P, H, S: Storages + Has<Position, P> + Has<Health, H>>(
     rt: &R,
     alloc: Global,
     world: &mut Busy<S>,
@@ -72,7 +72,7 @@ fn three<V: Drop>(
 }
 
 /// The first pairs of a list are of entities that are alive.
-fn all_at_once<R: Abort, P, H, S: Has<Position, P> + Has<Health, H>>(
+fn all_at_once<R: Abort, P, H, S: Storages + Has<Position, P> + Has<Health, H>>(
     rt: &R,
     alloc: Global,
     world: &mut Busy<S>,
@@ -91,7 +91,7 @@ fn all_at_once<R: Abort, P, H, S: Has<Position, P> + Has<Health, H>>(
     Ok(())
 }
 
-fn takes_out<R: Abort, P, H, S: Has<Position, P> + Has<Health, H>>(
+fn takes_out<R: Abort, P, H, S: Storages + Has<Position, P> + Has<Health, H>>(
     rt: &R,
     world: &mut Busy<S>,
 ) -> Result<(), Fail> {
@@ -106,7 +106,7 @@ fn takes_out<R: Abort, P, H, S: Has<Position, P> + Has<Health, H>>(
     Ok(())
 }
 
-fn marks_nobody<R: Abort, P, H, S: Has<Position, P> + Has<Health, H>>(
+fn marks_nobody<R: Abort, P, H, S: Storages + Has<Position, P> + Has<Health, H>>(
     rt: &R,
     world: &mut Busy<S>,
 ) -> Result<(), Fail> {
@@ -127,7 +127,7 @@ pub enum Story {
     MarksNobody,
 }
 
-fn tell<R: Abort, P, H, S: Has<Position, P> + Has<Health, H>>(
+fn tell<R: Abort, P, H, S: Storages + Has<Position, P> + Has<Health, H>>(
     rt: &R,
     alloc: Global,
     story: Story,

@@ -1,6 +1,6 @@
 //! A struct of storages with a further field, of which its slots know nothing.
 use hibits::BitSet;
-use specs::{ComponentEvent, EntitiesRes, Entity, MarkError, ReaderId, Refusal, Storages};
+use specs::{ComponentEvent, EntitiesRes, Entity, Held, MarkError, ReaderId, Refusal, Storages};
 use std::alloc::{AllocError, Global};
 
 /// Storages, and beside them a list of numbers. Each call goes to the storages.
@@ -12,26 +12,28 @@ pub struct Listed<S> {
     pub numbers: Vec<u32>,
 }
 
-impl<S: Storages> Storages for Listed<S> {
+impl<S: Held> Held for Listed<S> {
     type Slot = S::Slot;
 
     type Value = S::Value;
 
     ghost table = { λ s. S.table s.storages };
 
+    ghost place = { S.place };
+
+    ghost ids = { λ s. S.ids s.storages };
+}
+
+impl<S: Storages> Storages for Listed<S> {
     ghost room = { λ s. S.room s.storages };
 
-    ghost exact = { S.exact };
+    ghost allocates = { S.allocates };
 
     ghost marks = { S.marks };
 
-    ghost ids = { λ s. S.ids s.storages };
+    ghost exact = { S.exact };
 
     ghost idless = { λ s. S.idless s.storages };
-
-    ghost place = { S.place };
-
-    ghost allocates = { S.allocates };
 
     fn slot_of(value: &Self::Value) -> Self::Slot {
         S::slot_of(value)
@@ -39,10 +41,6 @@ impl<S: Storages> Storages for Listed<S> {
 
     fn register(&mut self, alloc: Global, slot: Self::Slot) -> Result<(), AllocError> {
         self.storages.register(alloc, slot)
-    }
-
-    fn is_registered(&self, slot: Self::Slot) -> bool {
-        self.storages.is_registered(slot)
     }
 
     fn mask(&self, slot: Self::Slot) -> Option<&BitSet> {

@@ -10,7 +10,7 @@ use std::test::Fail;
 use storages::{Component, TryDefault, UnprotectedStorage};
 
 /// An entity with a position and a health.
-fn build<P, H, S: Has<Position, P> + Has<Health, H>>(
+fn build<P, H, S: Storages + Has<Position, P> + Has<Health, H>>(
     world: &mut World<S>,
     x: i64,
     points: i64,
@@ -97,7 +97,7 @@ fn are_five<R: Abort, S: Storages>(
     Ok(())
 }
 
-fn are_built_and_written<R: Abort, P, H, S: Has<Position, P> + Has<Health, H>>(
+fn are_built_and_written<R: Abort, P, H, S: Storages + Has<Position, P> + Has<Health, H>>(
     rt: &R,
     world: &mut World<S>,
 ) -> Result<(), Fail> {
@@ -125,7 +125,7 @@ fn built_in_part<P, H, S: Has<Position, P> + Has<Health, H>>(
     Some(builder.build())
 }
 
-fn may_lack_a_component<R: Abort, P, H, S: Has<Position, P> + Has<Health, H>>(
+fn may_lack_a_component<R: Abort, P, H, S: Storages + Has<Position, P> + Has<Health, H>>(
     rt: &R,
     world: &mut World<S>,
 ) -> Result<(), Fail> {
@@ -157,7 +157,7 @@ fn heal<H, S: Has<Health, H>>(world: &mut World<S>, e: Entity, points: i64) -> O
     }
 }
 
-fn takes_storages<R: Abort, P, H, S: Has<Position, P> + Has<Health, H>>(
+fn takes_storages<R: Abort, P, H, S: Storages + Has<Position, P> + Has<Health, H>>(
     rt: &R,
     alloc: Global,
     world: &mut World<S>,
@@ -203,7 +203,7 @@ fn refused<P, S: Has<Position, P>>(world: &mut World<S>) -> Option<(Entity, Posi
     }
 }
 
-fn marks_the_refused<R: Abort, P, S: Has<Position, P>>(
+fn marks_the_refused<R: Abort, P, S: Storages + Has<Position, P>>(
     rt: &R,
     world: &mut World<S>,
 ) -> Result<(), Fail> {
@@ -233,7 +233,7 @@ fn delete_components<S: Storages>(world: &mut World<S>, list: &[Entity]) -> bool
     world.delete_components(list).is_ok()
 }
 
-fn lose_components<R: Abort, P, H, S: Has<Position, P> + Has<Health, H>>(
+fn lose_components<R: Abort, P, H, S: Storages + Has<Position, P> + Has<Health, H>>(
     rt: &R,
     world: &mut World<S>,
 ) -> Result<(), Fail> {
@@ -267,7 +267,7 @@ pub enum Story {
     LoseComponents,
 }
 
-fn tell<R: Abort, P, H, S: Has<Position, P> + Has<Health, H>>(
+fn tell<R: Abort, P, H, S: Storages + Has<Position, P> + Has<Health, H>>(
     rt: &R,
     alloc: Global,
     story: Story,

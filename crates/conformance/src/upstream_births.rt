@@ -131,7 +131,7 @@ impl Random {
 }
 
 /// A birth with a position.
-fn bear_at<R: Abort, P, S: Has<Position, P>>(
+fn bear_at<R: Abort, P, S: Storages + Has<Position, P>>(
     rt: &R,
     world: &mut World<S>,
     birth: Command<S>,
@@ -143,7 +143,7 @@ fn bear_at<R: Abort, P, S: Has<Position, P>>(
 }
 
 /// The positions of the entities that have one, by index.
-fn placed<P, S: Has<Position, P>>(
+fn placed<P, S: Storages + Has<Position, P>>(
     alloc: Global,
     world: &mut World<S>,
 ) -> Result<Vec<(Entity, i64)>, Fail> {
@@ -185,7 +185,7 @@ fn mark_last<R: Abort, S: Storages>(
 }
 
 /// Births of entities that wait for a merge.
-fn bear_some<R: Abort, P, S: Has<Position, P>>(
+fn bear_some<R: Abort, P, S: Storages + Has<Position, P>>(
     rt: &R,
     world: &mut World<S>,
     random: &mut Random,
@@ -198,7 +198,7 @@ fn bear_some<R: Abort, P, S: Has<Position, P>>(
 }
 
 /// The first hundred, born at once.
-fn bear_first<R: Abort, P, S: Has<Position, P>>(
+fn bear_first<R: Abort, P, S: Storages + Has<Position, P>>(
     rt: &R,
     world: &mut World<S>,
     random: &mut Random,
@@ -209,7 +209,7 @@ fn bear_first<R: Abort, P, S: Has<Position, P>>(
     Ok(())
 }
 
-fn bears_in_vain<R: Abort, P, S: Has<Position, P>>(
+fn bears_in_vain<R: Abort, P, S: Storages + Has<Position, P>>(
     rt: &R,
     alloc: Global,
     world: &mut World<S>,

@@ -140,7 +140,7 @@ fn counted<V>(found: &Result<Option<V>, Refusal>) -> u32 {
 }
 
 /// Storages for both component types, and two entities whose births are pending.
-fn begin<R: Abort, P, H, S: Has<Position, P> + Has<Health, H>>(
+fn begin<R: Abort, P, H, S: Storages + Has<Position, P> + Has<Health, H>>(
     rt: &R,
     world: &mut Busy<S>,
 ) -> Result<(Entity, Entity), Fail> {
@@ -167,7 +167,7 @@ fn two<V: Drop>(
     Ok(pairs)
 }
 
-fn inserts<R: Abort, P, H, S: Has<Position, P> + Has<Health, H>>(
+fn inserts<R: Abort, P, H, S: Storages + Has<Position, P> + Has<Health, H>>(
     rt: &R,
     alloc: Global,
     world: &mut Busy<S>,
@@ -184,7 +184,7 @@ fn inserts<R: Abort, P, H, S: Has<Position, P> + Has<Health, H>>(
     Ok(())
 }
 
-fn removes<R: Abort, P, H, S: Has<Position, P> + Has<Health, H>>(
+fn removes<R: Abort, P, H, S: Storages + Has<Position, P> + Has<Health, H>>(
     rt: &R,
     world: &mut Busy<S>,
 ) -> Result<(), Fail> {
@@ -198,7 +198,7 @@ fn removes<R: Abort, P, H, S: Has<Position, P> + Has<Health, H>>(
 }
 
 /// A job that creates an entity; one more lives afterwards than before.
-fn executes<R: Abort, P, H, S: Has<Position, P> + Has<Health, H>>(
+fn executes<R: Abort, P, H, S: Storages + Has<Position, P> + Has<Health, H>>(
     rt: &R,
     world: &mut Busy<S>,
 ) -> Result<(), Fail> {
@@ -212,7 +212,7 @@ fn executes<R: Abort, P, H, S: Has<Position, P> + Has<Health, H>>(
 }
 
 /// A job that puts a position at an entity by itself.
-fn puts<R: Abort, P, S: Has<Position, P>>(
+fn puts<R: Abort, P, S: Storages + Has<Position, P>>(
     rt: &R,
     world: &mut World<S, Put<S>>,
 ) -> Result<(), Fail> {
@@ -227,7 +227,7 @@ fn puts<R: Abort, P, S: Has<Position, P>>(
 }
 
 /// A job that queues a job which puts a position by itself, and sees none then: both run at one maintain.
-fn puts_nested<R: Abort, P, S: Has<Position, P>>(
+fn puts_nested<R: Abort, P, S: Storages + Has<Position, P>>(
     rt: &R,
     world: &mut World<Listed<S>, Nested<S>>,
 ) -> Result<(), Fail> {
@@ -259,7 +259,7 @@ fn built<S: Storages>(world: &mut Busy<S>, value: S::Value) -> Option<Entity> {
 }
 
 /// The value comes with the next maintain.
-fn builds<R: Abort, P, H, S: Has<Position, P> + Has<Health, H>>(
+fn builds<R: Abort, P, H, S: Storages + Has<Position, P> + Has<Health, H>>(
     rt: &R,
     world: &mut Busy<S>,
 ) -> Result<(), Fail> {
@@ -279,7 +279,7 @@ fn unbuilt<S: Storages>(world: &mut Busy<S>) -> Option<Entity> {
 }
 
 /// Such an entity dies with the next maintain.
-fn drops<R: Abort, P, H, S: Has<Position, P> + Has<Health, H>>(
+fn drops<R: Abort, P, H, S: Storages + Has<Position, P> + Has<Health, H>>(
     rt: &R,
     world: &mut Busy<S>,
 ) -> Result<(), Fail> {
@@ -303,7 +303,7 @@ pub enum Story {
     Drops,
 }
 
-fn tell<R: Abort, P, H, S: Has<Position, P> + Has<Health, H>>(
+fn tell<R: Abort, P, H, S: Storages + Has<Position, P> + Has<Health, H>>(
     rt: &R,
     alloc: Global,
     story: Story,

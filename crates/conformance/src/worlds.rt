@@ -46,7 +46,7 @@ fn are_the_six<R: Abort, V>(rt: &R, replies: &[Reply<V>]) {
     assert!(rt; matches!(&replies[5], Reply::Refused(Refusal::Unregistered)));
 }
 
-fn answers_six<R: Abort, P, H, S: Has<Position, P> + Has<Health, H>>(
+fn answers_six<R: Abort, P, H, S: Storages + Has<Position, P> + Has<Health, H>>(
     rt: &R,
     alloc: Global,
     world: &mut World<S>,
@@ -67,7 +67,9 @@ fn answers_nothing<R: Abort, S: Storages>(
 }
 
 /// Two merged entities, of which the first has a position and both have a health, and a pending one.
-fn populate<P, H, S: Has<Position, P> + Has<Health, H>>(world: &mut World<S>) -> Result<(), Fail> {
+fn populate<P, H, S: Storages + Has<Position, P> + Has<Health, H>>(
+    world: &mut World<S>,
+) -> Result<(), Fail> {
     let (e, f) = (entity(0, 1)?, entity(1, 1)?);
     let _ = does(world, Command::Register(positions::<P, S>()));
     let _ = does(world, Command::Register(healths::<H, S>()));
@@ -85,11 +87,11 @@ fn is_unregistered<S: Storages>(world: &World<S>, set: &SetExpr<S::Slot>) -> boo
     matches!(world.select(set), Err(Refusal::Unregistered))
 }
 
-fn refuses_positions<R: Abort, P, S: Has<Position, P>>(rt: &R, world: &World<S>) {
+fn refuses_positions<R: Abort, P, S: Storages + Has<Position, P>>(rt: &R, world: &World<S>) {
     assert!(rt; is_unregistered(world, &SetExpr::Slot(positions::<P, S>())));
 }
 
-fn living_and_slots<R: Abort, P, H, S: Has<Position, P> + Has<Health, H>>(
+fn living_and_slots<R: Abort, P, H, S: Storages + Has<Position, P> + Has<Health, H>>(
     rt: &R,
     world: &mut World<S>,
 ) -> Result<(), Fail> {
@@ -140,7 +142,7 @@ fn living_without_position<K: Copy>(alloc: Global, position: K) -> Result<SetExp
 }
 
 /// The first entity has both components, and the second the health.
-fn selects_each<R: Abort, P, H, S: Has<Position, P> + Has<Health, H>>(
+fn selects_each<R: Abort, P, H, S: Storages + Has<Position, P> + Has<Health, H>>(
     rt: &R,
     alloc: Global,
     world: &mut World<S>,
@@ -208,7 +210,7 @@ fn ends_at_maintain<R: Abort, S: Storages>(rt: &R, world: &mut World<S>) -> Resu
     Ok(())
 }
 
-fn takes_up_a_phase<R: Abort, P, H, S: Has<Position, P> + Has<Health, H>>(
+fn takes_up_a_phase<R: Abort, P, H, S: Storages + Has<Position, P> + Has<Health, H>>(
     rt: &R,
     alloc: Global,
     world: &mut World<S>,
@@ -240,7 +242,7 @@ pub enum Story {
     TakesUpAPhase,
 }
 
-fn tell<R: Abort, P, H, S: Has<Position, P> + Has<Health, H>>(
+fn tell<R: Abort, P, H, S: Storages + Has<Position, P> + Has<Health, H>>(
     rt: &R,
     alloc: Global,
     story: Story,

@@ -3,7 +3,7 @@ use crate::game::Score;
 use anyhow::{Result, bail};
 use composed::{Empty, Only};
 use hibits::Index;
-use specs::{Builder, Has, World};
+use specs::{Builder, Has, Storages, World};
 use std::alloc::Global;
 use std::collections::BTreeMap;
 use storages::{ComponentEvent, MaskedStorage, ReaderId};
@@ -39,7 +39,11 @@ fn follow(
 }
 
 /// Gives points to entities, changes those of one, and takes those of another.
-fn play<I, S: Has<Score, I>>(alloc: Global, world: &mut World<S>, text: &mut String) -> Result<()> {
+fn play<I, S: Storages + Has<Score, I>>(
+    alloc: Global,
+    world: &mut World<S>,
+    text: &mut String,
+) -> Result<()> {
     let table = &mut Table::new(alloc);
     world.register::<Score, _>()?;
     let first = world.create_entity()?.build();

@@ -5,7 +5,7 @@ use crate::game::{Fuse, Parts, Position, Velocity};
 use crate::orbits::{Pulls, fly};
 use anyhow::{Result, bail};
 use composed::Empty;
-use specs::{Has, World};
+use specs::{Has, Storages, World};
 use std::alloc::Global;
 use storages::{HashMapStorage, MaskedStorage, TryDefault};
 
@@ -26,7 +26,7 @@ fn tell<P, V, S>(
     text: &mut String,
 ) -> Result<()>
 where
-    S: Has<Position, P> + Has<Velocity, V> + Moves + Pulls,
+    S: Storages + Has<Position, P> + Has<Velocity, V> + Moves + Pulls,
 {
     match tale {
         Tale::ClusterBomb => explode(world, fuses, text),
