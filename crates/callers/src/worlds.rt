@@ -13,7 +13,7 @@ use specs::{
 use std::alloc::{AllocError, Global};
 
 /// Whatever a new world is asked to do, each component belongs to a living entity.
-pub fn lived<S: Empty + Drop>(
+pub fn lived<S: Empty + Storages + Drop>(
     alloc: Global,
     commands: Vec<Command<S>>,
 ) -> Result<World<S>, AllocError>

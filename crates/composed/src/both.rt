@@ -26,7 +26,7 @@ impl<A: Drop, B: Drop> Drop for Both<A, B> {
 }
 
 impl<A: Held, B: Held> Held for Both<A, B> {
-    ghost use Rattle.composed.specs.Both.{table_of_both, place_of_both, of_either};
+    ghost use Rattle.composed.specs.Both.{table_of_both, place_of_both, of_either, markers_of_both};
 
     type Slot = Either<A::Slot, B::Slot>;
 
@@ -36,20 +36,20 @@ impl<A: Held, B: Held> Held for Both<A, B> {
 
     ghost place = { place_of_both A.place B.place };
 
+    ghost marks = { markers_of_both A.marks B.marks };
+
     ghost ids = { λ s. of_either (A.ids s.first) (B.ids s.rest) };
 }
 
 impl<A: Storages, B: Storages> Storages for Both<A, B> {
     ghost use Rattle.std.specs.Prelude.{refl};
     ghost use Rattle.composed.specs.Exact.{exact_by};
-    ghost use Rattle.composed.specs.Both.{of_either, markers_of_both};
+    ghost use Rattle.composed.specs.Both.{of_either};
     ghost use Rattle.composed.specs.Places.{idless_of_both};
 
     ghost room = { λ s. of_either (A.room s.first) (B.room s.rest) };
 
     ghost allocates = { of_either A.allocates B.allocates };
-
-    ghost marks = { markers_of_both A.marks B.marks };
 
     ghost exact = { exact_by _ A.Slot.eq B.Slot.eq (λ x y. refl) (λ x y. refl) (λ x y. refl) (λ x y. refl) A.exact B.exact };
 

@@ -7,12 +7,12 @@ use crate::both::Both;
 use crate::marking::Marking;
 use crate::only::Only;
 use saveload::{SimpleMarker, SimpleMarkerAllocator};
-use specs::{Duplicate, Storages};
+use specs::Held;
 use std::alloc::Global;
-use storages::{Component, MaybeTracked};
+use storages::Component;
 
 /// A struct of storages that can be made empty.
-pub trait Empty: Storages + Sized {
+pub trait Empty: Held + Sized {
     /// No component type is registered, and no marker has been given an id. It takes no memory.
     fn empty(alloc: Global) -> Self
         ensures none { (slot : Self.Slot) → Self.table result slot ≡ None }
@@ -20,10 +20,7 @@ pub trait Empty: Storages + Sized {
         ensures ids { AllLeft Self.marks.holds (Self.ids result) };
 }
 
-impl<T: Component + Duplicate> Empty for Only<T>
-where
-    T::Storage: MaybeTracked<T>,
-{
+impl<T: Component + Drop> Empty for Only<T> {
     #[tactic(auto, using(crate::proofs::Parts::has_no_value))]
     fn empty(_alloc: Global) -> Self {
         Only::new()

@@ -44,6 +44,7 @@ impl<T> Marking<SimpleMarker<T>, SimpleMarkerAllocator<T>> {
 }
 
 impl<M: Marker, A: MarkerAllocator<M>> Held for Marking<M, A> {
+    ghost use Rattle.std.specs.Prelude.{true};
     ghost use Rattle.specs.specs.Field.{field_column};
     ghost use Rattle.composed.specs.declared.only.Sole.TheVariants.{Sole};
 
@@ -55,6 +56,8 @@ impl<M: Marker, A: MarkerAllocator<M>> Held for Marking<M, A> {
 
     ghost place = { λ _. Sole };
 
+    ghost marks = { record { holds = λ _. true; comes = λ _ left m. A.ComesNext left (M.id_of m) } };
+
     ghost ids = { λ s _. A.ids s.allocator };
 }
 
@@ -62,7 +65,7 @@ impl<M: Marker + Duplicate, A: MarkerAllocator<M>> Storages for Marking<M, A>
 where
     M::Storage: MaybeTracked<M>,
 {
-    ghost use Rattle.std.specs.Prelude.{refl, true};
+    ghost use Rattle.std.specs.Prelude.{refl};
     ghost use Rattle.std.proofs.Common.{true≢false};
     ghost use Rattle.composed.specs.Exact.{sole_is};
     ghost use Rattle.specs.specs.Field.{field_room};
@@ -70,8 +73,6 @@ where
     ghost room = { λ s _. field_room s.markers.field };
 
     ghost allocates = { λ _. M.allocates };
-
-    ghost marks = { record { holds = λ _. true; comes = λ _ left m. A.ComesNext left (M.id_of m) } };
 
     ghost exact = { λ a b. (λ _. sole_is a b, λ _. refl) };
 

@@ -40,6 +40,7 @@ impl<T: Component> Only<T> {
 impl<T: Component + Drop> Held for Only<T> {
     ghost use Rattle.std.specs.Prelude.{Some};
     ghost use Rattle.specs.specs.Field.{field_column};
+    ghost use Rattle.specs.specs.Marks.{no_markers};
     ghost use Rattle.composed.specs.declared.only.Sole.TheVariants.{Sole};
 
     type Slot = Sole;
@@ -49,6 +50,8 @@ impl<T: Component + Drop> Held for Only<T> {
     ghost table = { λ s _. field_column s.field };
 
     ghost place = { λ _. Sole };
+
+    ghost marks = { no_markers };
 
     ghost ids = { λ _ _. Some 0 };
 }
@@ -60,13 +63,10 @@ where
     ghost use Rattle.std.specs.Prelude.{refl};
     ghost use Rattle.composed.specs.Exact.{sole_is};
     ghost use Rattle.specs.specs.Field.{field_room};
-    ghost use Rattle.specs.specs.Marks.{no_markers};
 
     ghost room = { λ s _. field_room s.field };
 
     ghost allocates = { λ _. T.allocates };
-
-    ghost marks = { no_markers };
 
     ghost exact = { λ a b. (λ _. sole_is a b, λ _. refl) };
 

@@ -31,6 +31,9 @@ pub trait Held {
     /// The slot of a value.
     ghost place: { Self.Value → Self.Slot };
 
+    /// Whether the slot is of markers.
+    ghost marks: { Markers Self.Slot Self.Value };
+
     /// How many new ids a slot's markers can still get, and none where that can't be told.
     ghost ids: { Self → Self.Slot → Option ℕ };
 }
@@ -42,9 +45,6 @@ pub trait Storages: Held<Slot: Copy + Eq> {
 
     /// Whether a copy of a value of the slot may take memory.
     ghost allocates: { Self.Slot → Bool };
-
-    /// Whether the slot is of markers.
-    ghost marks: { Markers Self.Slot Self.Value };
 
     /// The slot of a value.
     fn slot_of(value: &Self::Value) -> Self::Slot
@@ -118,10 +118,10 @@ pub trait Storages: Held<Slot: Copy + Eq> {
         slot: Self::Slot,
         e: Entity,
     ) -> Result<Option<bool>, MarkError>
-        ensures ok { IfOk result (λ given. GivesMarker (marks.comes slot (Self.ids self.old slot)) (population entities.now) (Self.table self.old) slot e given (Self.table self.new)) }
+        ensures ok { IfOk result (λ given. GivesMarker (Self.marks.comes slot (Self.ids self.old slot)) (population entities.now) (Self.table self.old) slot e given (Self.table self.new)) }
         ensures ids { IfOk result (λ given. IdsAfter given (Self.ids self.old) slot (Self.ids self.new)) }
-        ensures marker { OnOk result (marks.holds slot ≡ true) }
-        ensures refused { IfErr result (MarkerIsRefused (marks.holds slot) (Self.ids self.old slot) (population entities.now) (Self.table self.old) slot e) }
+        ensures marker { OnOk result (Self.marks.holds slot ≡ true) }
+        ensures refused { IfErr result (MarkerIsRefused (Self.marks.holds slot) (Self.ids self.old slot) (population entities.now) (Self.table self.old) slot e) }
         ensures err { OnErr result (Self.table self.new ≡ Self.table self.old) }
         ensures err_ids { OnErr result (Self.ids self.new ≡ Self.ids self.old) };
 
@@ -172,5 +172,5 @@ pub trait Storages: Held<Slot: Copy + Eq> {
     ghost exact: { (a b : Self.Slot) → Decides (Self.Slot.eq a b) (a ≡ b) };
 
     /// A slot without markers has no id to give.
-    ghost idless: { (s : Self) (k : Self.Slot) → marks.holds k ≡ false → Self.ids s k ≡ Some 0 };
+    ghost idless: { (s : Self) (k : Self.Slot) → Self.marks.holds k ≡ false → Self.ids s k ≡ Some 0 };
 }

@@ -60,7 +60,7 @@ fn answer_by_slots<R: Read, O: Write + Drop>(
 }
 
 /// Answers the lines by a new world. It stands for whatever storages, since the end of a world is shorter to prove where they are not known.
-fn answer_by_new_world<R: Read, O: Write + Drop, S: Empty + Saves + Drop>(
+fn answer_by_new_world<R: Read, O: Write + Drop, S: Empty + Storages + Saves + Drop>(
     alloc: Global,
     reader: &mut BufReader<R>,
     writer: &mut BufWriter<O>,

@@ -21,6 +21,6 @@ has_one_that_comes {K} {V} Comes p old new slot e true g t =
 pub returns-in-Ok-Some : goal.returns-in-Ok-Some
 returns-in-Ok-Some g c =
     let same : c.in-Ok-Some.field-0 ≡ Some c.in-Ok-Some.given = search rules in
-    let Comes = g.S.Storages.marks.comes c.args.slot (g.S.Held.ids c.args.storages.now c.args.slot) in
+    let Comes = g.S.Held.marks.comes c.args.slot (g.S.Held.ids c.args.storages.now c.args.slot) in
     let gives = subst (λ o. GivesMarker Comes (population c.args.entities.now) (g.S.Held.table c.args.storages.now) c.args.slot c.args.e o (g.S.Held.table c.mark.new.self)) same c.in-Ok-Some.ensures.ok in
     has_one_that_comes Comes (population c.args.entities.now) (g.S.Held.table c.args.storages.now) (g.S.Held.table c.mark.new.self) c.args.slot c.args.e c.in-Ok-Some.given gives

@@ -29,7 +29,7 @@ loop-ran-preserved g c =
     let state = core_state g.S.Held.table g.S.Held.ids in
     let inv = c.loop-ran.invariant in
     let done = rw c.in-None.is at c.run_one-outcome.ensures.done in
-    let more = ran_one_more g.S.Held.place g.S.Storages.marks g.J.WorldJob.does c.loop-ran.ran c.loop-ran.refused c.run_one-outcome.result.refused (state c.args.core.now) (state c.loop-ran.core) (state c.run_one-outcome.new.core) (option_to_list c.args.first.now ++ queued c.args.queue.now) (option_to_list c.loop-ran.first ++ queued c.loop-ran.queue) (queued c.next.new.queue) done.0 c.in-Some.job inv.done c.in-Some.ensures.taken done.2 in
+    let more = ran_one_more g.S.Held.place g.S.Held.marks g.J.WorldJob.does c.loop-ran.ran c.loop-ran.refused c.run_one-outcome.result.refused (state c.args.core.now) (state c.loop-ran.core) (state c.run_one-outcome.new.core) (option_to_list c.args.first.now ++ queued c.args.queue.now) (option_to_list c.loop-ran.first ++ queued c.loop-ran.queue) (queued c.next.new.queue) done.0 c.in-Some.job inv.done c.in-Some.ensures.taken done.2 in
     record {
       within = omega arith;
       few = omega (arith, inv.few, c.from-refused.ensures);

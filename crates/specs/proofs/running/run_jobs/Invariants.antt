@@ -11,7 +11,7 @@ invariant-loop-ran g l =
     record {
       within : l.ran ≤ l.limit;
       few : l.refused ≤ l.ran * 18446744073709551615;
-      done : Ran g.S.Held.place g.S.Storages.marks g.J.WorldJob.does l.ran l.refused (state l.fn.core) (option_to_list l.fn.first ++ queued l.fn.queue) (state l.core) (option_to_list l.first ++ queued l.queue);
+      done : Ran g.S.Held.place g.S.Held.marks g.J.WorldJob.does l.ran l.refused (state l.fn.core) (option_to_list l.fn.first ++ queued l.fn.queue) (state l.core) (option_to_list l.first ++ queued l.queue);
     }
 
 abbrev pub decreases-loop-ran : goal.decreases-loop-ran
