@@ -100,7 +100,7 @@ fn populate_velocities<V: Pointed, J, S: Has<V, J>>(
     Ok(())
 }
 
-fn delete_each<S: Empty>(state: &mut State<S>) -> Result<()> {
+fn delete_each<S: Empty + Storages>(state: &mut State<S>) -> Result<()> {
     for entity in state.1.as_slice() {
         if state.0.delete_entity(*entity).is_err() {
             bail!("no entity was deleted");
@@ -109,14 +109,14 @@ fn delete_each<S: Empty>(state: &mut State<S>) -> Result<()> {
     Ok(())
 }
 
-fn delete_bulk<S: Empty>(state: &mut State<S>) -> Result<()> {
+fn delete_bulk<S: Empty + Storages>(state: &mut State<S>) -> Result<()> {
     if state.0.delete_entities(state.1.as_slice()).is_err() {
         bail!("no entity was deleted");
     }
     Ok(())
 }
 
-fn delete_marked<S: Empty>(state: &mut State<S>) -> Result<()> {
+fn delete_marked<S: Empty + Storages>(state: &mut State<S>) -> Result<()> {
     for entity in state.1.as_slice() {
         state.0.parts().core.parts().entities.delete(*entity)?;
     }
@@ -210,7 +210,7 @@ fn sum_of<P: Pointed, I, S: Has<P, I>>(world: &World<S>, count: u32) -> Result<u
     Ok(sum)
 }
 
-impl<P: Pointed, I, V: Pointed, J, S: Empty + Has<P, I> + Has<V, J> + Drop> Workload
+impl<P: Pointed, I, V: Pointed, J, S: Empty + Storages + Has<P, I> + Has<V, J> + Drop> Workload
     for InWorld<P, I, V, J, S> {
     type State = State<S>;
 
@@ -264,7 +264,7 @@ impl<P: Pointed, I, V: Pointed, J, S: Empty + Has<P, I> + Has<V, J> + Drop> Work
 }
 
 /// Reports on a task.
-fn tell<P: Pointed, I, V: Pointed, J, S: Empty + Has<P, I> + Has<V, J> + Drop>(
+fn tell<P: Pointed, I, V: Pointed, J, S: Empty + Storages + Has<P, I> + Has<V, J> + Drop>(
     rt: &(impl Clock + Print),
     alloc: Global,
     plan: &Plan,

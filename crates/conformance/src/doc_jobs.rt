@@ -111,18 +111,21 @@ pub enum Story {
     Asks,
 }
 
-fn ends_all_of_new<R: Abort, S: Empty + Drop>(rt: &R, alloc: Global) -> Result<(), Fail> {
+fn ends_all_of_new<R: Abort, S: Empty + Storages + Drop>(
+    rt: &R,
+    alloc: Global,
+) -> Result<(), Fail> {
     let mut world = fresh::<S, _>(alloc);
     ends_all(rt, &mut world)
 }
 
-fn asks_new<R: Abort, S: Empty + Drop>(rt: &R, alloc: Global) -> Result<(), Fail> {
+fn asks_new<R: Abort, S: Empty + Storages + Drop>(rt: &R, alloc: Global) -> Result<(), Fail> {
     let mut world = listing::<S, _>(alloc);
     asks(rt, &mut world)
 }
 
 /// Tells a story of a new world.
-pub fn tell_of_new<R: Abort, S: Empty + Drop>(
+pub fn tell_of_new<R: Abort, S: Empty + Storages + Drop>(
     rt: &R,
     alloc: Global,
     story: Story,

@@ -21,6 +21,8 @@ impl<S: Held> Held for Listed<S> {
 
     ghost place = { S.place };
 
+    ghost marks = { S.marks };
+
     ghost ids = { λ s. S.ids s.storages };
 }
 
@@ -28,8 +30,6 @@ impl<S: Storages> Storages for Listed<S> {
     ghost room = { λ s. S.room s.storages };
 
     ghost allocates = { S.allocates };
-
-    ghost marks = { S.marks };
 
     ghost exact = { S.exact };
 

@@ -91,7 +91,7 @@ pub enum Story {
 }
 
 /// Tells a story of a new world, whose list is empty.
-pub fn tell_of_new<R: Abort, S: Empty + Drop>(rt: &R, alloc: Global, story: Story) {
+pub fn tell_of_new<R: Abort, S: Empty + Storages + Drop>(rt: &R, alloc: Global, story: Story) {
     let mut world = listing::<S, Push>(alloc);
     match story {
         Story::InOrder => in_order(rt, &mut world),

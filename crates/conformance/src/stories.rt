@@ -4,7 +4,7 @@ use crate::{
 };
 use composed::{Empty, Of2};
 use slots::{Health, Position};
-use specs::Has;
+use specs::{Has, Storages};
 use std::alloc::Global;
 use std::process::Abort;
 use std::test::Fail;
@@ -33,7 +33,7 @@ pub enum Story {
 }
 
 /// Tells a story over whatever storages have positions and healths.
-fn tell_of_new<R: Abort, P, H, S: Empty + Has<Position, P> + Has<Health, H> + Drop>(
+fn tell_of_new<R: Abort, P, H, S: Empty + Storages + Has<Position, P> + Has<Health, H> + Drop>(
     rt: &R,
     alloc: Global,
     story: Story,

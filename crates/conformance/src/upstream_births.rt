@@ -103,7 +103,7 @@ fn bears_and_merges<R: Abort, S: Storages>(rt: &R, world: &mut World<S>, nursery
 }
 
 /// Tells of births and deaths, mixed with merges.
-pub fn merges<R: Abort, S: Empty + Drop>(rt: &R, alloc: Global) {
+pub fn merges<R: Abort, S: Empty + Storages + Drop>(rt: &R, alloc: Global) {
     let mut world = fresh::<S, _>(alloc);
     let mut nursery = empty_nursery(alloc);
     bears_and_merges(rt, &mut world, &mut nursery);
@@ -227,7 +227,7 @@ fn bears_in_vain<R: Abort, P, S: Storages + Has<Position, P>>(
 }
 
 /// Tells of births and deaths before a merge.
-pub fn are_stillborn<R: Abort, P, S: Empty + Has<Position, P> + Drop>(
+pub fn are_stillborn<R: Abort, P, S: Empty + Storages + Has<Position, P> + Drop>(
     rt: &R,
     alloc: Global,
 ) -> Result<(), Fail> {

@@ -318,7 +318,7 @@ fn tell<R: Abort, P, H, S: Storages + Has<Position, P> + Has<Health, H>>(
     }
 }
 
-fn put_in_new<R: Abort, P, S: Empty + Has<Position, P> + Drop>(
+fn put_in_new<R: Abort, P, S: Empty + Storages + Has<Position, P> + Drop>(
     rt: &R,
     alloc: Global,
 ) -> Result<(), Fail> {
@@ -326,7 +326,7 @@ fn put_in_new<R: Abort, P, S: Empty + Has<Position, P> + Drop>(
     puts(rt, &mut world)
 }
 
-fn put_nested_in_new<R: Abort, P, S: Empty + Has<Position, P> + Drop>(
+fn put_nested_in_new<R: Abort, P, S: Empty + Storages + Has<Position, P> + Drop>(
     rt: &R,
     alloc: Global,
 ) -> Result<(), Fail> {
@@ -335,7 +335,7 @@ fn put_nested_in_new<R: Abort, P, S: Empty + Has<Position, P> + Drop>(
 }
 
 /// Tells a story of a new world.
-pub fn tell_of_new<R: Abort, P, H, S: Empty + Has<Position, P> + Has<Health, H> + Drop>(
+pub fn tell_of_new<R: Abort, P, H, S: Empty + Storages + Has<Position, P> + Has<Health, H> + Drop>(
     rt: &R,
     alloc: Global,
     story: Story,

@@ -265,7 +265,7 @@ fn tell<R: Abort, P, H, S: Storages + Has<Position, P> + Has<Health, H>>(
 }
 
 /// Tells a story of a new world.
-pub fn tell_of_new<R: Abort, P, H, S: Empty + Has<Position, P> + Has<Health, H> + Drop>(
+pub fn tell_of_new<R: Abort, P, H, S: Empty + Storages + Has<Position, P> + Has<Health, H> + Drop>(
     rt: &R,
     alloc: Global,
     story: Story,

@@ -67,7 +67,7 @@ fn play<I, S: Storages + Has<Score, I>>(
 }
 
 /// What is told of a new world, whose storages are of a type that is not known here.
-fn told<I, S: Empty + Has<Score, I> + Drop>(alloc: Global) -> Result<String> {
+fn told<I, S: Empty + Storages + Has<Score, I> + Drop>(alloc: Global) -> Result<String> {
     let mut text = String::new(alloc);
     let mut world = World::new(alloc, S::empty(alloc));
     play(alloc, &mut world, &mut text)?;

@@ -37,7 +37,7 @@ where
 /// The text of a tale of a new world.
 fn told_of<P, V, S>(alloc: Global, tale: Tale) -> Result<String>
 where
-    S: Empty + Has<Position, P> + Has<Velocity, V> + Moves + Pulls + Drop,
+    S: Empty + Storages + Has<Position, P> + Has<Velocity, V> + Moves + Pulls + Drop,
 {
     let mut text = String::new(alloc);
     let mut world = World::new(alloc, S::empty(alloc));
