@@ -16,8 +16,7 @@ TOP = os.path.dirname(os.path.dirname(os.path.abspath(__file__)))
 sys.path.insert(0, os.path.join(TOP, "tools"))
 
 from contracts import is_empty, is_nothing
-from edits import Edit
-from refusals import Said, judge, stands_for, without
+from refusals import Said, stands_for, without
 
 PASSES = "#!/bin/sh\nexit 0\n"
 

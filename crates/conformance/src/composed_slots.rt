@@ -1,4 +1,5 @@
 //! Slots that compose: what is told of each change, and calls by type.
+use crate::asserts::{equal, holds};
 use crate::calls::{health, healths, positions};
 use crate::stories::{Story, told};
 use composed::Empty;
@@ -99,9 +100,9 @@ fn open<R: Abort, P, H, S: Has<Position, P> + Has<Health, H>>(
     alloc: Global,
     clinic: &mut Clinic<S>,
 ) -> Result<(Entity, Entity), Fail> {
-    assert!(rt; clinic.register(alloc, positions::<P, S>()));
-    assert!(rt; clinic.register(alloc, healths::<H, S>()));
-    assert!(rt; listen(clinic));
+    holds!(rt; clinic.register(alloc, positions::<P, S>()));
+    holds!(rt; clinic.register(alloc, healths::<H, S>()));
+    holds!(rt; listen(clinic));
     let e = clinic.bear().ok_or("a birth")?;
     let f = clinic.bear().ok_or("a birth")?;
     Ok((e, f))
@@ -113,18 +114,18 @@ fn tells_each_change<R: Abort, P, H, S: Has<Position, P> + Has<Health, H>>(
     clinic: &mut Clinic<S>,
 ) -> Result<(), Fail> {
     let (e, f) = open(rt, alloc, clinic)?;
-    assert!(rt; clinic.insert(e, health::<H, S>(7)));
-    assert!(rt; clinic.insert(e, health::<H, S>(8)));
-    assert!(rt; clinic.remove(healths::<H, S>(), e));
-    assert!(rt; clinic.remove(healths::<H, S>(), e));
-    assert!(rt; reads(clinic, &[Inserted(0), Modified(0), Removed(0)]));
-    assert!(rt; clinic.insert(e, health::<H, S>(1)));
-    assert!(rt; clinic.insert(f, health::<H, S>(2)));
-    assert!(rt; clinic.clear(healths::<H, S>()));
-    assert!(rt; reads(clinic, &[Inserted(0), Inserted(1), Removed(0), Removed(1)]));
-    assert!(rt; move_to(clinic, e, 3));
-    assert_eq!(rt; place(clinic, e), Some(Position(3)));
-    assert!(rt; reads(clinic, &[]));
+    holds!(rt; clinic.insert(e, health::<H, S>(7)));
+    holds!(rt; clinic.insert(e, health::<H, S>(8)));
+    holds!(rt; clinic.remove(healths::<H, S>(), e));
+    holds!(rt; clinic.remove(healths::<H, S>(), e));
+    holds!(rt; reads(clinic, &[Inserted(0), Modified(0), Removed(0)]));
+    holds!(rt; clinic.insert(e, health::<H, S>(1)));
+    holds!(rt; clinic.insert(f, health::<H, S>(2)));
+    holds!(rt; clinic.clear(healths::<H, S>()));
+    holds!(rt; reads(clinic, &[Inserted(0), Inserted(1), Removed(0), Removed(1)]));
+    holds!(rt; move_to(clinic, e, 3));
+    equal!(rt; place(clinic, e), Some(Position(3)));
+    holds!(rt; reads(clinic, &[]));
     Ok(())
 }
 

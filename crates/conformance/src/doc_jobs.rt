@@ -1,4 +1,5 @@
 //! Jobs of the doc examples of specs: one that deletes all, and one that asks whether an entity lives.
+use crate::asserts::{equal, holds};
 use crate::calls::{born, done, entity, execute, fresh, is_there, mark, raised};
 use crate::listed::Listed;
 use crate::own_jobs::{listing, lists};
@@ -79,15 +80,15 @@ impl<S: Storages> WorldJob<Listed<S>> for Ask {
 /// A merged entity and a pending one live until the job runs, and an index of theirs is born again then.
 fn ends_all<R: Abort, S: Storages>(rt: &R, world: &mut World<S, DeleteAll>) -> Result<(), Fail> {
     let (first, again) = (entity(0, 1)?, entity(1, 2)?);
-    assert_eq!(rt; born(world, Command::Create), Some(first));
+    equal!(rt; born(world, Command::Create), Some(first));
     let second = raised(world)?;
-    assert!(rt; execute(world, DeleteAll));
-    assert!(rt; is_there(world, first));
-    assert!(rt; is_there(world, second));
-    assert_eq!(rt; done(world, 9), Some((1, 0, 0)));
-    assert!(rt; !is_there(world, first));
-    assert!(rt; !is_there(world, second));
-    assert_eq!(rt; born(world, Command::Create), Some(again));
+    holds!(rt; execute(world, DeleteAll));
+    holds!(rt; is_there(world, first));
+    holds!(rt; is_there(world, second));
+    equal!(rt; done(world, 9), Some((1, 0, 0)));
+    holds!(rt; !is_there(world, first));
+    holds!(rt; !is_there(world, second));
+    equal!(rt; born(world, Command::Create), Some(again));
     Ok(())
 }
 
@@ -95,12 +96,12 @@ fn ends_all<R: Abort, S: Storages>(rt: &R, world: &mut World<S, DeleteAll>) -> R
 fn asks<R: Abort, S: Storages>(rt: &R, world: &mut World<Listed<S>, Ask>) -> Result<(), Fail> {
     let first = raised(world)?;
     let second = raised(world)?;
-    assert!(rt; execute(world, Ask { entity: first }));
-    assert!(rt; execute(world, Ask { entity: second }));
-    assert!(rt; mark(world, second));
-    assert!(rt; lists(world, &[]));
-    assert_eq!(rt; done(world, 9), Some((2, 0, 0)));
-    assert!(rt; lists(world, &[1, 0]));
+    holds!(rt; execute(world, Ask { entity: first }));
+    holds!(rt; execute(world, Ask { entity: second }));
+    holds!(rt; mark(world, second));
+    holds!(rt; lists(world, &[]));
+    equal!(rt; done(world, 9), Some((2, 0, 0)));
+    holds!(rt; lists(world, &[1, 0]));
     Ok(())
 }
 

@@ -1,4 +1,5 @@
 //! Jobs that a world does when it is maintained.
+use crate::asserts::{equal, holds};
 use crate::calls::{
     append_one, born, done, entity, execute, fresh, has, health, healths, insert_all_later,
     is_done, position, position_at, positions, queue, register_both, remove_later,
@@ -20,9 +21,9 @@ fn begin<R: Abort, P, H, S: Storages + Has<Position, P> + Has<Health, H>>(
     world: &mut Busy<S>,
 ) -> Result<(Entity, Entity), Fail> {
     let (first, second) = (entity(0, 1)?, entity(1, 1)?);
-    assert!(rt; register_both(world));
-    assert_eq!(rt; born(world, Command::Create), Some(first));
-    assert_eq!(rt; born(world, Command::Create), Some(second));
+    holds!(rt; register_both(world));
+    equal!(rt; born(world, Command::Create), Some(first));
+    equal!(rt; born(world, Command::Create), Some(second));
     Ok((first, second))
 }
 
@@ -36,10 +37,10 @@ fn waiting<S: Storages, J: WorldJob<S>>(world: &World<S, J>) -> usize {
 }
 
 fn repeats<R: Abort, S: Storages>(rt: &R, world: &mut Busy<S>) {
-    assert!(rt; execute(world, ScriptJob::Again));
-    assert_eq!(rt; done(world, 3), Some((3, 0, 1)));
-    assert_eq!(rt; waiting(world), 1);
-    assert_eq!(rt; done(world, 0), Some((0, 0, 1)));
+    holds!(rt; execute(world, ScriptJob::Again));
+    equal!(rt; done(world, 3), Some((3, 0, 1)));
+    equal!(rt; waiting(world), 1);
+    equal!(rt; done(world, 0), Some((0, 0, 1)));
 }
 
 /// The lists of two workers, of which the second has the last word.
@@ -49,11 +50,11 @@ fn appends<R: Abort, P, H, S: Storages + Has<Position, P> + Has<Health, H>>(
     world: &mut Busy<S>,
 ) -> Result<(), Fail> {
     let (e, _) = begin(rt, world)?;
-    assert!(rt; append_one(alloc, world, at(e, 1)));
-    assert!(rt; append_one(alloc, world, at(e, 2)));
-    assert_eq!(rt; position_at(world, e), None);
-    assert_eq!(rt; done(world, 9), Some((2, 0, 0)));
-    assert_eq!(rt; position_at(world, e), Some(2));
+    holds!(rt; append_one(alloc, world, at(e, 1)));
+    holds!(rt; append_one(alloc, world, at(e, 2)));
+    equal!(rt; position_at(world, e), None);
+    equal!(rt; done(world, 9), Some((2, 0, 0)));
+    equal!(rt; position_at(world, e), Some(2));
     Ok(())
 }
 
@@ -84,10 +85,10 @@ fn all_at_once<R: Abort, P, H, S: Storages + Has<Position, P> + Has<Health, H>>(
         (entity(9, 1)?, position::<P, S>(5)),
         (second, health::<H, S>(6)),
     )?;
-    assert!(rt; insert_all_later(world, pairs));
-    assert_eq!(rt; done(world, 1), Some((1, 1, 0)));
-    assert_eq!(rt; position_at(world, first), Some(4));
-    assert!(rt; has(world, healths::<H, S>(), second));
+    holds!(rt; insert_all_later(world, pairs));
+    equal!(rt; done(world, 1), Some((1, 1, 0)));
+    equal!(rt; position_at(world, first), Some(4));
+    holds!(rt; has(world, healths::<H, S>(), second));
     Ok(())
 }
 
@@ -96,13 +97,13 @@ fn takes_out<R: Abort, P, H, S: Storages + Has<Position, P> + Has<Health, H>>(
     world: &mut Busy<S>,
 ) -> Result<(), Fail> {
     let (first, second) = begin(rt, world)?;
-    assert!(rt; queue(world, at(first, 3)));
-    assert!(rt; remove_later(world, positions::<P, S>(), first));
-    assert!(rt; remove_later(world, positions::<P, S>(), second));
-    assert_eq!(rt; done(world, 1), Some((1, 0, 2)));
-    assert_eq!(rt; position_at(world, first), Some(3));
-    assert_eq!(rt; done(world, 9), Some((2, 0, 0)));
-    assert_eq!(rt; position_at(world, first), None);
+    holds!(rt; queue(world, at(first, 3)));
+    holds!(rt; remove_later(world, positions::<P, S>(), first));
+    holds!(rt; remove_later(world, positions::<P, S>(), second));
+    equal!(rt; done(world, 1), Some((1, 0, 2)));
+    equal!(rt; position_at(world, first), Some(3));
+    equal!(rt; done(world, 9), Some((2, 0, 0)));
+    equal!(rt; position_at(world, first), None);
     Ok(())
 }
 
@@ -112,8 +113,8 @@ fn marks_nobody<R: Abort, P, H, S: Storages + Has<Position, P> + Has<Health, H>>
 ) -> Result<(), Fail> {
     let (first, _) = begin(rt, world)?;
     let job = Job::Mark(healths::<H, S>(), first);
-    assert!(rt; is_done(world, Command::Queue(job)));
-    assert_eq!(rt; done(world, 9), Some((1, 1, 0)));
+    holds!(rt; is_done(world, Command::Queue(job)));
+    equal!(rt; done(world, 9), Some((1, 1, 0)));
     Ok(())
 }
 

@@ -1,4 +1,5 @@
 //! The order of a user's own jobs, as a list shows it that stands beside the components.
+use crate::asserts::{equal, holds};
 use crate::calls::{done, execute};
 use crate::listed::Listed;
 use crate::stories::{self, told};
@@ -56,8 +57,8 @@ pub fn listing<S: Empty, J: WorldJob<Listed<S>>>(alloc: Global) -> World<Listed<
 
 /// Queues a job that pushes 1, and then one that pushes 2.
 fn queue_both<R: Abort, S: Storages>(rt: &R, world: &mut Listing<S>) {
-    assert!(rt; execute(world, Push { number: 1 }));
-    assert!(rt; execute(world, Push { number: 2 }));
+    holds!(rt; execute(world, Push { number: 1 }));
+    holds!(rt; execute(world, Push { number: 2 }));
 }
 
 /// Whether the list is this one.
@@ -70,17 +71,17 @@ pub fn lists<S: Storages, J: WorldJob<Listed<S>>>(
 
 fn in_order<R: Abort, S: Storages>(rt: &R, world: &mut Listing<S>) {
     queue_both(rt, world);
-    assert!(rt; lists(world, &[]));
-    assert_eq!(rt; done(world, 9), Some((2, 0, 0)));
-    assert!(rt; lists(world, &[1, 2]));
+    holds!(rt; lists(world, &[]));
+    equal!(rt; done(world, 9), Some((2, 0, 0)));
+    holds!(rt; lists(world, &[1, 2]));
 }
 
 fn in_two_turns<R: Abort, S: Storages>(rt: &R, world: &mut Listing<S>) {
     queue_both(rt, world);
-    assert_eq!(rt; done(world, 1), Some((1, 0, 1)));
-    assert!(rt; lists(world, &[1]));
-    assert_eq!(rt; done(world, 1), Some((1, 0, 0)));
-    assert!(rt; lists(world, &[1, 2]));
+    equal!(rt; done(world, 1), Some((1, 0, 1)));
+    holds!(rt; lists(world, &[1]));
+    equal!(rt; done(world, 1), Some((1, 0, 0)));
+    holds!(rt; lists(world, &[1, 2]));
 }
 
 /// What is told of a world.

@@ -1,4 +1,5 @@
 //! Worlds by component types: registrations, views, builders.
+use crate::asserts::{equal, holds};
 use crate::calls::{delete, die, fresh, lives, register_both};
 use crate::stories::{self, told};
 use composed::Empty;
@@ -93,7 +94,7 @@ fn are_five<R: Abort, S: Storages>(
 ) -> Result<(), Fail> {
     let list = births(alloc, world, 5)?;
     assert_eq!(rt; list.len(), 5);
-    assert!(rt; are_the_first(world, list.as_slice()));
+    holds!(rt; are_the_first(world, list.as_slice()));
     Ok(())
 }
 
@@ -101,17 +102,17 @@ fn are_built_and_written<R: Abort, P, H, S: Storages + Has<Position, P> + Has<He
     rt: &R,
     world: &mut World<S>,
 ) -> Result<(), Fail> {
-    assert!(rt; register_both(world));
+    holds!(rt; register_both(world));
     let a = build(world, 1, 10)?;
     let b = build(world, 3, 30)?;
     let c = build(world, 5, 50)?;
     let empty = built_empty(world).ok_or("a birth")?;
-    assert_eq!(rt; position(world, b), Some(Position(3)));
-    assert_eq!(rt; health(world, a), Some(Health(10)));
-    assert_eq!(rt; health(world, c), Some(Health(50)));
-    assert_eq!(rt; position(world, empty), None);
-    assert!(rt; place(world, empty, 4));
-    assert_eq!(rt; position(world, empty), Some(Position(4)));
+    equal!(rt; position(world, b), Some(Position(3)));
+    equal!(rt; health(world, a), Some(Health(10)));
+    equal!(rt; health(world, c), Some(Health(50)));
+    equal!(rt; position(world, empty), None);
+    holds!(rt; place(world, empty, 4));
+    equal!(rt; position(world, empty), Some(Position(4)));
     Ok(())
 }
 
@@ -129,11 +130,11 @@ fn may_lack_a_component<R: Abort, P, H, S: Storages + Has<Position, P> + Has<Hea
     rt: &R,
     world: &mut World<S>,
 ) -> Result<(), Fail> {
-    assert!(rt; register_both(world));
+    holds!(rt; register_both(world));
     let e = built_in_part(world).ok_or("a building")?;
-    assert_eq!(rt; position(world, e), Some(Position(6)));
-    assert_eq!(rt; health(world, e), None);
-    assert!(rt; die(world, &[]));
+    equal!(rt; position(world, e), Some(Position(6)));
+    equal!(rt; health(world, e), None);
+    holds!(rt; die(world, &[]));
     Ok(())
 }
 
@@ -166,9 +167,9 @@ fn takes_storages<R: Abort, P, H, S: Storages + Has<Position, P> + Has<Health, H
     register_empty::<Health, _, S>(alloc, world)?;
     let e = build(world, 7, 70)?;
     register_empty::<Health, _, S>(alloc, world)?;
-    assert_eq!(rt; heal(world, e, 71), Some(Health(70)));
-    assert_eq!(rt; position(world, e), Some(Position(7)));
-    assert_eq!(rt; health(world, e), Some(Health(71)));
+    equal!(rt; heal(world, e, 71), Some(Health(70)));
+    equal!(rt; position(world, e), Some(Position(7)));
+    equal!(rt; health(world, e), Some(Health(71)));
     Ok(())
 }
 
@@ -182,9 +183,9 @@ fn dropped<S: Storages>(world: &mut World<S>) -> Option<Entity> {
 
 /// The next maintain lets this one die, and no other.
 fn dies_next<R: Abort, S: Storages>(rt: &R, world: &mut World<S>, e: Entity) {
-    assert!(rt; lives(world, e));
-    assert!(rt; die(world, &[e]));
-    assert!(rt; !lives(world, e));
+    holds!(rt; lives(world, e));
+    holds!(rt; die(world, &[e]));
+    holds!(rt; !lives(world, e));
 }
 
 fn marks_the_dropped<R: Abort, S: Storages>(rt: &R, world: &mut World<S>) -> Result<(), Fail> {
@@ -208,7 +209,7 @@ fn marks_the_refused<R: Abort, P, S: Storages + Has<Position, P>>(
     world: &mut World<S>,
 ) -> Result<(), Fail> {
     let (e, back) = refused(world).ok_or("a refusal")?;
-    assert_eq!(rt; back, Position(5));
+    equal!(rt; back, Position(5));
     dies_next(rt, world, e);
     Ok(())
 }
@@ -224,8 +225,8 @@ fn writes_none<P, S: Has<Position, P>>(world: &mut World<S>) -> bool {
 }
 
 fn has_no_positions<R: Abort, P, S: Has<Position, P>>(rt: &R, world: &mut World<S>) {
-    assert!(rt; reads_none(world));
-    assert!(rt; writes_none(world));
+    holds!(rt; reads_none(world));
+    holds!(rt; writes_none(world));
 }
 
 /// Takes the components of a list, and answers whether it was not refused.
@@ -237,20 +238,20 @@ fn lose_components<R: Abort, P, H, S: Storages + Has<Position, P> + Has<Health, 
     rt: &R,
     world: &mut World<S>,
 ) -> Result<(), Fail> {
-    assert!(rt; register_both(world));
+    holds!(rt; register_both(world));
     let a = build(world, 1, 10)?;
     let b = build(world, 2, 20)?;
     let dead = build(world, 3, 30)?;
-    assert!(rt; delete(world, dead));
+    holds!(rt; delete(world, dead));
     let reborn = build(world, 4, 40)?;
-    assert_eq!(rt; reborn.id(), dead.id());
-    assert!(rt; delete_components(world, &[dead, a]));
-    assert_eq!(rt; position(world, a), None);
-    assert_eq!(rt; health(world, a), None);
-    assert_eq!(rt; position(world, b), Some(Position(2)));
-    assert_eq!(rt; health(world, b), Some(Health(20)));
-    assert_eq!(rt; position(world, reborn), Some(Position(4)));
-    assert!(rt; lives(world, a));
+    equal!(rt; reborn.id(), dead.id());
+    holds!(rt; delete_components(world, &[dead, a]));
+    equal!(rt; position(world, a), None);
+    equal!(rt; health(world, a), None);
+    equal!(rt; position(world, b), Some(Position(2)));
+    equal!(rt; health(world, b), Some(Health(20)));
+    equal!(rt; position(world, reborn), Some(Position(4)));
+    holds!(rt; lives(world, a));
     Ok(())
 }
 

@@ -1,4 +1,5 @@
 //! Tests of specs on mixed births and deaths, by their names there.
+use crate::asserts::holds;
 use crate::calls::{
     born, delete, entity_at, fresh, is_done, maintained, mark, position, position_at, positions,
     put, selected,
@@ -58,13 +59,13 @@ fn bear_round<R: Abort, S: Storages>(
     count: u32,
 ) {
     for _ in 0..count {
-        assert!(rt; bear(world, nursery, Command::Create));
-        assert!(rt; bear_in_vain(world));
-        assert!(rt; bear(world, nursery, Command::CreatePending));
-        assert!(rt; bear(world, nursery, Command::CreatePending));
-        assert!(rt; bear(world, nursery, Command::Create));
+        holds!(rt; bear(world, nursery, Command::Create));
+        holds!(rt; bear_in_vain(world));
+        holds!(rt; bear(world, nursery, Command::CreatePending));
+        holds!(rt; bear(world, nursery, Command::CreatePending));
+        holds!(rt; bear(world, nursery, Command::Create));
     }
-    assert!(rt; maintained(world, 0).is_ok());
+    holds!(rt; maintained(world, 0).is_ok());
 }
 
 fn bear_rounds<R: Abort, S: Storages>(
@@ -81,7 +82,7 @@ fn bear_rounds<R: Abort, S: Storages>(
 /// Each dies at the next maintain.
 fn mark_all<R: Abort, S: Storages>(rt: &R, world: &mut World<S>, nursery: &mut Nursery) {
     for e in nursery.living.as_slice() {
-        assert!(rt; mark(world, *e));
+        holds!(rt; mark(world, *e));
     }
     nursery.living.clear();
 }
@@ -89,7 +90,7 @@ fn mark_all<R: Abort, S: Storages>(rt: &R, world: &mut World<S>, nursery: &mut N
 /// Each dies at once.
 fn delete_all<R: Abort, S: Storages>(rt: &R, world: &mut World<S>, nursery: &mut Nursery) {
     for e in nursery.living.as_slice() {
-        assert!(rt; delete(world, *e));
+        holds!(rt; delete(world, *e));
     }
     nursery.living.clear();
 }
@@ -138,7 +139,7 @@ fn bear_at<R: Abort, P, S: Storages + Has<Position, P>>(
     number: i64,
 ) -> Result<(), Fail> {
     let e = born(world, birth).ok_or("a birth")?;
-    assert!(rt; put(world, e, position::<P, S>(number)));
+    holds!(rt; put(world, e, position::<P, S>(number)));
     Ok(())
 }
 
@@ -179,7 +180,7 @@ fn mark_last<R: Abort, S: Storages>(
 ) {
     for _ in 0..count {
         if let Some(e) = list.pop() {
-            assert!(rt; mark(world, e));
+            holds!(rt; mark(world, e));
         }
     }
 }
@@ -215,7 +216,7 @@ fn bears_in_vain<R: Abort, P, S: Storages + Has<Position, P>>(
     world: &mut World<S>,
 ) -> Result<(), Fail> {
     let mut random = Random(0xdead_beef);
-    assert!(rt; is_done(world, Command::Register(positions::<P, S>())));
+    holds!(rt; is_done(world, Command::Register(positions::<P, S>())));
     bear_first(rt, world, &mut random)?;
     for _ in 0..100 {
         let count = random.next() % 25;

@@ -3,6 +3,7 @@ ghost use Rattle.std.specs.Prelude.{◌≡◌};
 ghost use Rattle.specs.specs.State.{core_state};
 ghost use Rattle.conformance.specs.Puts.{Given};
 
+use crate::asserts::{equal, holds};
 use crate::calls::{
     done, entity, entity_at, execute, fresh, has, health, healths, insert_all_later, insert_later,
     is_done, is_there, maintained, position, positions, put, raised, register_both, remove_later,
@@ -144,7 +145,7 @@ fn begin<R: Abort, P, H, S: Storages + Has<Position, P> + Has<Health, H>>(
     rt: &R,
     world: &mut Busy<S>,
 ) -> Result<(Entity, Entity), Fail> {
-    assert!(rt; register_both(world));
+    holds!(rt; register_both(world));
     let first = raised(world)?;
     let second = raised(world)?;
     Ok((first, second))
@@ -152,7 +153,7 @@ fn begin<R: Abort, P, H, S: Storages + Has<Position, P> + Has<Health, H>>(
 
 /// Maintains a world, whereby so many jobs run, none of which is refused or waits.
 fn runs<R: Abort, S: Storages>(rt: &R, world: &mut Busy<S>, jobs: u64) {
-    assert_eq!(rt; done(world, u64::MAX), Some((jobs, 0, 0)));
+    equal!(rt; done(world, u64::MAX), Some((jobs, 0, 0)));
 }
 
 /// Two values, each for its entity.
@@ -173,14 +174,14 @@ fn inserts<R: Abort, P, H, S: Storages + Has<Position, P> + Has<Health, H>>(
     world: &mut Busy<S>,
 ) -> Result<(), Fail> {
     let (e1, e2) = begin(rt, world)?;
-    assert!(rt; insert_later(world, e1, position::<P, S>(1)));
+    holds!(rt; insert_later(world, e1, position::<P, S>(1)));
     let pairs = two(alloc, (e1, health::<H, S>(2)), (e2, health::<H, S>(3)))?;
-    assert!(rt; insert_all_later(world, pairs));
-    assert!(rt; !has(world, positions::<P, S>(), e1));
+    holds!(rt; insert_all_later(world, pairs));
+    holds!(rt; !has(world, positions::<P, S>(), e1));
     runs(rt, world, 2);
-    assert!(rt; has(world, positions::<P, S>(), e1));
-    assert!(rt; has(world, healths::<H, S>(), e1));
-    assert!(rt; has(world, healths::<H, S>(), e2));
+    holds!(rt; has(world, positions::<P, S>(), e1));
+    holds!(rt; has(world, healths::<H, S>(), e1));
+    holds!(rt; has(world, healths::<H, S>(), e2));
     Ok(())
 }
 
@@ -189,11 +190,11 @@ fn removes<R: Abort, P, H, S: Storages + Has<Position, P> + Has<Health, H>>(
     world: &mut Busy<S>,
 ) -> Result<(), Fail> {
     let (e, _) = begin(rt, world)?;
-    assert!(rt; put(world, e, position::<P, S>(1)));
-    assert!(rt; remove_later(world, positions::<P, S>(), e));
-    assert!(rt; has(world, positions::<P, S>(), e));
+    holds!(rt; put(world, e, position::<P, S>(1)));
+    holds!(rt; remove_later(world, positions::<P, S>(), e));
+    holds!(rt; has(world, positions::<P, S>(), e));
     runs(rt, world, 1);
-    assert!(rt; !has(world, positions::<P, S>(), e));
+    holds!(rt; !has(world, positions::<P, S>(), e));
     Ok(())
 }
 
@@ -203,11 +204,11 @@ fn executes<R: Abort, P, H, S: Storages + Has<Position, P> + Has<Health, H>>(
     world: &mut Busy<S>,
 ) -> Result<(), Fail> {
     let (_, last) = begin(rt, world)?;
-    assert!(rt; execute(world, ScriptJob::Create));
+    holds!(rt; execute(world, ScriptJob::Create));
     let next = entity_at(world, last.id().wrapping_add(1));
-    assert!(rt; !is_there(world, next));
+    holds!(rt; !is_there(world, next));
     runs(rt, world, 1);
-    assert!(rt; is_there(world, next));
+    holds!(rt; is_there(world, next));
     Ok(())
 }
 
@@ -216,13 +217,13 @@ fn puts<R: Abort, P, S: Storages + Has<Position, P>>(
     rt: &R,
     world: &mut World<S, Put<S>>,
 ) -> Result<(), Fail> {
-    assert!(rt; is_done(world, Command::Register(positions::<P, S>())));
+    holds!(rt; is_done(world, Command::Register(positions::<P, S>())));
     let entity = raised(world)?;
     let value = position::<P, S>(1);
-    assert!(rt; execute(world, Put { entity, value }));
-    assert!(rt; !has(world, positions::<P, S>(), entity));
-    assert_eq!(rt; done(world, 9), Some((1, 0, 0)));
-    assert!(rt; has(world, positions::<P, S>(), entity));
+    holds!(rt; execute(world, Put { entity, value }));
+    holds!(rt; !has(world, positions::<P, S>(), entity));
+    equal!(rt; done(world, 9), Some((1, 0, 0)));
+    holds!(rt; has(world, positions::<P, S>(), entity));
     Ok(())
 }
 
@@ -231,11 +232,11 @@ fn puts_nested<R: Abort, P, S: Storages + Has<Position, P>>(
     rt: &R,
     world: &mut World<Listed<S>, Nested<S>>,
 ) -> Result<(), Fail> {
-    assert!(rt; is_done(world, Command::Register(positions::<P, S>())));
+    holds!(rt; is_done(world, Command::Register(positions::<P, S>())));
     let entity = raised(world)?;
     let turn = Turn::Outer;
     let value = position::<P, S>(1);
-    assert!(rt;
+    holds!(rt;
         execute(
             world,
             Nested {
@@ -245,9 +246,9 @@ fn puts_nested<R: Abort, P, S: Storages + Has<Position, P>>(
             }
         )
     );
-    assert_eq!(rt; done(world, 9), Some((2, 0, 0)));
-    assert!(rt; has(world, positions::<P, S>(), entity));
-    assert!(rt; lists(world, &[0]));
+    equal!(rt; done(world, 9), Some((2, 0, 0)));
+    holds!(rt; has(world, positions::<P, S>(), entity));
+    holds!(rt; lists(world, &[0]));
     Ok(())
 }
 
@@ -265,10 +266,10 @@ fn builds<R: Abort, P, H, S: Storages + Has<Position, P> + Has<Health, H>>(
 ) -> Result<(), Fail> {
     let _ = begin(rt, world)?;
     let e = built(world, position::<P, S>(1)).ok_or("a building")?;
-    assert!(rt; is_there(world, e));
-    assert!(rt; !has(world, positions::<P, S>(), e));
+    holds!(rt; is_there(world, e));
+    holds!(rt; !has(world, positions::<P, S>(), e));
     runs(rt, world, 1);
-    assert!(rt; has(world, positions::<P, S>(), e));
+    holds!(rt; has(world, positions::<P, S>(), e));
     Ok(())
 }
 
@@ -285,9 +286,9 @@ fn drops<R: Abort, P, H, S: Storages + Has<Position, P> + Has<Health, H>>(
 ) -> Result<(), Fail> {
     let _ = begin(rt, world)?;
     let e = unbuilt(world).ok_or("a birth")?;
-    assert!(rt; is_there(world, e));
+    holds!(rt; is_there(world, e));
     runs(rt, world, 0);
-    assert!(rt; !is_there(world, e));
+    holds!(rt; !is_there(world, e));
     Ok(())
 }
 

@@ -1,4 +1,5 @@
 //! Builders that give markers, in a world that has markers alone.
+use crate::asserts::{equal, holds};
 use crate::calls::{die, got, is_done, maintained};
 use composed::Sole;
 use saveload::{Marker, SimpleMarker};
@@ -46,20 +47,20 @@ fn are_marked_later<R: Abort, S: Storages<Value = SimpleMarker<Saved>>>(
     let late = built_lazily(world, slot).ok_or("a birth")?;
     let later = built_lazily(world, slot).ok_or("a birth")?;
     let (first, refusal) = built(world, slot).ok_or("a birth")?;
-    assert_eq!(rt; refusal, None);
+    equal!(rt; refusal, None);
     let (second, refusal) = built(world, slot).ok_or("a birth")?;
-    assert_eq!(rt; refusal, None);
-    assert_eq!(rt; id_of(world, slot, first), Some(0));
-    assert_eq!(rt; id_of(world, slot, second), Some(1));
-    assert_eq!(rt; id_of(world, slot, late), None);
-    assert_eq!(rt; id_of(world, slot, later), None);
+    equal!(rt; refusal, None);
+    equal!(rt; id_of(world, slot, first), Some(0));
+    equal!(rt; id_of(world, slot, second), Some(1));
+    equal!(rt; id_of(world, slot, late), None);
+    equal!(rt; id_of(world, slot, later), None);
     let told = maintained(world, 100)?;
-    assert_eq!(rt; (told.ran, told.refused, told.left), (2, 0, 0));
-    assert!(rt; told.deleted.is_empty());
-    assert_eq!(rt; id_of(world, slot, first), Some(0));
-    assert_eq!(rt; id_of(world, slot, second), Some(1));
-    assert_eq!(rt; id_of(world, slot, late), Some(2));
-    assert_eq!(rt; id_of(world, slot, later), Some(3));
+    equal!(rt; (told.ran, told.refused, told.left), (2, 0, 0));
+    holds!(rt; told.deleted.is_empty());
+    equal!(rt; id_of(world, slot, first), Some(0));
+    equal!(rt; id_of(world, slot, second), Some(1));
+    equal!(rt; id_of(world, slot, late), Some(2));
+    equal!(rt; id_of(world, slot, later), Some(3));
     Ok(())
 }
 
@@ -70,9 +71,9 @@ fn are_marked<R: Abort, S: Storages<Value = SimpleMarker<Saved>>>(
     slot: S::Slot,
 ) -> Result<(), Fail> {
     let (early, refusal) = built(world, slot).ok_or("a birth")?;
-    assert_eq!(rt; refusal, Some(MarkError::Unregistered));
-    assert!(rt; die(world, &[early]));
-    assert!(rt; is_done(world, Command::Register(slot)));
+    equal!(rt; refusal, Some(MarkError::Unregistered));
+    holds!(rt; die(world, &[early]));
+    holds!(rt; is_done(world, Command::Register(slot)));
     are_marked_later(rt, world, slot)
 }
 

@@ -1,4 +1,5 @@
 //! Worlds, by their calls.
+use crate::asserts::{equal, holds};
 use crate::callers::{born_in_a_phase, is_gone};
 use crate::calls::{
     born, delete, die, does, entity, fresh, health, healths, is_there, lives, mark, position,
@@ -14,10 +15,10 @@ use std::test::Fail;
 
 fn bears_again<R: Abort, S: Storages>(rt: &R, world: &mut World<S>) -> Result<(), Fail> {
     let (first, second) = (entity(0, 1)?, entity(0, 2)?);
-    assert_eq!(rt; born(world, Command::Create), Some(first));
-    assert!(rt; delete(world, first));
-    assert!(rt; !lives(world, first));
-    assert_eq!(rt; born(world, Command::Create), Some(second));
+    equal!(rt; born(world, Command::Create), Some(first));
+    holds!(rt; delete(world, first));
+    holds!(rt; !lives(world, first));
+    equal!(rt; born(world, Command::Create), Some(second));
     Ok(())
 }
 
@@ -38,12 +39,12 @@ fn six<P, H, S: Has<Position, P> + Has<Health, H>>(
 
 fn are_the_six<R: Abort, V>(rt: &R, replies: &[Reply<V>]) {
     assert_eq!(rt; replies.len(), 6);
-    assert!(rt; matches!(&replies[0], Reply::Done));
-    assert!(rt; matches!(&replies[1], Reply::Entity(_)));
-    assert!(rt; matches!(&replies[2], Reply::Value(None)));
-    assert!(rt; matches!(&replies[3], Reply::Indices(list) if list.as_slice() == [0].as_slice()));
-    assert!(rt; matches!(&replies[4], Reply::Count(1)));
-    assert!(rt; matches!(&replies[5], Reply::Refused(Refusal::Unregistered)));
+    holds!(rt; matches!(&replies[0], Reply::Done));
+    holds!(rt; matches!(&replies[1], Reply::Entity(_)));
+    holds!(rt; matches!(&replies[2], Reply::Value(None)));
+    holds!(rt; matches!(&replies[3], Reply::Indices(list) if list.as_slice() == [0].as_slice()));
+    holds!(rt; matches!(&replies[4], Reply::Count(1)));
+    holds!(rt; matches!(&replies[5], Reply::Refused(Refusal::Unregistered)));
 }
 
 fn answers_six<R: Abort, P, H, S: Storages + Has<Position, P> + Has<Health, H>>(
@@ -62,7 +63,7 @@ fn answers_nothing<R: Abort, S: Storages>(
     world: &mut World<S>,
 ) -> Result<(), Fail> {
     let replies = run(world, Vec::new(alloc))?;
-    assert!(rt; replies.is_empty());
+    holds!(rt; replies.is_empty());
     Ok(())
 }
 
@@ -88,7 +89,7 @@ fn is_unregistered<S: Storages>(world: &World<S>, set: &SetExpr<S::Slot>) -> boo
 }
 
 fn refuses_positions<R: Abort, P, S: Storages + Has<Position, P>>(rt: &R, world: &World<S>) {
-    assert!(rt; is_unregistered(world, &SetExpr::Slot(positions::<P, S>())));
+    holds!(rt; is_unregistered(world, &SetExpr::Slot(positions::<P, S>())));
 }
 
 fn living_and_slots<R: Abort, P, H, S: Storages + Has<Position, P> + Has<Health, H>>(
@@ -96,8 +97,8 @@ fn living_and_slots<R: Abort, P, H, S: Storages + Has<Position, P> + Has<Health,
     world: &mut World<S>,
 ) -> Result<(), Fail> {
     populate(world)?;
-    assert!(rt; selects(world, &SetExpr::Living, &[0, 1, 2]));
-    assert!(rt; selects(world, &SetExpr::Slot(positions::<P, S>()), &[0]));
+    holds!(rt; selects(world, &SetExpr::Living, &[0, 1, 2]));
+    holds!(rt; selects(world, &SetExpr::Slot(positions::<P, S>()), &[0]));
     Ok(())
 }
 
@@ -149,23 +150,11 @@ fn selects_each<R: Abort, P, H, S: Storages + Has<Position, P> + Has<Health, H>>
 ) -> Result<(), Fail> {
     populate(world)?;
     let (one, other) = (positions::<P, S>(), healths::<H, S>());
-    assert!(rt;
-        selects(world, &conjunction(alloc, one, other)?, &[0]),
-        "and"
-    );
-    assert!(rt;
-        selects(world, &disjunction(alloc, one, other)?, &[0, 1]),
-        "or"
-    );
-    assert!(rt; selects(world, &exclusive(alloc, one, other)?, &[1]), "xor");
-    assert!(rt;
-        selects(world, &complement(alloc, one, other)?, &[1]),
-        "not"
-    );
-    assert!(rt;
-        selects(world, &living_without_position(alloc, one)?, &[1, 2]),
-        "living"
-    );
+    holds!(rt; selects(world, &conjunction(alloc, one, other)?, &[0]));
+    holds!(rt; selects(world, &disjunction(alloc, one, other)?, &[0, 1]));
+    holds!(rt; selects(world, &exclusive(alloc, one, other)?, &[1]));
+    holds!(rt; selects(world, &complement(alloc, one, other)?, &[1]));
+    holds!(rt; selects(world, &living_without_position(alloc, one)?, &[1, 2]));
     Ok(())
 }
 
@@ -187,26 +176,26 @@ fn refuses_the_first_stale<R: Abort, S: Storages>(
     world: &mut World<S>,
 ) -> Result<(), Fail> {
     let (e, f) = (entity(0, 1)?, entity(1, 1)?);
-    assert_eq!(rt; born(world, Command::Create), Some(e));
-    assert_eq!(rt; born(world, Command::Create), Some(f));
-    assert_eq!(rt; refused_for(world, &[e, f, e]), Some((e, 1)));
-    assert!(rt; lives(world, e));
-    assert!(rt; lives(world, f));
-    assert!(rt; delete_list(world, &[]));
+    equal!(rt; born(world, Command::Create), Some(e));
+    equal!(rt; born(world, Command::Create), Some(f));
+    equal!(rt; refused_for(world, &[e, f, e]), Some((e, 1)));
+    holds!(rt; lives(world, e));
+    holds!(rt; lives(world, f));
+    holds!(rt; delete_list(world, &[]));
     Ok(())
 }
 
 fn ends_at_maintain<R: Abort, S: Storages>(rt: &R, world: &mut World<S>) -> Result<(), Fail> {
     let e = raised(world)?;
-    assert!(rt; is_there(world, e));
-    assert!(rt; !lives(world, e));
-    assert!(rt; mark(world, e));
-    assert!(rt; die(world, &[e]));
-    assert!(rt; !is_there(world, e));
+    holds!(rt; is_there(world, e));
+    holds!(rt; !lives(world, e));
+    holds!(rt; mark(world, e));
+    holds!(rt; die(world, &[e]));
+    holds!(rt; !is_there(world, e));
     let again = raised(world)?;
-    assert_eq!(rt; again, entity(0, 2)?);
-    assert!(rt; die(world, &[]));
-    assert!(rt; lives(world, again));
+    equal!(rt; again, entity(0, 2)?);
+    holds!(rt; die(world, &[]));
+    holds!(rt; lives(world, again));
     Ok(())
 }
 
@@ -217,14 +206,14 @@ fn takes_up_a_phase<R: Abort, P, H, S: Storages + Has<Position, P> + Has<Health,
 ) -> Result<(), Fail> {
     populate(world)?;
     let (doomed, given) = (entity(1, 1)?, entity(3, 1)?);
-    assert_eq!(rt; born_in_a_phase(alloc, world, doomed), Some(given));
-    assert!(rt; is_there(world, given));
-    assert!(rt; is_gone(world, given));
-    assert!(rt; lives(world, doomed));
-    assert!(rt; die(world, &[doomed]));
-    assert!(rt; lives(world, given));
-    assert!(rt; !lives(world, doomed));
-    assert!(rt; selects(world, &SetExpr::Slot(healths::<H, S>()), &[0]));
+    equal!(rt; born_in_a_phase(alloc, world, doomed), Some(given));
+    holds!(rt; is_there(world, given));
+    holds!(rt; is_gone(world, given));
+    holds!(rt; lives(world, doomed));
+    holds!(rt; die(world, &[doomed]));
+    holds!(rt; lives(world, given));
+    holds!(rt; !lives(world, doomed));
+    holds!(rt; selects(world, &SetExpr::Slot(healths::<H, S>()), &[0]));
     Ok(())
 }
 

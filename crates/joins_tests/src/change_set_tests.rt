@@ -1,4 +1,5 @@
 //! Change sets.
+use crate::asserts::{equal, holds};
 use crate::stories::{Story, told};
 use crate::worlds::first_at;
 use crate::yard::Yard;
@@ -39,16 +40,16 @@ fn listed(alloc: Global, changes: &[(Entity, i32)]) -> Result<Vec<(Entity, i32)>
 
 // Healths of 100, 200 and 300, at the indices 0 to 2.
 fn fill<R: Abort, Y: Yard>(rt: &R, yard: &mut Y) {
-    assert!(rt; yard.put_first(0, (100, 0)));
-    assert!(rt; yard.put_first(1, (200, 0)));
-    assert!(rt; yard.put_first(2, (300, 0)));
+    holds!(rt; yard.put_first(0, (100, 0)));
+    holds!(rt; yard.put_first(1, (200, 0)));
+    holds!(rt; yard.put_first(2, (300, 0)));
 }
 
 // The healths that are left at the three indices.
 fn are_left<R: Abort, Y: Yard>(rt: &R, yard: &Y) {
-    assert_eq!(rt; yard.first(0), Some((68, 0)));
-    assert_eq!(rt; yard.first(1), Some((175, 0)));
-    assert_eq!(rt; yard.first(2), Some((300, 0)));
+    equal!(rt; yard.first(0), Some((68, 0)));
+    equal!(rt; yard.first(1), Some((175, 0)));
+    equal!(rt; yard.first(2), Some((300, 0)));
 }
 
 // The change set of a list.
@@ -69,7 +70,7 @@ pub fn subtracts<R: Abort, Y: Yard>(rt: &R, alloc: Global, yard: &mut Y) -> Resu
     fill(rt, yard);
     yard.subtract(&set);
     are_left(rt, yard);
-    assert_eq!(rt; count(&set), 2);
+    equal!(rt; count(&set), 2);
     Ok(())
 }
 
@@ -94,11 +95,11 @@ fn a_change_set_that_is_given_up_gives_its_changes(rt: HostRuntime) -> Result<()
 /// The changes by a cursor: of two the second is more than the health beside it.
 pub fn are_bounded<R: Abort, Y: Yard>(rt: &R, alloc: Global, yard: &mut Y) -> Result<(), Fail> {
     let mut set = three_changes(alloc)?;
-    assert!(rt; yard.put_first(0, (100, 0)));
-    assert!(rt; yard.put_first(1, (20, 0)));
+    holds!(rt; yard.put_first(0, (100, 0)));
+    holds!(rt; yard.put_first(1, (20, 0)));
     yard.bound(&mut set);
-    assert_eq!(rt; at(&set, 0), Some(32));
-    assert_eq!(rt; at(&set, 1), Some(20));
+    equal!(rt; at(&set, 0), Some(32));
+    equal!(rt; at(&set, 1), Some(20));
     Ok(())
 }
 
@@ -110,9 +111,9 @@ fn a_cursor_lends_the_changes(rt: HostRuntime) -> Result<(), Fail> {
 // A sum that does not fit is refused, and changes nothing.
 fn refuses_a_sum<R: Abort>(rt: &R, set: &mut ChangeSet<i32>) -> Result<(), Fail> {
     let e = first_at(7)?;
-    assert!(rt; adds(set, e, 2147483647));
-    assert!(rt; matches!(refuses(set, e, 1), Some(ChangeError::Refused)));
-    assert_eq!(rt; at(set, 7), Some(2147483647));
+    holds!(rt; adds(set, e, 2147483647));
+    holds!(rt; matches!(refuses(set, e, 1), Some(ChangeError::Refused)));
+    equal!(rt; at(set, 7), Some(2147483647));
     Ok(())
 }
 
@@ -120,9 +121,9 @@ fn refuses_a_sum<R: Abort>(rt: &R, set: &mut ChangeSet<i32>) -> Result<(), Fail>
 fn stops<R: Abort>(rt: &R, alloc: Global, set: &mut ChangeSet<i32>) -> Result<(), Fail> {
     let (a, b) = (first_at(0)?, first_at(1)?);
     let list = listed(alloc, &[(a, 2147483647), (b, 5), (a, 1), (b, 6)])?;
-    assert!(rt; matches!(set.extend(list), Err(ChangeError::Refused)));
-    assert_eq!(rt; at(set, 0), Some(2147483647));
-    assert_eq!(rt; at(set, 1), Some(5));
+    holds!(rt; matches!(set.extend(list), Err(ChangeError::Refused)));
+    equal!(rt; at(set, 0), Some(2147483647));
+    equal!(rt; at(set, 1), Some(5));
     Ok(())
 }
 
@@ -130,13 +131,13 @@ fn stops<R: Abort>(rt: &R, alloc: Global, set: &mut ChangeSet<i32>) -> Result<()
 fn looks_at_indices<R: Abort>(rt: &R, set: &mut ChangeSet<i32>) -> Result<(), Fail> {
     let (old, far) = (first_at(3)?, first_at(16777216)?);
     let new = Entity::from_parts(3, 2).ok_or("no entity")?;
-    assert!(rt; adds(set, old, 1));
-    assert!(rt; adds(set, new, 2));
-    assert_eq!(rt; at(set, 3), Some(3));
-    assert!(rt; matches!(refuses(set, far, 1), Some(ChangeError::IndexLimit)));
+    holds!(rt; adds(set, old, 1));
+    holds!(rt; adds(set, new, 2));
+    equal!(rt; at(set, 3), Some(3));
+    holds!(rt; matches!(refuses(set, far, 1), Some(ChangeError::IndexLimit)));
     set.clear();
-    assert_eq!(rt; at(set, 3), None);
-    assert_eq!(rt; count(set), 0);
+    equal!(rt; at(set, 3), None);
+    equal!(rt; count(set), 0);
     Ok(())
 }
 

@@ -1,4 +1,5 @@
 //! Cursors, and what they write.
+use crate::asserts::{equal, holds};
 use crate::stories::{Story, TrackedStory, told, told_of_defaults, told_of_tracked};
 use crate::worlds::first_at;
 use crate::yard::{Joined, Told, Viewed, Yard};
@@ -13,23 +14,23 @@ use storages::ComponentEvent::{Inserted, Modified, Removed};
 // Puts a number at each index of the first storage.
 fn put_first<R: Abort, Y: Yard>(rt: &R, yard: &mut Y, ids: &[u32], number: i32) {
     for id in ids {
-        assert!(rt; yard.put_first(*id, (number, 0)));
+        holds!(rt; yard.put_first(*id, (number, 0)));
     }
 }
 
 // The same of the second.
 fn put_second<R: Abort, Y: Yard>(rt: &R, yard: &mut Y, ids: &[u32], number: i32) {
     for id in ids {
-        assert!(rt; yard.put_second(*id, (number, 0)));
+        holds!(rt; yard.put_second(*id, (number, 0)));
     }
 }
 
 // The first storage has these numbers at the indices from 0 on.
 fn are_first<R: Abort, Y: Yard>(rt: &R, yard: &Y, numbers: [Option<i32>; 4]) {
-    assert_eq!(rt; first_number(yard, 0), numbers[0]);
-    assert_eq!(rt; first_number(yard, 1), numbers[1]);
-    assert_eq!(rt; first_number(yard, 2), numbers[2]);
-    assert_eq!(rt; first_number(yard, 3), numbers[3]);
+    equal!(rt; first_number(yard, 0), numbers[0]);
+    equal!(rt; first_number(yard, 1), numbers[1]);
+    equal!(rt; first_number(yard, 2), numbers[2]);
+    equal!(rt; first_number(yard, 3), numbers[3]);
 }
 
 // The number of an index in the first storage.
@@ -50,16 +51,16 @@ fn second_number<Y: Yard>(yard: &Y, id: u32) -> Option<i32> {
 
 /// Two positions of which one has a velocity go on.
 pub fn goes_on<R: Abort, Y: Yard>(rt: &R, yard: &mut Y) {
-    assert!(rt; yard.put_first(0, (0, 0)));
-    assert!(rt; yard.put_first(1, (0, 0)));
-    assert!(rt; yard.put_second(0, (5, 2)));
+    holds!(rt; yard.put_first(0, (0, 0)));
+    holds!(rt; yard.put_first(1, (0, 0)));
+    holds!(rt; yard.put_second(0, (5, 2)));
     yard.go_on();
-    assert_eq!(rt; yard.first(0), Some((5, 2)));
-    assert_eq!(rt; yard.first(1), Some((0, 0)));
-    assert_eq!(rt; yard.first(2), None);
+    equal!(rt; yard.first(0), Some((5, 2)));
+    equal!(rt; yard.first(1), Some((0, 0)));
+    equal!(rt; yard.first(2), None);
     yard.go_on();
-    assert_eq!(rt; yard.first(0), Some((10, 4)));
-    assert_eq!(rt; yard.second(0), Some((5, 2)));
+    equal!(rt; yard.first(0), Some((10, 4)));
+    equal!(rt; yard.second(0), Some((5, 2)));
 }
 
 #[test]
@@ -70,8 +71,8 @@ fn positions_go_on_where_there_is_a_velocity(rt: HostRuntime) -> Result<(), Fail
 /// Ten components, of which none stands beside its absence.
 pub fn is_never_absent<R: Abort, Y: Yard>(rt: &R, yard: &mut Y) {
     put_first(rt, yard, &[0, 1, 2, 3, 4, 5, 6, 7, 8, 9], 0);
-    assert_eq!(rt; yard.count_first(), 10);
-    assert_eq!(rt; yard.count_beside_absence(), 0);
+    equal!(rt; yard.count_first(), 10);
+    equal!(rt; yard.count_beside_absence(), 0);
 }
 
 #[test]
@@ -88,11 +89,11 @@ fn default_vec_test_anti(rt: HostRuntime) -> Result<(), Fail> {
 pub fn one_is_taken<R: Abort, Y: Yard>(rt: &R, alloc: Global, yard: &mut Y) -> Result<(), Fail> {
     put_first(rt, yard, &[1, 2, 4], 7);
     let (list, once) = yard.drain_at(alloc, 2)?;
-    assert!(rt; once);
-    assert_eq!(rt; list.as_slice(), [1, 2, 4].as_slice());
-    assert_eq!(rt; first_number(yard, 1), Some(7));
-    assert_eq!(rt; first_number(yard, 2), None);
-    assert_eq!(rt; first_number(yard, 4), Some(7));
+    holds!(rt; once);
+    holds!(rt; list.as_slice() == [1, 2, 4].as_slice());
+    equal!(rt; first_number(yard, 1), Some(7));
+    equal!(rt; first_number(yard, 2), None);
+    equal!(rt; first_number(yard, 4), Some(7));
     Ok(())
 }
 
@@ -106,8 +107,8 @@ pub fn all_are_taken<R: Abort, Y: Yard>(rt: &R, alloc: Global, yard: &mut Y) -> 
     put_first(rt, yard, &[1, 2, 4], 7);
     let list = yard.drain(alloc)?;
     let wanted = [first_at(1)?, first_at(2)?, first_at(4)?];
-    assert_eq!(rt; list.as_slice(), wanted.as_slice());
-    assert_eq!(rt; yard.count_first(), 0);
+    holds!(rt; list.as_slice() == wanted.as_slice());
+    equal!(rt; yard.count_first(), 0);
     Ok(())
 }
 
@@ -119,12 +120,12 @@ fn basic_drain(rt: HostRuntime) -> Result<(), Fail> {
 /// Of four entities the last dies; all but the first are chosen, and the second has a number. The numbers of the chosen are counted up to 10, and
 /// from 0 again.
 pub fn chosen_are_counted<R: Abort, Y: Yard>(rt: &R, yard: &mut Y) -> Result<(), Fail> {
-    assert!(rt; yard.kill(first_at(3)?));
+    holds!(rt; yard.kill(first_at(3)?));
     put_first(rt, yard, &[1], 8);
     put_second(rt, yard, &[1, 2, 3], 0);
-    assert!(rt; yard.increase(10));
+    holds!(rt; yard.increase(10));
     are_first(rt, yard, [None, Some(9), Some(1), None]);
-    assert!(rt; yard.increase(10));
+    holds!(rt; yard.increase(10));
     are_first(rt, yard, [None, Some(0), Some(2), None]);
     Ok(())
 }
@@ -138,7 +139,7 @@ fn entries_are_those_of_the_living(rt: HostRuntime) -> Result<(), Fail> {
 fn number_each<R: Abort, Y: Yard>(rt: &R, yard: &mut Y, count: u32) {
     let mut number = 0;
     for id in 0..count {
-        assert!(rt; yard.put_first(id, (number, 0)));
+        holds!(rt; yard.put_first(id, (number, 0)));
         number = number.wrapping_add(1);
     }
 }
@@ -146,7 +147,7 @@ fn number_each<R: Abort, Y: Yard>(rt: &R, yard: &mut Y, count: u32) {
 /// The sum of the numbers of 30 entities, of which the first 15 have their indices, and the others get 2.
 pub fn numbers_are_summed<R: Abort, Y: Yard>(rt: &R, yard: &mut Y) -> Result<(), Fail> {
     number_each(rt, yard, 15);
-    assert_eq!(rt; yard.sum(2)?, 135);
+    equal!(rt; yard.sum(2)?, 135);
     Ok(())
 }
 
@@ -165,10 +166,10 @@ pub fn are_shown_and_lent<R: Abort, Y: Yard>(
     let list = yard.shown_and_lent(alloc)?.ok_or("another")?;
     let mut wanted = 0;
     for number in list.as_slice() {
-        assert_eq!(rt; *number, wanted);
+        equal!(rt; *number, wanted);
         wanted = wanted.wrapping_add(1);
     }
-    assert_eq!(rt; wanted, 50);
+    equal!(rt; wanted, 50);
     Ok(())
 }
 
@@ -186,9 +187,9 @@ pub fn others_are_shown<R: Abort, Y: Yard>(
     put_first(rt, yard, &[0], 10);
     put_first(rt, yard, &[3], 13);
     let some = yard.beside_one(alloc, first_at(3)?)?;
-    assert_eq!(rt; some.as_slice(), [(10, 13), (13, 13)].as_slice());
+    holds!(rt; some.as_slice() == [(10, 13), (13, 13)].as_slice());
     let none = yard.beside_one(alloc, first_at(1)?)?;
-    assert_eq!(rt; none.as_slice(), [(10, -1), (13, -1)].as_slice());
+    holds!(rt; none.as_slice() == [(10, -1), (13, -1)].as_slice());
     Ok(())
 }
 
@@ -201,13 +202,13 @@ fn a_restricted_storage_shows_others(rt: HostRuntime) -> Result<(), Fail> {
 pub fn are_exchanged<R: Abort, Y: Yard>(rt: &R, yard: &mut Y) {
     put_first(rt, yard, &[0, 1, 2], 1);
     put_second(rt, yard, &[0, 2], 3);
-    assert!(rt; yard.choose(1));
-    assert!(rt; yard.choose(2));
+    holds!(rt; yard.choose(1));
+    holds!(rt; yard.choose(2));
     yard.exchange();
     are_first(rt, yard, [Some(1), Some(1), Some(3), None]);
-    assert_eq!(rt; second_number(yard, 0), Some(3));
-    assert_eq!(rt; second_number(yard, 1), None);
-    assert_eq!(rt; second_number(yard, 2), Some(1));
+    equal!(rt; second_number(yard, 0), Some(3));
+    equal!(rt; second_number(yard, 1), None);
+    equal!(rt; second_number(yard, 2), Some(1));
 }
 
 #[test]
@@ -232,17 +233,17 @@ pub trait Cursor {
 
 /// A cursor before its first index, at it, and past its last.
 pub fn stands_nowhere<R: Abort, K: Cursor>(rt: &R, cursor: &mut K) {
-    assert!(rt; cursor.lacks());
-    assert!(rt; !cursor.is_beside());
-    assert_eq!(rt; cursor.step(), Some(1));
-    assert!(rt; cursor.is_beside());
-    assert!(rt; !cursor.is_beside());
-    assert!(rt; cursor.lends());
-    assert!(rt; cursor.lends());
-    assert_eq!(rt; cursor.step(), None);
-    assert!(rt; cursor.lacks());
-    assert!(rt; !cursor.is_beside());
-    assert_eq!(rt; cursor.step(), None);
+    holds!(rt; cursor.lacks());
+    holds!(rt; !cursor.is_beside());
+    equal!(rt; cursor.step(), Some(1));
+    holds!(rt; cursor.is_beside());
+    holds!(rt; !cursor.is_beside());
+    holds!(rt; cursor.lends());
+    holds!(rt; cursor.lends());
+    equal!(rt; cursor.step(), None);
+    holds!(rt; cursor.lacks());
+    holds!(rt; !cursor.is_beside());
+    equal!(rt; cursor.step(), None);
 }
 
 /// A cursor over two, of which both have the second alone.
@@ -275,9 +276,9 @@ fn put_three<R: Abort, Y: Yard>(rt: &R, yard: &mut Y) {
 /// The low ones of three numbers are raised, and told.
 pub fn low_ones_are_told<R: Abort, Y: Told>(rt: &R, yard: &mut Y) {
     put_three(rt, yard);
-    assert!(rt; yard.listen());
+    holds!(rt; yard.listen());
     yard.raise_low(5);
-    assert!(rt; reads(yard, &[Modified(0), Modified(2)]));
+    holds!(rt; reads(yard, &[Modified(0), Modified(2)]));
     are_first(rt, yard, [Some(2), Some(6), Some(3), None]);
 }
 
@@ -290,11 +291,11 @@ fn a_restricted_storage_tells_what_was_written(rt: HostRuntime) -> Result<(), Fa
 pub fn all_are_told<R: Abort, Y: Told>(rt: &R, yard: &mut Y) {
     put_first(rt, yard, &[1], 6);
     put_second(rt, yard, &[0, 1], 0);
-    assert!(rt; yard.listen());
-    assert!(rt; yard.increase(10));
-    assert!(rt; reads(yard, &[Inserted(0), Modified(0), Modified(1)]));
-    assert_eq!(rt; yard.take_next(), (Some(0), Some(1), Some(7)));
-    assert!(rt; reads(yard, &[Removed(1)]));
+    holds!(rt; yard.listen());
+    holds!(rt; yard.increase(10));
+    holds!(rt; reads(yard, &[Inserted(0), Modified(0), Modified(1)]));
+    equal!(rt; yard.take_next(), (Some(0), Some(1), Some(7)));
+    holds!(rt; reads(yard, &[Removed(1)]));
 }
 
 #[test]
@@ -316,12 +317,12 @@ fn modified(alloc: Global, events: &[ComponentEvent]) -> Result<BitSet, SetError
 /// What was told of is joined with the storage.
 pub fn told_are_joined<R: Abort, Y: Told>(rt: &R, alloc: Global, yard: &mut Y) -> Result<(), Fail> {
     put_three(rt, yard);
-    assert!(rt; yard.listen());
+    holds!(rt; yard.listen());
     yard.raise_low(5);
     let events = yard.events().ok_or("no reader")?;
     let set = modified(alloc, events.as_slice())?;
-    assert_eq!(rt; set.count(), 2);
-    assert_eq!(rt; yard.sum_at(&set), 5);
+    equal!(rt; set.count(), 2);
+    equal!(rt; yard.sum_at(&set), 5);
     Ok(())
 }
 
@@ -335,12 +336,12 @@ pub fn by_a_view<R: Abort, Y: Viewed>(rt: &R, yard: &mut Y) -> Result<(), Fail> 
     let one = first_at(1)?;
     put_first(rt, yard, &[0, 1], 1);
     put_second(rt, yard, &[1], 3);
-    assert_eq!(rt; yard.write(9), Some(1));
-    assert_eq!(rt; yard.take(), (Some(0), Some(1)));
-    assert_eq!(rt; yard.place(), Some(0));
-    assert_eq!(rt; yard.look(one), (Some(1), true, true));
-    assert_eq!(rt; yard.show(), Some(9));
-    assert_eq!(rt; yard.at(one), Some(9));
+    equal!(rt; yard.write(9), Some(1));
+    equal!(rt; yard.take(), (Some(0), Some(1)));
+    equal!(rt; yard.place(), Some(0));
+    equal!(rt; yard.look(one), (Some(1), true, true));
+    equal!(rt; yard.show(), Some(9));
+    equal!(rt; yard.at(one), Some(9));
     Ok(())
 }
 

@@ -1,4 +1,5 @@
 //! What a join gives at an entity, wherever its walk is.
+use crate::asserts::{equal, holds};
 use crate::stories::{Story, told};
 use crate::yard::Joined;
 use entities::Entity;
@@ -15,24 +16,24 @@ fn born<R: Abort, Y: Joined>(
 ) -> Result<Entity, Fail> {
     let entity = yard.bear()?;
     let id = entity.id();
-    assert!(rt; yard.put_first(id, (first, 0)));
-    assert!(rt; yard.put_second(id, (second, 0)));
+    holds!(rt; yard.put_first(id, (first, 0)));
+    holds!(rt; yard.put_second(id, (second, 0)));
     Ok(entity)
 }
 
 /// Just the entity of the later birth has what is at an index of which two were born.
 pub fn given_by_generation<R: Abort, Y: Joined>(rt: &R, yard: &mut Y) -> Result<(), Fail> {
     let entity = born(rt, yard, 1, 1)?;
-    assert_eq!(rt; yard.living(), Some(entity));
-    assert_eq!(rt; yard.both_at(entity), Some((1, 1)));
-    assert!(rt; yard.take_second(entity.id()));
-    assert_eq!(rt; yard.both_at(entity), None);
-    assert!(rt; yard.kill(entity));
+    equal!(rt; yard.living(), Some(entity));
+    equal!(rt; yard.both_at(entity), Some((1, 1)));
+    holds!(rt; yard.take_second(entity.id()));
+    equal!(rt; yard.both_at(entity), None);
+    holds!(rt; yard.kill(entity));
     let next = born(rt, yard, 2, 0)?;
-    assert_eq!(rt; next.id(), entity.id());
-    assert_eq!(rt; yard.both_at(entity), None);
-    assert_eq!(rt; yard.both_at(next), Some((2, 0)));
-    assert_eq!(rt; yard.both_in(entity.id()), Some((2, 0)));
+    equal!(rt; next.id(), entity.id());
+    equal!(rt; yard.both_at(entity), None);
+    equal!(rt; yard.both_at(next), Some((2, 0)));
+    equal!(rt; yard.both_in(entity.id()), Some((2, 0)));
     Ok(())
 }
 
@@ -45,8 +46,8 @@ fn getting_specific_entity_with_join(rt: HostRuntime) -> Result<(), Fail> {
 pub fn looked_midway<R: Abort, Y: Joined>(rt: &R, yard: &mut Y) -> Result<(), Fail> {
     let first = born(rt, yard, 1, 1)?;
     let _second = born(rt, yard, 2, 1)?;
-    assert_eq!(rt; yard.midway(first), Some((1, 1, 2)));
-    assert_eq!(rt; yard.both_next(), Some((2, 2)));
+    equal!(rt; yard.midway(first), Some((1, 1, 2)));
+    equal!(rt; yard.both_next(), Some((2, 2)));
     Ok(())
 }
 
@@ -62,7 +63,7 @@ pub fn paired<R: Abort, Y: Joined>(rt: &R, alloc: Global, yard: &mut Y) -> Resul
     }
     let pairs = yard.pairs(alloc)?;
     let wanted = [(1, 2), (1, 3), (1, 4), (2, 3), (2, 4), (3, 4)];
-    assert_eq!(rt; pairs.as_slice(), wanted.as_slice());
+    holds!(rt; pairs.as_slice() == wanted.as_slice());
     Ok(())
 }
 
@@ -76,13 +77,13 @@ pub fn two_have_both<R: Abort, Y: Joined>(rt: &R, yard: &mut Y) -> Result<(), Fa
     let _first = born(rt, yard, 1, 0)?;
     let _second = born(rt, yard, 2, 1)?;
     let third = born(rt, yard, 3, 1)?;
-    assert!(rt; yard.take_second(third.id()));
-    assert_eq!(rt; yard.two(), Some(((1, 0), (2, 1))));
-    assert_eq!(rt; yard.both_in(0), Some((1, 0)));
-    assert_eq!(rt; yard.both_in(1), Some((2, 1)));
-    assert_eq!(rt; yard.both_in(2), None);
-    assert_eq!(rt; yard.both_in(16_777_216), None);
-    assert_eq!(rt; yard.reads(), 8);
+    holds!(rt; yard.take_second(third.id()));
+    equal!(rt; yard.two(), Some(((1, 0), (2, 1))));
+    equal!(rt; yard.both_in(0), Some((1, 0)));
+    equal!(rt; yard.both_in(1), Some((2, 1)));
+    equal!(rt; yard.both_in(2), None);
+    equal!(rt; yard.both_in(16_777_216), None);
+    equal!(rt; yard.reads(), 8);
     Ok(())
 }
 
@@ -93,12 +94,12 @@ fn join_two_components(rt: HostRuntime) -> Result<(), Fail> {
 
 /// A storage without components gives nothing, nor one of two that has one alone; the entity stands beside its components.
 pub fn joined_from_none_to_one<R: Abort, Y: Joined>(rt: &R, yard: &mut Y) -> Result<(), Fail> {
-    assert_eq!(rt; yard.three(), None);
+    equal!(rt; yard.three(), None);
     let first = born(rt, yard, 1, 1)?;
-    assert!(rt; yard.take_second(first.id()));
-    assert_eq!(rt; yard.three(), None);
+    holds!(rt; yard.take_second(first.id()));
+    equal!(rt; yard.three(), None);
     let second = born(rt, yard, 2, 0)?;
-    assert_eq!(rt; yard.three(), Some((second, 2, 0, true)));
+    equal!(rt; yard.three(), Some((second, 2, 0, true)));
     Ok(())
 }
 
@@ -112,7 +113,7 @@ pub fn beside_its_absence<R: Abort, Y: Joined>(rt: &R, yard: &mut Y) -> Result<(
     for _ in 0..10u32 {
         let _entity = born(rt, yard, 1, 1)?;
     }
-    assert!(rt; yard.is_beside_no_absence());
+    holds!(rt; yard.is_beside_no_absence());
     Ok(())
 }
 

@@ -2,6 +2,8 @@
 #![tactic(auto)]
 
 #[cfg(test)]
+mod asserts;
+#[cfg(test)]
 mod change_set_tests;
 #[cfg(test)]
 mod cursor_tests;

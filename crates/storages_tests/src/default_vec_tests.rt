@@ -1,4 +1,5 @@
 //! The vector with default values.
+use crate::asserts::{equal, holds};
 use crate::kinds::{fill, put_all};
 use crate::numbers::{InDefaultVec, Number};
 use crate::shelf::{Placed, Sliced};
@@ -28,27 +29,27 @@ fn lie_at_places<R: Abort, S: Sliced>(
     assert_eq!(rt; list.len(), 1000);
     fill(rt, shelf, list, 2718);
     let numbers = indices(alloc, list, 2718)?;
-    assert!(rt; shelf.shows_slice(numbers.as_slice()));
+    holds!(rt; shelf.shows_slice(numbers.as_slice()));
     Ok(())
 }
 
 // The places that no component uses have the default value.
 fn unused_are_zero<R: Abort, S: Placed>(rt: &R, shelf: &mut S) {
     put_all(rt, shelf, &[(1, 1), (3, 3)]);
-    assert!(rt; shelf.has_slice(&[0, 1, 0, 3]));
-    assert_eq!(rt; shelf.take_out(3), Some(3));
-    assert!(rt; shelf.has_slice(&[0, 1, 0, 0]));
-    assert!(rt; shelf.clear_all());
-    assert!(rt; shelf.has_slice(&[]));
+    holds!(rt; shelf.has_slice(&[0, 1, 0, 3]));
+    equal!(rt; shelf.take_out(3), Some(3));
+    holds!(rt; shelf.has_slice(&[0, 1, 0, 0]));
+    holds!(rt; shelf.clear_all());
+    holds!(rt; shelf.has_slice(&[]));
 }
 
 // What is written to the slice is found at the indices, and nowhere else.
 fn five_more_at_each_place<R: Abort, S: Placed>(rt: &R, shelf: &mut S) {
     put_all(rt, shelf, &[(1, 1), (3, 3)]);
     shelf.add_to_slice(5);
-    assert!(rt; shelf.has_slice(&[5, 6, 5, 8]));
-    assert_eq!(rt; shelf.number_in(3), Some(8));
-    assert_eq!(rt; shelf.number_in(2), None);
+    holds!(rt; shelf.has_slice(&[5, 6, 5, 8]));
+    equal!(rt; shelf.number_in(3), Some(8));
+    equal!(rt; shelf.number_in(2), None);
 }
 
 // The places of a thousand entities, or else those without a component, and what is written to the slice after `clear`.

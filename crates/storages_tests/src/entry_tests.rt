@@ -1,4 +1,5 @@
 //! Entries of single indices.
+use crate::asserts::{equal, holds};
 use crate::shelf::Entries;
 use crate::stories::{Story, in_btree, in_vec};
 use entities::Entity;
@@ -9,37 +10,37 @@ use std::test::Fail;
 // Basic use, and closures, which are called only where there is none; each is occupied then.
 fn basic_use<R: Abort, S: Entries>(rt: &R, shelf: &mut S, list: &[Entity], calls: &Cell<u32>) {
     assert_eq!(rt; list.len(), 8);
-    assert_eq!(rt; shelf.or_insert(list[0], 5), Some(5));
-    assert_eq!(rt; shelf.or_insert(list[1], 5), Some(10));
-    assert_eq!(rt; shelf.or_insert_with(list[2], 5, calls), Some(5));
-    assert_eq!(rt; calls.get(), 1);
-    assert_eq!(rt; shelf.or_insert_with(list[3], 5, calls), Some(10));
-    assert_eq!(rt; calls.get(), 1);
-    assert_eq!(rt; shelf.occupied(list[0]), Some(5));
-    assert_eq!(rt; shelf.occupied(list[1]), Some(10));
-    assert_eq!(rt; shelf.occupied(list[2]), Some(5));
-    assert_eq!(rt; shelf.occupied(list[3]), Some(10));
+    equal!(rt; shelf.or_insert(list[0], 5), Some(5));
+    equal!(rt; shelf.or_insert(list[1], 5), Some(10));
+    equal!(rt; shelf.or_insert_with(list[2], 5, calls), Some(5));
+    equal!(rt; calls.get(), 1);
+    equal!(rt; shelf.or_insert_with(list[3], 5, calls), Some(10));
+    equal!(rt; calls.get(), 1);
+    equal!(rt; shelf.occupied(list[0]), Some(5));
+    equal!(rt; shelf.occupied(list[1]), Some(10));
+    equal!(rt; shelf.occupied(list[2]), Some(5));
+    equal!(rt; shelf.occupied(list[3]), Some(10));
 }
 
 // Occupied and vacant change places, and what is replaced is answered.
 fn swapped_and_replaced<R: Abort, S: Entries>(rt: &R, shelf: &mut S, list: &[Entity]) {
     assert_eq!(rt; list.len(), 8);
-    assert!(rt; shelf.toggle(list[4]));
-    assert!(rt; shelf.toggle(list[5]));
-    assert_eq!(rt; shelf.at(list[4]), Some(15));
-    assert_eq!(rt; shelf.at(list[5]), None);
-    assert_eq!(rt; shelf.replace(list[6], 1337), Some(None));
-    assert_eq!(rt; shelf.replace(list[7], 11), Some(Some(10)));
-    assert_eq!(rt; shelf.replace(list[6], 9001), Some(Some(1337)));
-    assert_eq!(rt; shelf.at(list[6]), Some(9001));
-    assert_eq!(rt; shelf.at(list[7]), Some(11));
+    holds!(rt; shelf.toggle(list[4]));
+    holds!(rt; shelf.toggle(list[5]));
+    equal!(rt; shelf.at(list[4]), Some(15));
+    equal!(rt; shelf.at(list[5]), None);
+    equal!(rt; shelf.replace(list[6], 1337), Some(None));
+    equal!(rt; shelf.replace(list[7], 11), Some(Some(10)));
+    equal!(rt; shelf.replace(list[6], 9001), Some(Some(1337)));
+    equal!(rt; shelf.at(list[6]), Some(9001));
+    equal!(rt; shelf.at(list[7]), Some(11));
 }
 
 // Every second entity has ten from the start.
 fn put_tens<R: Abort, S: Entries>(rt: &R, shelf: &mut S, list: &[Entity]) {
     for e in list {
         if e.id() % 2 == 1 {
-            assert_eq!(rt; shelf.put(*e, 10), Some(None));
+            equal!(rt; shelf.put(*e, 10), Some(None));
         }
     }
 }
@@ -59,11 +60,11 @@ fn storage_entry(rt: HostRuntime) -> Result<(), Fail> {
 
 /// The entry of an index that has a component: read, replaced, lent, lent for good, and taken out.
 pub fn occupied_entry<R: Abort, S: Entries>(rt: &R, shelf: &mut S) {
-    assert!(rt; shelf.put_in(3, 10));
-    assert_eq!(rt; shelf.write_entry(3, 15), Some((10, 16)));
-    assert!(rt; shelf.lend_entry(3));
-    assert_eq!(rt; shelf.take_entry(3), Some(17));
-    assert!(rt; !shelf.contains(3));
+    holds!(rt; shelf.put_in(3, 10));
+    equal!(rt; shelf.write_entry(3, 15), Some((10, 16)));
+    holds!(rt; shelf.lend_entry(3));
+    equal!(rt; shelf.take_entry(3), Some(17));
+    holds!(rt; !shelf.contains(3));
 }
 
 #[test]

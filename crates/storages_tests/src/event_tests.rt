@@ -1,4 +1,5 @@
 //! Events of storages that tell of each change.
+use crate::asserts::{equal, holds};
 use crate::kinds::fill;
 use crate::numbers::{InFlagged, Number};
 use crate::shelf::{Sorted, Told};
@@ -28,21 +29,21 @@ fn flagged_storage_meets_all(rt: HostRuntime) -> Result<(), Fail> {
 
 // One reads at once, the other later.
 fn both_are_told<R: Abort, S: Told>(rt: &R, shelf: &mut S, e: Entity) {
-    assert_eq!(rt; shelf.listen(), Some(0));
-    assert_eq!(rt; shelf.listen(), Some(1));
-    assert_eq!(rt; shelf.put(e, 7), Some(None));
-    assert!(rt; reads(shelf, 0, &[Inserted(4)]));
-    assert_eq!(rt; shelf.take(e), Some(7));
-    assert!(rt; reads(shelf, 0, &[Removed(4)]));
-    assert!(rt; reads(shelf, 1, &[Inserted(4), Removed(4)]));
+    equal!(rt; shelf.listen(), Some(0));
+    equal!(rt; shelf.listen(), Some(1));
+    equal!(rt; shelf.put(e, 7), Some(None));
+    holds!(rt; reads(shelf, 0, &[Inserted(4)]));
+    equal!(rt; shelf.take(e), Some(7));
+    holds!(rt; reads(shelf, 0, &[Removed(4)]));
+    holds!(rt; reads(shelf, 1, &[Inserted(4), Removed(4)]));
 }
 
 // A reader that ended reads nothing and does not end again, and its number is not given out anew.
 fn first_is_gone<R: Abort, S: Told>(rt: &R, shelf: &mut S) {
-    assert!(rt; shelf.end(0));
-    assert_eq!(rt; shelf.listen(), Some(2));
-    assert!(rt; shelf.events(0).is_none());
-    assert!(rt; !shelf.end(0));
+    holds!(rt; shelf.end(0));
+    equal!(rt; shelf.listen(), Some(2));
+    holds!(rt; shelf.events(0).is_none());
+    holds!(rt; !shelf.end(0));
 }
 
 // Two readers, of which the first ends.
@@ -55,12 +56,12 @@ fn two_readers<R: Abort, S: Told>(rt: &R, shelf: &mut S, list: &[Entity]) {
 // Components are inserted, replaced, taken out and cleared.
 fn change<R: Abort, S: Told>(rt: &R, shelf: &mut S, list: &[Entity]) {
     assert_eq!(rt; list.len(), 4);
-    assert_eq!(rt; shelf.put(list[0], 1), Some(None));
-    assert_eq!(rt; shelf.put(list[0], 2), Some(Some(1)));
-    assert!(rt; shelf.put_by_entry(list[1], 3));
-    assert!(rt; shelf.put_by_entry(list[3], 4));
-    assert_eq!(rt; shelf.take(list[0]), Some(2));
-    assert!(rt; shelf.clear());
+    equal!(rt; shelf.put(list[0], 1), Some(None));
+    equal!(rt; shelf.put(list[0], 2), Some(Some(1)));
+    holds!(rt; shelf.put_by_entry(list[1], 3));
+    holds!(rt; shelf.put_by_entry(list[3], 4));
+    equal!(rt; shelf.take(list[0]), Some(2));
+    holds!(rt; shelf.clear());
 }
 
 // The events of these changes, in their order.
@@ -79,33 +80,33 @@ const CHANGES: [ComponentEvent; 9] = [
 // The changes are read once, and a change while emission is off is not.
 fn changes_are_told<R: Abort, S: Told>(rt: &R, shelf: &mut S, list: &[Entity]) {
     assert_eq!(rt; list.len(), 4);
-    assert_eq!(rt; shelf.listen(), Some(0));
+    equal!(rt; shelf.listen(), Some(0));
     change(rt, shelf, list);
-    assert!(rt; reads(shelf, 0, CHANGES.as_slice()));
-    assert!(rt; reads(shelf, 0, &[]));
+    holds!(rt; reads(shelf, 0, CHANGES.as_slice()));
+    holds!(rt; reads(shelf, 0, &[]));
     shelf.emit(false);
-    assert_eq!(rt; shelf.put(list[0], 1), Some(None));
-    assert!(rt; reads(shelf, 0, &[]));
+    equal!(rt; shelf.put(list[0], 1), Some(None));
+    holds!(rt; reads(shelf, 0, &[]));
 }
 
 // What happened before the first reader was there is told to nobody.
 fn nothing_is_kept<R: Abort, S: Told>(rt: &R, shelf: &mut S, list: &[Entity]) {
     assert_eq!(rt; list.len(), 2);
-    assert!(rt; shelf.emits());
-    assert_eq!(rt; shelf.put(list[0], 1), Some(None));
-    assert_eq!(rt; shelf.listen(), Some(0));
-    assert!(rt; reads(shelf, 0, &[]));
-    assert!(rt; shelf.add(list[0], 1));
-    assert!(rt; reads(shelf, 0, &[Modified(0)]));
+    holds!(rt; shelf.emits());
+    equal!(rt; shelf.put(list[0], 1), Some(None));
+    equal!(rt; shelf.listen(), Some(0));
+    holds!(rt; reads(shelf, 0, &[]));
+    holds!(rt; shelf.add(list[0], 1));
+    holds!(rt; reads(shelf, 0, &[Modified(0)]));
 }
 
 // Emission is off, and an event is written by hand.
 fn told_by_hand<R: Abort, S: Told>(rt: &R, shelf: &mut S) {
-    assert_eq!(rt; shelf.listen(), Some(0));
+    equal!(rt; shelf.listen(), Some(0));
     shelf.emit(false);
-    assert!(rt; !shelf.emits());
-    assert!(rt; shelf.flag(Modified(9)));
-    assert!(rt; reads(shelf, 0, &[Modified(9)]));
+    holds!(rt; !shelf.emits());
+    holds!(rt; shelf.flag(Modified(9)));
+    holds!(rt; reads(shelf, 0, &[Modified(9)]));
 }
 
 // No index of any kind of event.
@@ -140,9 +141,9 @@ fn sorted<S: Told>(alloc: Global, shelf: &mut S) -> Result<Sorted, Fail> {
 // A set has the indices of all, and no other.
 fn has_all<R: Abort>(rt: &R, set: &BitSet, list: &[Entity]) {
     for e in list {
-        assert!(rt; set.contains(e.id()));
+        holds!(rt; set.contains(e.id()));
     }
-    assert_eq!(rt; set.count(), list.len());
+    equal!(rt; set.count(), list.len());
 }
 
 // All were inserted, and then all were modified, and then all were removed.
@@ -153,7 +154,7 @@ fn rounds_are_told<R: Abort, S: Told>(
     list: &[Entity],
 ) -> Result<(), Fail> {
     assert_eq!(rt; list.len(), 15);
-    assert_eq!(rt; shelf.listen(), Some(0));
+    equal!(rt; shelf.listen(), Some(0));
     fill(rt, shelf, list, 1);
     are_inserted(rt, &sorted(alloc, shelf)?, list);
     add_to_each(rt, shelf, list);
@@ -184,14 +185,14 @@ fn are_removed<R: Abort>(rt: &R, sorted: &Sorted, list: &[Entity]) {
 // One more for each.
 fn add_to_each<R: Abort, S: Told>(rt: &R, shelf: &mut S, list: &[Entity]) {
     for e in list {
-        assert!(rt; shelf.add(*e, 1));
+        holds!(rt; shelf.add(*e, 1));
     }
 }
 
 // Each loses its number.
 fn take_each<R: Abort, S: Told>(rt: &R, shelf: &mut S, list: &[Entity]) {
     for e in list {
-        assert!(rt; shelf.take(*e).is_some());
+        holds!(rt; shelf.take(*e).is_some());
     }
 }
 
@@ -293,9 +294,9 @@ fn ends(channel: &mut EventChannel<u32>, number: u64) -> bool {
 // What the reader of a channel reads; it ends once.
 fn reads_and_ends<R: Abort>(rt: &R, channel: &mut EventChannel<u32>) -> Result<(), Fail> {
     let id = numbers(channel)?;
-    assert!(rt; reads_numbers(channel, &id, &[5, 6]));
-    assert!(rt; ends(channel, 0));
-    assert!(rt; !ends(channel, 1));
+    holds!(rt; reads_numbers(channel, &id, &[5, 6]));
+    holds!(rt; ends(channel, 0));
+    holds!(rt; !ends(channel, 1));
     Ok(())
 }
 

@@ -1,4 +1,5 @@
 //! Each kind of storage, and the dense vector.
+use crate::asserts::{equal, holds};
 use crate::components::InDense;
 use crate::kinds::put_all;
 use crate::loans::double_all;
@@ -46,13 +47,13 @@ fn dummy_test_clear(rt: HostRuntime) -> Result<(), Fail> {
 pub fn is_set_twice<R: Abort, S: Shelf>(rt: &R, shelf: &mut S, list: &[Entity]) {
     assert_eq!(rt; list.len(), 2);
     let (e, other) = (list[0], list[1]);
-    assert_eq!(rt; shelf.put(e, 0), Some(None));
-    assert_eq!(rt; shelf.put(e, 0), Some(Some(0)));
-    assert!(rt; shelf.add(e, 0));
-    assert_eq!(rt; shelf.at(other), None);
-    assert_eq!(rt; shelf.take(e), Some(0));
-    assert_eq!(rt; shelf.take(e), None);
-    assert_eq!(rt; shelf.at(e), None);
+    equal!(rt; shelf.put(e, 0), Some(None));
+    equal!(rt; shelf.put(e, 0), Some(Some(0)));
+    holds!(rt; shelf.add(e, 0));
+    equal!(rt; shelf.at(other), None);
+    equal!(rt; shelf.take(e), Some(0));
+    equal!(rt; shelf.take(e), None);
+    equal!(rt; shelf.at(e), None);
 }
 
 #[test]
@@ -75,33 +76,33 @@ impl Doubled for World<InDense> {
 // The last value moves to the place of the one that was taken out.
 fn the_last_is_moved<R: Abort, S: Sliced>(rt: &R, shelf: &mut S) {
     put_all(rt, shelf, &[(0, 1), (1, 2), (2, 3)]);
-    assert_eq!(rt; shelf.take_out(0), Some(1));
-    assert!(rt; shelf.has_slice(&[3, 2]));
-    assert!(rt; shelf.clear_all());
-    assert!(rt; shelf.has_slice(&[]));
+    equal!(rt; shelf.take_out(0), Some(1));
+    holds!(rt; shelf.has_slice(&[3, 2]));
+    holds!(rt; shelf.clear_all());
+    holds!(rt; shelf.has_slice(&[]));
 }
 
 // The values of indices that are far apart have no gaps.
 fn far_indices_lie_close<R: Abort, S: Sliced>(rt: &R, shelf: &mut S) {
     put_all(rt, shelf, &[(0, 1), (4095, 2), (4096, 3), (16_777_215, 4)]);
-    assert_eq!(rt; shelf.take_out(4095), Some(2));
-    assert!(rt; shelf.has_slice(&[1, 4, 3]));
-    assert_eq!(rt; shelf.take_out(0), Some(1));
-    assert!(rt; shelf.has_slice(&[3, 4]));
+    equal!(rt; shelf.take_out(4095), Some(2));
+    holds!(rt; shelf.has_slice(&[1, 4, 3]));
+    equal!(rt; shelf.take_out(0), Some(1));
+    holds!(rt; shelf.has_slice(&[3, 4]));
     put_all(rt, shelf, &[(4095, 5)]);
-    assert!(rt; shelf.has_slice(&[3, 4, 5]));
-    assert!(rt; shelf.clear_all());
+    holds!(rt; shelf.has_slice(&[3, 4, 5]));
+    holds!(rt; shelf.clear_all());
 }
 
 // Four numbers without the one that is taken out are doubled, and found at the indices.
 fn three_are_doubled<R: Abort, S: Doubled>(rt: &R, shelf: &mut S) {
     put_all(rt, shelf, &[(0, 0), (1, 1), (2, 2), (3, 3)]);
-    assert_eq!(rt; shelf.take_out(1), Some(1));
+    equal!(rt; shelf.take_out(1), Some(1));
     shelf.double();
-    assert!(rt; shelf.has_slice(&[0, 6, 4]));
-    assert_eq!(rt; shelf.number_in(3), Some(6));
-    assert_eq!(rt; shelf.number_in(2), Some(4));
-    assert_eq!(rt; shelf.number_in(1), None);
+    holds!(rt; shelf.has_slice(&[0, 6, 4]));
+    equal!(rt; shelf.number_in(3), Some(6));
+    equal!(rt; shelf.number_in(2), Some(4));
+    equal!(rt; shelf.number_in(1), None);
 }
 
 // Values move, lie close, and are all written to.
@@ -126,9 +127,9 @@ fn dense_slices(rt: HostRuntime) -> Result<(), Fail> {
 /// Each gets 0 and then its index.
 pub fn are_inserted_twice<R: Abort, S: Shelf>(rt: &R, shelf: &mut S, list: &[Entity]) {
     for e in list {
-        assert_eq!(rt; shelf.put(*e, 0), Some(None));
-        assert_eq!(rt; shelf.put(*e, e.id()), Some(Some(0)));
-        assert_eq!(rt; shelf.at(*e), Some(e.id()));
+        equal!(rt; shelf.put(*e, 0), Some(None));
+        equal!(rt; shelf.put(*e, e.id()), Some(Some(0)));
+        equal!(rt; shelf.at(*e), Some(e.id()));
     }
 }
 
@@ -141,10 +142,10 @@ fn insert_same_key(rt: HostRuntime) -> Result<(), Fail> {
 pub fn first_and_third_are_dropped<R: Abort, S: Shelf>(rt: &R, shelf: &mut S, list: &[Entity]) {
     assert_eq!(rt; list.len(), 4);
     put_all(rt, shelf, &[(0, 0), (1, 1), (2, 2)]);
-    assert!(rt; shelf.drop_list(&[list[0], list[2], list[0], list[3]]));
-    assert!(rt; !shelf.contains(0));
-    assert!(rt; shelf.contains(1));
-    assert!(rt; !shelf.contains(2));
+    holds!(rt; shelf.drop_list(&[list[0], list[2], list[0], list[3]]));
+    holds!(rt; !shelf.contains(0));
+    holds!(rt; shelf.contains(1));
+    holds!(rt; !shelf.contains(2));
 }
 
 #[test]

@@ -1,4 +1,5 @@
 //! Tests that every kind of storage of numbers is put to.
+use crate::asserts::{equal, holds};
 use crate::shelf::Shelf;
 use entities::Entity;
 use std::process::Abort;
@@ -6,14 +7,14 @@ use std::process::Abort;
 /// Inserts the number at each entity, its index and `more`.
 pub fn fill<R: Abort, S: Shelf>(rt: &R, shelf: &mut S, list: &[Entity], more: u32) {
     for e in list {
-        assert_eq!(rt; shelf.put(*e, e.id().wrapping_add(more)), Some(None));
+        equal!(rt; shelf.put(*e, e.id().wrapping_add(more)), Some(None));
     }
 }
 
 // Each entity has its index and `more`.
 fn have<R: Abort, S: Shelf>(rt: &R, shelf: &mut S, list: &[Entity], more: u32) {
     for e in list {
-        assert_eq!(rt; shelf.at(*e), Some(e.id().wrapping_add(more)));
+        equal!(rt; shelf.at(*e), Some(e.id().wrapping_add(more)));
     }
 }
 
@@ -21,13 +22,13 @@ fn have<R: Abort, S: Shelf>(rt: &R, shelf: &mut S, list: &[Entity], more: u32) {
 pub fn test_one<R: Abort, S: Shelf>(rt: &R, shelf: &mut S, list: &[Entity]) {
     assert!(rt; !list.is_empty());
     let e = list[0];
-    assert_eq!(rt; shelf.put(e, 4), Some(None));
-    assert_eq!(rt; shelf.put(e, 6), Some(Some(4)));
-    assert_eq!(rt; shelf.count(), 1);
-    assert_eq!(rt; shelf.take(e), Some(6));
-    assert_eq!(rt; shelf.take(e), None);
-    assert_eq!(rt; shelf.at(e), None);
-    assert!(rt; shelf.is_empty());
+    equal!(rt; shelf.put(e, 4), Some(None));
+    equal!(rt; shelf.put(e, 6), Some(Some(4)));
+    equal!(rt; shelf.count(), 1);
+    equal!(rt; shelf.take(e), Some(6));
+    equal!(rt; shelf.take(e), None);
+    equal!(rt; shelf.at(e), None);
+    holds!(rt; shelf.is_empty());
 }
 
 /// All are inserted and found again.
@@ -40,8 +41,8 @@ pub fn test_add<R: Abort, S: Shelf>(rt: &R, shelf: &mut S, list: &[Entity]) {
 pub fn test_sub<R: Abort, S: Shelf>(rt: &R, shelf: &mut S, list: &[Entity]) {
     fill(rt, shelf, list, 2718);
     for e in list {
-        assert_eq!(rt; shelf.take(*e), Some(e.id().wrapping_add(2718)));
-        assert_eq!(rt; shelf.take(*e), None);
+        equal!(rt; shelf.take(*e), Some(e.id().wrapping_add(2718)));
+        equal!(rt; shelf.take(*e), None);
     }
 }
 
@@ -49,7 +50,7 @@ pub fn test_sub<R: Abort, S: Shelf>(rt: &R, shelf: &mut S, list: &[Entity]) {
 pub fn test_get_mut<R: Abort, S: Shelf>(rt: &R, shelf: &mut S, list: &[Entity]) {
     fill(rt, shelf, list, 2000);
     for e in list {
-        assert!(rt; shelf.add(*e, 718));
+        holds!(rt; shelf.add(*e, 718));
     }
     have(rt, shelf, list, 2718);
 }
@@ -59,14 +60,14 @@ pub fn test_get_mut_or_default<R: Abort, S: Shelf>(rt: &R, shelf: &mut S, list: 
     for e in list {
         let id = e.id();
         if id < 500 {
-            assert_eq!(rt; shelf.put(*e, id), Some(None));
+            equal!(rt; shelf.put(*e, id), Some(None));
         }
-        assert!(rt; shelf.add_or_default(*e, id));
+        holds!(rt; shelf.add_or_default(*e, id));
     }
     for e in list {
         let id = e.id();
         let wanted = if id < 500 { id.wrapping_add(id) } else { id };
-        assert_eq!(rt; shelf.at(*e), Some(wanted));
+        equal!(rt; shelf.at(*e), Some(wanted));
     }
 }
 
@@ -74,10 +75,10 @@ pub fn test_get_mut_or_default<R: Abort, S: Shelf>(rt: &R, shelf: &mut S, list: 
 fn later_are_refused<R: Abort, S: Shelf>(rt: &R, shelf: &mut S, list: &[Entity]) {
     for e in list {
         let later = Entity::from_parts(e.id(), 2);
-        assert!(rt; later.is_some());
+        holds!(rt; later.is_some());
         if let Some(later) = later {
-            assert_eq!(rt; shelf.put(later, 31415), None);
-            assert_eq!(rt; shelf.at(later), None);
+            equal!(rt; shelf.put(later, 31415), None);
+            equal!(rt; shelf.at(later), None);
         }
     }
 }
@@ -93,55 +94,55 @@ pub fn test_add_gen<R: Abort, S: Shelf>(rt: &R, shelf: &mut S, list: &[Entity]) 
 pub fn test_sub_gen<R: Abort, S: Shelf>(rt: &R, shelf: &mut S, list: &[Entity]) {
     later_are_refused(rt, shelf, list);
     for e in list {
-        assert_eq!(rt; shelf.take(*e), None);
+        equal!(rt; shelf.take(*e), None);
     }
-    assert!(rt; shelf.is_empty());
+    holds!(rt; shelf.is_empty());
 }
 
 /// All are inserted, and none is found after `clear`.
 pub fn test_clear<R: Abort, S: Shelf>(rt: &R, shelf: &mut S, list: &[Entity]) {
     for e in list {
-        assert_eq!(rt; shelf.put(*e, 10), Some(None));
+        equal!(rt; shelf.put(*e, 10), Some(None));
     }
-    assert!(rt; shelf.clear());
+    holds!(rt; shelf.clear());
     for e in list {
-        assert_eq!(rt; shelf.at(*e), None);
+        equal!(rt; shelf.at(*e), None);
     }
 }
 
 /// Puts each number at its index.
 pub fn put_all<R: Abort, S: Shelf>(rt: &R, shelf: &mut S, numbers: &[(u32, u32)]) {
     for pair in numbers {
-        assert!(rt; shelf.put_in(pair.0, pair.1));
+        holds!(rt; shelf.put_in(pair.0, pair.1));
     }
 }
 
 // An index beyond the last, one below it, and one that was left.
 fn test_put_places<R: Abort, S: Shelf>(rt: &R, shelf: &mut S) {
     put_all(rt, shelf, &[(7, 70), (2, 20), (9, 90)]);
-    assert_eq!(rt; shelf.take_out(2), Some(20));
+    equal!(rt; shelf.take_out(2), Some(20));
     put_all(rt, shelf, &[(2, 21), (2, 22)]);
-    assert_eq!(rt; shelf.number_in(2), Some(22));
+    equal!(rt; shelf.number_in(2), Some(22));
 }
 
 // Two indices with a component and one without, which then has 0, until it is taken out.
 fn test_lent_places<R: Abort, S: Shelf>(rt: &R, shelf: &mut S) {
-    assert!(rt; shelf.lend(7));
-    assert!(rt; shelf.lend_or_default(9));
-    assert!(rt; shelf.lend_or_default(4));
-    assert_eq!(rt; shelf.take_out(4), Some(0));
-    assert!(rt; !shelf.contains(4));
+    holds!(rt; shelf.lend(7));
+    holds!(rt; shelf.lend_or_default(9));
+    holds!(rt; shelf.lend_or_default(4));
+    equal!(rt; shelf.take_out(4), Some(0));
+    holds!(rt; !shelf.contains(4));
 }
 
 // One index gets a component, and one loses its own, of which two are left.
 fn test_left_places<R: Abort, S: Shelf>(rt: &R, shelf: &mut S) {
-    assert!(rt; shelf.insert_in(4, 50, 0));
-    assert!(rt; shelf.drop_in(9));
-    assert!(rt; shelf.drop_in(9));
-    assert_eq!(rt; shelf.take_out(4), Some(50));
-    assert_eq!(rt; shelf.take_out(4), None);
-    assert!(rt; shelf.reserve_events(3));
-    assert_eq!(rt; shelf.count_in(), 2);
+    holds!(rt; shelf.insert_in(4, 50, 0));
+    holds!(rt; shelf.drop_in(9));
+    holds!(rt; shelf.drop_in(9));
+    equal!(rt; shelf.take_out(4), Some(50));
+    equal!(rt; shelf.take_out(4), None);
+    holds!(rt; shelf.reserve_events(3));
+    equal!(rt; shelf.count_in(), 2);
 }
 
 /// Places of each kind, each by each way to put a component there.

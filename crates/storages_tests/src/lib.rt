@@ -1,6 +1,8 @@
 //! Storages at concrete types, as tests: what callers learn of a loan, and what every kind of storage does.
 #![tactic(auto)]
 
+#[cfg(test)]
+mod asserts;
 mod components;
 #[cfg(test)]
 mod default_vec_tests;

@@ -1,4 +1,5 @@
 //! Calls that may want memory, each with ample memory.
+use crate::asserts::{equal, holds};
 use crate::shelf::Shelf;
 use crate::stories::{Story, in_dense};
 use std::process::Abort;
@@ -7,10 +8,10 @@ use std::test::Fail;
 /// An entity that was built lives, and has the later number.
 pub fn is_built<R: Abort, S: Shelf>(rt: &R, shelf: &mut S) {
     let built = shelf.build(6, 7);
-    assert!(rt; built.is_some());
+    holds!(rt; built.is_some());
     if let Some(e) = built {
-        assert!(rt; shelf.lives(e));
-        assert_eq!(rt; shelf.number_in(e.id()), Some(7));
+        holds!(rt; shelf.lives(e));
+        equal!(rt; shelf.number_in(e.id()), Some(7));
     }
 }
 
@@ -21,10 +22,10 @@ fn a_builder_puts_its_component(rt: HostRuntime) -> Result<(), Fail> {
 
 /// A number is inserted and lent, lent again, and taken out.
 pub fn comes_and_goes<R: Abort, S: Shelf>(rt: &R, shelf: &mut S) {
-    assert!(rt; shelf.insert_in(3, 1, 1));
-    assert!(rt; shelf.add_present(3, 3));
-    assert_eq!(rt; shelf.take_present(3), Some(5));
-    assert_eq!(rt; shelf.count_in(), 0);
+    holds!(rt; shelf.insert_in(3, 1, 1));
+    holds!(rt; shelf.add_present(3, 3));
+    equal!(rt; shelf.take_present(3), Some(5));
+    equal!(rt; shelf.count_in(), 0);
 }
 
 #[test]

@@ -1,4 +1,5 @@
 //! The vector of options.
+use crate::asserts::{equal, holds};
 use crate::default_vec_tests::indices;
 use crate::kinds::{fill, put_all};
 use crate::numbers::{InVec, Number, Shared};
@@ -21,16 +22,16 @@ fn lie_at_places<R: Abort, S: Gapped>(
     assert_eq!(rt; list.len(), 1000);
     fill(rt, shelf, list, 2718);
     let numbers = indices(alloc, list, 2718)?;
-    assert!(rt; shelf.shows_numbers(numbers.as_slice()));
+    holds!(rt; shelf.shows_numbers(numbers.as_slice()));
     Ok(())
 }
 
 // The place of a component that is taken out stays, and has none.
 fn slice_stays_as_long<R: Abort, S: Gapped>(rt: &R, shelf: &mut S) {
     put_all(rt, shelf, &[(2, 5)]);
-    assert!(rt; shelf.has_places(&[false, false, true]));
-    assert_eq!(rt; shelf.take_out(2), Some(5));
-    assert!(rt; shelf.has_places(&[false, false, false]));
+    holds!(rt; shelf.has_places(&[false, false, true]));
+    equal!(rt; shelf.take_out(2), Some(5));
+    holds!(rt; shelf.has_places(&[false, false, false]));
 }
 
 // The places of a thousand entities, or else that of a component that is taken out.

@@ -1,4 +1,5 @@
 //! Views beside entities that die.
+use crate::asserts::{equal, holds};
 use crate::numbers::{InVec, Number};
 use crate::shelf::{Entries, Seen, Shelf};
 use crate::stories::{Story, in_hash, in_null, in_vec};
@@ -16,11 +17,11 @@ fn stale_is_told<R: Abort, S: Shelf>(
     shelf: &mut S,
     stale: Entity,
 ) -> Result<(), Fail> {
-    assert_eq!(rt;
+    equal!(rt;
         shelf.insertion_text(alloc, stale)?.as_str(),
         "Tried to insert component for entity entity Entity(0, Generation(1)), but the generation is no longer valid; it should be Generation(2)"
     );
-    assert_eq!(rt;
+    equal!(rt;
         shelf.entry_text(alloc, stale)?.as_str(),
         "Tried to attempting to get an entry to a storage entity Entity(0, Generation(1)), but the generation is no longer valid; it should be Generation(-1)"
     );
@@ -29,18 +30,18 @@ fn stale_is_told<R: Abort, S: Shelf>(
 
 // The stale entity finds nothing, before and after the other has a number.
 fn reaches_nothing<R: Abort, S: Shelf>(rt: &R, shelf: &mut S, stale: Entity, other: Entity) {
-    assert_eq!(rt; shelf.at(stale), None);
-    assert_eq!(rt; shelf.put(other, 2), Some(None));
-    assert_eq!(rt; shelf.at(stale), None);
-    assert_eq!(rt; shelf.take(stale), None);
-    assert_eq!(rt; shelf.at(other), Some(2));
+    equal!(rt; shelf.at(stale), None);
+    equal!(rt; shelf.put(other, 2), Some(None));
+    equal!(rt; shelf.at(stale), None);
+    equal!(rt; shelf.take(stale), None);
+    equal!(rt; shelf.at(other), Some(2));
 }
 
 /// A stale entity, and another of its index, where nobody was born before.
 pub fn stale<R: Abort, S: Shelf>(rt: &R, alloc: Global, shelf: &mut S) -> Result<(), Fail> {
     let first = shelf.bear_in_vain()?;
     let second = shelf.bear()?;
-    assert_eq!(rt; Entity::from_parts(0, 2), Some(second));
+    equal!(rt; Entity::from_parts(0, 2), Some(second));
     stale_is_told(rt, alloc, shelf, first)?;
     reaches_nothing(rt, shelf, first, second);
     Ok(())
@@ -70,18 +71,18 @@ fn refusals_have_texts(rt: HostRuntime) -> Result<(), Fail> {
 /// All are inserted; every third is lent to write to, and the others are read.
 pub fn are_marked_and_lent<R: Abort, S: Shelf>(rt: &R, shelf: &mut S, list: &[Entity]) {
     for e in list {
-        assert_eq!(rt; shelf.put(*e, 0), Some(None));
+        equal!(rt; shelf.put(*e, 0), Some(None));
     }
     for e in list {
-        assert!(rt; shelf.is_marked(e.id()));
+        holds!(rt; shelf.is_marked(e.id()));
         if e.id() % 3 == 0 {
-            assert!(rt; shelf.add(*e, 0));
+            holds!(rt; shelf.add(*e, 0));
         } else {
-            assert_eq!(rt; shelf.at(*e), Some(0));
+            equal!(rt; shelf.at(*e), Some(0));
         }
     }
-    assert_eq!(rt; shelf.count(), 50);
-    assert_eq!(rt; shelf.members(), 50);
+    equal!(rt; shelf.count(), 50);
+    equal!(rt; shelf.members(), 50);
 }
 
 #[test]
@@ -92,21 +93,21 @@ fn storage_mask(rt: HostRuntime) -> Result<(), Fail> {
 // What a view to read shows of the second of three entities, which alone has a number.
 fn second_is_read<R: Abort, S: Seen>(rt: &R, shelf: &S, list: &[Entity]) {
     assert_eq!(rt; list.len(), 3);
-    assert!(rt; shelf.sees(list[1]));
-    assert!(rt; shelf.holds(list[1]));
-    assert!(rt; shelf.excludes(1));
-    assert!(rt; !shelf.excludes(0));
-    assert_eq!(rt; shelf.extent(), (2, 1, false));
-    assert!(rt; shelf.knows(list[2]));
+    holds!(rt; shelf.sees(list[1]));
+    holds!(rt; shelf.holds(list[1]));
+    holds!(rt; shelf.excludes(1));
+    holds!(rt; !shelf.excludes(0));
+    equal!(rt; shelf.extent(), (2, 1, false));
+    holds!(rt; shelf.knows(list[2]));
 }
 
 // The second of three entities gets a number, which views show then.
 fn second_is_seen<R: Abort, S: Seen>(rt: &R, shelf: &mut S, list: &[Entity]) -> Result<(), Fail> {
     assert_eq!(rt; list.len(), 3);
-    assert_eq!(rt; shelf.put(list[1], 1), Some(None));
-    assert!(rt; shelf.excludes_to_write(1));
+    equal!(rt; shelf.put(list[1], 1), Some(None));
+    holds!(rt; shelf.excludes_to_write(1));
     second_is_read(rt, shelf, list);
-    assert!(rt; shelf.copy_holds(list[1], list[0], 2)?);
+    holds!(rt; shelf.copy_holds(list[1], list[0], 2)?);
     Ok(())
 }
 
@@ -129,14 +130,14 @@ fn views_to_read(rt: HostRuntime) -> Result<(), Fail> {
 pub fn by_trait<R: Abort, S: Entries>(rt: &R, shelf: &mut S, list: &[Entity]) {
     assert_eq!(rt; list.len(), 1);
     let e = list[0];
-    assert_eq!(rt; shelf.lent_by_trait(e), Some(0));
-    assert!(rt; shelf.take_by_trait(e));
-    assert!(rt; shelf.take_by_trait(e));
-    assert_eq!(rt; shelf.put_by_trait(e, 2), Some(None));
-    assert_eq!(rt; shelf.put_by_trait(e, 3), Some(Some(2)));
-    assert!(rt; shelf.add_by_trait(e));
-    assert_eq!(rt; shelf.lent_by_trait(e), Some(4));
-    assert_eq!(rt; shelf.shown_by_trait(e), (Some(4), Some(4), Some(4)));
+    equal!(rt; shelf.lent_by_trait(e), Some(0));
+    holds!(rt; shelf.take_by_trait(e));
+    holds!(rt; shelf.take_by_trait(e));
+    equal!(rt; shelf.put_by_trait(e, 2), Some(None));
+    equal!(rt; shelf.put_by_trait(e, 3), Some(Some(2)));
+    holds!(rt; shelf.add_by_trait(e));
+    equal!(rt; shelf.lent_by_trait(e), Some(4));
+    equal!(rt; shelf.shown_by_trait(e), (Some(4), Some(4), Some(4)));
 }
 
 #[test]
