@@ -4,7 +4,7 @@
 use anyhow::{Result, bail};
 use entities::EntitiesRes;
 use std::alloc::Global;
-use storages::{Component, MaskedStorage, TryDefault};
+use storages::{Component, MaskedStorage, TryDefault, UnprotectedStorage};
 
 /// What can be made with nothing in it.
 pub trait Fresh: Sized {
@@ -24,7 +24,7 @@ impl<T> Fresh for Vec<T> {
     }
 }
 
-impl<T: Component> Fresh for MaskedStorage<T> {
+impl<T: Component<Storage: UnprotectedStorage<T>>> Fresh for MaskedStorage<T> {
     fn fresh(alloc: Global) -> Result<Self> {
         match T::Storage::try_default(alloc) {
             Ok(inner) => Ok(MaskedStorage::new(alloc, inner)),

@@ -6,7 +6,9 @@ use crate::random::mix;
 use anyhow::{Result, bail};
 use entities::{EntitiesRes, Entity};
 use std::alloc::Global;
-use storages::{AnyStorage, Component, MaskedStorage, ReadStorage, WriteStorage};
+use storages::{
+    AnyStorage, Component, MaskedStorage, ReadStorage, UnprotectedStorage, WriteStorage,
+};
 
 /// Entities, with a storage of positions and one of velocities.
 #[derive(Drop)]
@@ -29,7 +31,7 @@ impl<P: Pointed> Fresh for Moving<P> {
 
 /// Gives a component to an entity.
 #[inline(always)]
-pub fn give<T: Component + Drop>(
+pub fn give<T: Component<Storage: UnprotectedStorage<T>> + Drop>(
     entities: &EntitiesRes,
     storage: &mut MaskedStorage<T>,
     entity: Entity,

@@ -10,7 +10,7 @@ use std::alloc::{Alloc, Global};
 use std::io::Print;
 use std::thread::Threads;
 use std::time::{Clock, Instant};
-use storages::{Component, DefaultVecStorage, MaskedStorage, VecStorage};
+use storages::{Component, DefaultVecStorage, MaskedStorage, UnprotectedStorage, VecStorage};
 
 /// A number to start from.
 #[derive(Clone, Copy)]
@@ -29,7 +29,7 @@ impl Component for PlacedSeed {
 }
 
 /// A component that is a number to start from.
-trait Seeded: Component + Copy {
+trait Seeded: Component<Storage: UnprotectedStorage<Self>> + Copy {
     fn of(number: u64) -> Self;
 
     fn number(&self) -> u64;

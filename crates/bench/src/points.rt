@@ -3,7 +3,9 @@
 ghost use Rattle.std.specs.Float.{NotNan};
 
 use crate::random::mix;
-use storages::{Component, DenseVecStorage, FlaggedStorage, HashMapStorage, VecStorage};
+use storages::{
+    Component, DenseVecStorage, FlaggedStorage, HashMapStorage, UnprotectedStorage, VecStorage,
+};
 
 /// Three numbers.
 #[derive(Clone, Copy)]
@@ -71,7 +73,7 @@ impl Point {
 }
 
 /// A component that is a point.
-pub trait Pointed: Component + Copy + Drop {
+pub trait Pointed: Component<Storage: UnprotectedStorage<Self>> + Copy + Drop {
     /// The component of a point.
     fn of(point: Point) -> Self;
 

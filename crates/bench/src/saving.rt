@@ -13,7 +13,7 @@ use saveload::{
 use std::alloc::Global;
 use std::io::Print;
 use std::time::Clock;
-use storages::{Component, MaskedStorage, ReadStorage, WriteStorage};
+use storages::{Component, MaskedStorage, ReadStorage, UnprotectedStorage, WriteStorage};
 
 /// A kind of markers.
 #[derive(Clone, Copy)]
@@ -69,7 +69,7 @@ impl Fresh for Levels {
 }
 
 /// Gives a component to an entity.
-fn give<T: Component + Drop>(
+fn give<T: Component<Storage: UnprotectedStorage<T>> + Drop>(
     entities: &EntitiesRes,
     storage: &mut MaskedStorage<T>,
     entity: Entity,

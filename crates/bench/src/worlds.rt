@@ -8,7 +8,7 @@ use crate::workload::{Plan, Workload, report};
 use anyhow::{Result, bail};
 use composed::{Empty, Of2};
 use entities::Entity;
-use specs::{Builder, Has, World, value};
+use specs::{Builder, Has, Storages, World, value};
 use std::alloc::Global;
 use std::io::Print;
 use std::marker::PhantomData;
@@ -100,7 +100,7 @@ fn populate_velocities<V: Pointed, J, S: Has<V, J>>(
     Ok(())
 }
 
-fn delete_each<S: Empty>(state: &mut State<S>) -> Result<()> {
+fn delete_each<S: Empty + Storages>(state: &mut State<S>) -> Result<()> {
     for entity in state.1.as_slice() {
         if state.0.delete_entity(*entity).is_err() {
             bail!("no entity was deleted");
@@ -109,14 +109,14 @@ fn delete_each<S: Empty>(state: &mut State<S>) -> Result<()> {
     Ok(())
 }
 
-fn delete_bulk<S: Empty>(state: &mut State<S>) -> Result<()> {
+fn delete_bulk<S: Empty + Storages>(state: &mut State<S>) -> Result<()> {
     if state.0.delete_entities(state.1.as_slice()).is_err() {
         bail!("no entity was deleted");
     }
     Ok(())
 }
 
-fn delete_marked<S: Empty>(state: &mut State<S>) -> Result<()> {
+fn delete_marked<S: Empty + Storages>(state: &mut State<S>) -> Result<()> {
     for entity in state.1.as_slice() {
         state.0.parts().core.parts().entities.delete(*entity)?;
     }
@@ -154,7 +154,7 @@ fn fetch<P: Pointed, I, S: Has<P, I>>(world: &World<S>, count: u32) -> Result<u6
     Ok(found)
 }
 
-fn insert_lazily<P: Pointed, I, S: Has<P, I>>(state: &mut State<S>) -> Result<()> {
+fn insert_lazily<P: Pointed, I, S: Storages + Has<P, I>>(state: &mut State<S>) -> Result<()> {
     let lazy = &mut state.0.parts().lazy;
     let mut number: u32 = 0;
     for entity in state.1.as_slice() {
@@ -185,7 +185,7 @@ fn bear_lazily<P: Pointed, I, V: Pointed, J, S: Has<P, I> + Has<V, J>>(
     Ok(())
 }
 
-fn create_lazily<P: Pointed, I, V: Pointed, J, S: Has<P, I> + Has<V, J>>(
+fn create_lazily<P: Pointed, I, V: Pointed, J, S: Storages + Has<P, I> + Has<V, J>>(
     world: &mut World<S>,
     count: u32,
 ) -> Result<()> {
@@ -210,7 +210,7 @@ fn sum_of<P: Pointed, I, S: Has<P, I>>(world: &World<S>, count: u32) -> Result<u
     Ok(sum)
 }
 
-impl<P: Pointed, I, V: Pointed, J, S: Empty + Has<P, I> + Has<V, J> + Drop> Workload
+impl<P: Pointed, I, V: Pointed, J, S: Empty + Storages + Has<P, I> + Has<V, J> + Drop> Workload
     for InWorld<P, I, V, J, S> {
     type State = State<S>;
 
@@ -264,7 +264,7 @@ impl<P: Pointed, I, V: Pointed, J, S: Empty + Has<P, I> + Has<V, J> + Drop> Work
 }
 
 /// Reports on a task.
-fn tell<P: Pointed, I, V: Pointed, J, S: Empty + Has<P, I> + Has<V, J> + Drop>(
+fn tell<P: Pointed, I, V: Pointed, J, S: Empty + Storages + Has<P, I> + Has<V, J> + Drop>(
     rt: &(impl Clock + Print),
     alloc: Global,
     plan: &Plan,

@@ -4,7 +4,7 @@ use crate::game::{Fuse, Position, Velocity};
 use anyhow::{Result, bail};
 use entities::EntitiesRes;
 use joins::JoinMut;
-use specs::{Entity, Field, Has, LazyUpdate, Parts, World, WorldParts, value};
+use specs::{Entity, Field, Has, LazyUpdate, Parts, Storages, World, WorldParts, value};
 use storages::{Component, MaskedStorage, WriteStorage};
 
 /// The ways that fragments go.
@@ -64,7 +64,7 @@ fn burn<P, V, S: Has<Position, P> + Has<Velocity, V>>(
 }
 
 /// Fuses burn, all fly on, and what waited is done.
-fn turn<P, V, S: Has<Position, P> + Has<Velocity, V> + Moves>(
+fn turn<P, V, S: Storages + Has<Position, P> + Has<Velocity, V> + Moves>(
     world: &mut World<S>,
     fuses: &mut MaskedStorage<Fuse>,
     step: u32,
@@ -83,7 +83,7 @@ fn turn<P, V, S: Has<Position, P> + Has<Velocity, V> + Moves>(
 }
 
 /// A bomb flies, bursts, and its fragments fly on. Fuses are kept beside the world.
-pub fn explode<P, V, S: Has<Position, P> + Has<Velocity, V> + Moves>(
+pub fn explode<P, V, S: Storages + Has<Position, P> + Has<Velocity, V> + Moves>(
     world: &mut World<S>,
     fuses: &mut MaskedStorage<Fuse>,
     text: &mut String,

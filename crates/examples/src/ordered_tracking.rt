@@ -3,7 +3,7 @@ use crate::game::Score;
 use anyhow::{Result, bail};
 use composed::{Empty, Only};
 use hibits::Index;
-use specs::{Builder, Has, World};
+use specs::{Builder, Has, Storages, World};
 use std::alloc::Global;
 use std::collections::BTreeMap;
 use storages::{ComponentEvent, MaskedStorage, ReaderId};
@@ -39,7 +39,11 @@ fn follow(
 }
 
 /// Gives points to entities, changes those of one, and takes those of another.
-fn play<I, S: Has<Score, I>>(alloc: Global, world: &mut World<S>, text: &mut String) -> Result<()> {
+fn play<I, S: Storages + Has<Score, I>>(
+    alloc: Global,
+    world: &mut World<S>,
+    text: &mut String,
+) -> Result<()> {
     let table = &mut Table::new(alloc);
     world.register::<Score, _>()?;
     let first = world.create_entity()?.build();
@@ -63,7 +67,7 @@ fn play<I, S: Has<Score, I>>(alloc: Global, world: &mut World<S>, text: &mut Str
 }
 
 /// What is told of a new world, whose storages are of a type that is not known here.
-fn told<I, S: Empty + Has<Score, I> + Drop>(alloc: Global) -> Result<String> {
+fn told<I, S: Empty + Storages + Has<Score, I> + Drop>(alloc: Global) -> Result<String> {
     let mut text = String::new(alloc);
     let mut world = World::new(alloc, S::empty(alloc));
     play(alloc, &mut world, &mut text)?;

@@ -5,7 +5,7 @@ use crate::game::{Fuse, Parts, Position, Velocity};
 use crate::orbits::{Pulls, fly};
 use anyhow::{Result, bail};
 use composed::Empty;
-use specs::{Has, World};
+use specs::{Has, Storages, World};
 use std::alloc::Global;
 use storages::{HashMapStorage, MaskedStorage, TryDefault};
 
@@ -26,7 +26,7 @@ fn tell<P, V, S>(
     text: &mut String,
 ) -> Result<()>
 where
-    S: Has<Position, P> + Has<Velocity, V> + Moves + Pulls,
+    S: Storages + Has<Position, P> + Has<Velocity, V> + Moves + Pulls,
 {
     match tale {
         Tale::ClusterBomb => explode(world, fuses, text),
@@ -37,7 +37,7 @@ where
 /// The text of a tale of a new world.
 fn told_of<P, V, S>(alloc: Global, tale: Tale) -> Result<String>
 where
-    S: Empty + Has<Position, P> + Has<Velocity, V> + Moves + Pulls + Drop,
+    S: Empty + Storages + Has<Position, P> + Has<Velocity, V> + Moves + Pulls + Drop,
 {
     let mut text = String::new(alloc);
     let mut world = World::new(alloc, S::empty(alloc));

@@ -1,7 +1,7 @@
 //! Components of joins: points of plain numbers, in storages of several kinds.
 
 use crate::random::mix;
-use storages::{Component, DefaultVecStorage, DenseVecStorage, VecStorage};
+use storages::{Component, DefaultVecStorage, DenseVecStorage, UnprotectedStorage, VecStorage};
 
 /// Three numbers.
 #[derive(Clone, Copy, Default)]
@@ -55,7 +55,7 @@ impl Spot {
 }
 
 /// A component that is a point.
-pub trait Spotted: Component + Drop {
+pub trait Spotted: Component<Storage: UnprotectedStorage<Self>> + Drop {
     /// The component of a point.
     fn of(point: Spot) -> Self;
 
