@@ -267,12 +267,31 @@ fn nearly_full(alloc: Global) -> EntitiesRes {
     entities
 }
 
+/// How many indices are merged, pending and marked, and the entities of the last two.
+fn shown(entities: &EntitiesRes) -> (usize, usize, usize, Entity, Entity) {
+    let merged = entities.alive().count();
+    let pending = entities.raised().count();
+    let marked = entities.marked().count();
+    let before = entities.entity(INDEX_LIMIT - 2);
+    (
+        merged,
+        pending,
+        marked,
+        before,
+        entities.entity(INDEX_LIMIT - 1),
+    )
+}
+
 #[test]
 fn two_indices_below_the_limit(rt: HostRuntime) -> Result<(), Fail> {
     let mut entities = nearly_full(rt.alloc());
     assert_eq!(rt; made(&mut entities, 4), (2, 2));
+    let before = shown(&entities);
+    assert_eq!(rt; (before.0, before.1, before.2), (16_777_214, 2, 0));
     assert_eq!(rt; made(&mut entities, 4), (0, 0));
+    assert_eq!(rt; shown(&entities), before);
     assert_eq!(rt; entities.create(), Err(CreateError::IndexLimit));
+    assert_eq!(rt; shown(&entities), before);
     let last = entity(INDEX_LIMIT - 1, 1).ok_or("an entity")?;
     assert_eq!(rt; entities.is_alive(last), true);
     assert_eq!(rt; entities.alloc_mut().kill(&[last]).is_ok(), true);
