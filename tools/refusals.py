@@ -36,8 +36,9 @@ class Said:
             self.open = list(dict.fromkeys([*listed, *LEFT_OPEN.findall(before)]))
         self.is_refused = is_own
         self.erring, self.errors = errors_in(text, function)
-        # only then is what is not open proved
-        self.is_whole = self.is_proved or is_own and not self.errors and "did not prove" in self.line
+        # only then is what is not open proved; a function that is not proved for one that it calls has all of its own goals
+        waits = self.line is not None and re.match(r"(not proved|no proof): it calls ", self.line) is not None
+        self.is_whole = self.is_proved or not self.errors and (is_own and "did not prove" in self.line or waits)
 
 
 def errors_in(text, function):

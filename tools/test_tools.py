@@ -234,10 +234,11 @@ class WrongBodies(Tree):
     def test_a_right_variant(self):
         self.write("crates/low/right/sum.edit", RIGHT)
         self.says("wrong", self.OPEN)
-        self.says("right", "fn low::one: proved")
-        ran = self.tried()
-        self.accepts(ran)
-        self.assertIn("2 passed, 0 failed", ran.stdout)
+        for said in ("fn low::one: proved", "fn low::one: no proof: it calls `low::two`, which is not proved"):
+            self.says("right", said)
+            ran = self.tried("--anew")
+            self.accepts(ran)
+            self.assertIn("2 passed, 0 failed", ran.stdout)
 
     def test_a_right_variant_that_is_refused(self):
         self.write("crates/low/right/sum.edit", RIGHT)
