@@ -24,5 +24,7 @@ pub fn all_changes_are(changes: &mut ChangeSet<u32>, other: &BitSet, value: u32)
 pub fn first_change(changes: ChangeSet<u32>) -> Option<u32>
     ensures { IfSome result (λ x. (i : ℕ) × (map.get changes i ≡ Some x)) }
 {
-    changes.join().next()
+    let mut walk = changes.join();
+    let first = walk.next()?;
+    Some(first)
 }
