@@ -7,7 +7,7 @@ A row is  | promise | function | clause | status | wrong body |.  The function i
 be a trait; or `Trait for crate::Type`, an `impl` block. The clause is the name of an `ensures`, or of a ghost member that the `impl` gives; `-` stands for the one `ensures` of a function that has no
 other, and for an `impl` as a whole. The status is one of those below; of a row that is not promised function and clause are `-`.
 The wrong body is `-`, or, of a chief promise, the edit `crate/NAME` in which the prover refuses this clause of this function: `through crate/NAME` where it
-is an edit of another function, on which this one rests, and `none yet` where there is none.
+is an edit of another function, on which this one rests, or of this one where all its clauses are one goal, and `none yet` where there is none.
 
 Run at the top of the repository; it prints each row that does not hold, and ends with status 1 if there is one."""
 import glob

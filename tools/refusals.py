@@ -66,9 +66,9 @@ def answers_of(crate_folder, function):
 
 
 def without(text, names):
-    """A file of answers without those of these names."""
+    """A file of answers without those of these names, what they rest on among them, and without what is said directly above them."""
     parts = text.rstrip("\n").split("\n\n")
-    kept = [it for it in parts if not any(re.match(rf"pub {re.escape(name)} :", it) for name in names)]
+    kept = [it for it in parts if not any(re.search(rf"^(?:pub )?{re.escape(name)} :", it, re.M) for name in names)]
     return "\n\n".join(kept) + "\n"
 
 

@@ -68,6 +68,7 @@ class Gate(Tree):
         self.write("HANDLES", "Handles allowed: Threads, Wait.\n")
         self.write("crates/low/proofs/f/Answers.antt", "pub returns : goal.returns\nreturns c = refl\n")
         self.write("tools/check_promises.sh", PASSES)
+        self.write("tools/layout.sh", PASSES)
         for name in GATE_TOOLS:
             self.write(f"tools/{name}", "print('3 passed, 0 failed')\n")
         self.rt("echo '5 passed, 0 failed'")
@@ -145,8 +146,10 @@ class Gate(Tree):
                 self.write(f"tools/{name}", "import sys\nsys.exit(1)\n")
                 self.assertNotEqual(self.gate().returncode, 0, name)
                 self.write(f"tools/{name}", "print('3 passed, 0 failed')\n")
-        self.write("tools/check_promises.sh", "exit 1\n")
-        self.assertNotEqual(self.gate().returncode, 0)
+        for name in ("check_promises.sh", "layout.sh"):
+            self.write(f"tools/{name}", "exit 1\n")
+            self.assertNotEqual(self.gate().returncode, 0, name)
+            self.write(f"tools/{name}", PASSES)
 
 
 SOURCE = "pub fn one() -> u32\n    ensures { result ≡ 1 }\n{\n    1\n}\n"
@@ -300,6 +303,14 @@ class Refusals(unittest.TestCase):
     def test_answers_out(self):
         text = "use it\n\npub a : goal.a\na c = refl\n\npub ab : goal.ab\nab c = refl\n"
         self.assertEqual(without(text, {"a"}), "use it\n\npub ab : goal.ab\nab c = refl\n")
+
+    def test_an_answer_below_a_comment_is_taken_out(self):
+        text = "use it\n\n-- why\npub a : goal.a\na c = refl\n\npub b : goal.b\nb c = refl\n"
+        self.assertEqual(without(text, {"a"}), "use it\n\npub b : goal.b\nb c = refl\n")
+
+    def test_what_an_answer_rests_on_is_taken_out(self):
+        text = "use it\n\n-- why\na : goal.In\na c = refl\n\npub b : goal.b\nb c = a c\n"
+        self.assertEqual(without(text, {"a"}), "use it\n\npub b : goal.b\nb c = a c\n")
 
 
 ROW = "| It is one | `low::one` | - | proved | `low/two` |\n"

@@ -4,10 +4,11 @@ use crate::fresh::Fresh;
 use crate::moving::give;
 use crate::points::Data;
 use crate::random::{Random, mix};
+use crate::walk::for_each;
 use crate::workload::{Plan, Workload, report};
 use anyhow::{Result, bail};
 use entities::{EntitiesRes, Entity};
-use joins::{ChangeSet, JoinMut};
+use joins::ChangeSet;
 use std::alloc::Global;
 use std::io::Print;
 use std::time::Clock;
@@ -21,11 +22,20 @@ struct Changes {
 }
 
 /// Entities with a number each, and a shuffled list of them.
-#[derive(Drop)]
 struct Numbered {
     entities: EntitiesRes,
     data: MaskedStorage<Data>,
     list: Vec<Entity>,
+}
+
+impl Drop for Numbered {
+    fn drop(self) {
+        let Numbered {
+            entities: _entities,
+            data: _data,
+            list: _list,
+        } = self;
+    }
 }
 
 impl Fresh for Numbered {
@@ -71,16 +81,18 @@ fn add_back(changes: &mut ChangeSet<u64>, list: &[Entity]) -> Result<()> {
     Ok(())
 }
 
+// Adds a change to a number.
+#[inline(always)]
+fn apply(data: &mut Data, change: u64) {
+    data.0 = data.0.wrapping_add(change);
+}
+
 fn apply_all(data: &mut MaskedStorage<Data>, changes: &ChangeSet<u64>) {
-    let mut cursor = data.join_mut(changes);
-    while let Some(_id) = cursor.next() {
-        if let Some(change) = cursor.beside() {
-            let change = *change;
-            if let Ok(data) = cursor.item() {
-                data.0 = data.0.wrapping_add(change);
-            }
-        }
-    }
+    for_each(
+        data,
+        changes,
+        |data: &mut Data, change: &u64| apply(data, *change),
+    );
 }
 
 fn change_all(numbered: &mut Numbered, changes: &mut ChangeSet<u64>) -> Result<u64> {

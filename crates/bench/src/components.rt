@@ -74,7 +74,7 @@ struct Writes<P> {
 fn advance_all<P: Pointed>(view: &mut WriteStorage<'_, P>, list: &[Entity]) {
     for entity in list {
         if let Ok(position) = view.get_mut(*entity) {
-            position.advance();
+            position.point_mut().advance();
         }
     }
 }

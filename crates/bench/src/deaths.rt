@@ -5,7 +5,7 @@ use crate::points::VecPosition;
 use crate::random::Random;
 use crate::workload::{Plan, Workload, report};
 use anyhow::Result;
-use entities::Entity;
+use entities::{EntitiesRes, Entity};
 use std::alloc::Global;
 use std::io::Print;
 use std::time::Clock;
@@ -31,16 +31,22 @@ struct Deaths {
 
 type State = (Moving<VecPosition>, Vec<Entity>);
 
+#[inline]
+fn kill(entities: &mut EntitiesRes, list: &[Entity]) -> Result<()> {
+    entities.alloc_mut().kill(list)?;
+    Ok(())
+}
+
 fn kill_bulk(state: &mut State) -> Result<()> {
     let list = state.1.as_slice();
-    state.0.entities.alloc_mut().kill(list)?;
+    kill(&mut state.0.entities, list)?;
     state.0.strip(list)
 }
 
 fn kill_each(state: &mut State) -> Result<()> {
     for entity in state.1.as_slice() {
         let list = [*entity];
-        state.0.entities.alloc_mut().kill(&list)?;
+        kill(&mut state.0.entities, &list)?;
         state.0.strip(&list)?;
     }
     Ok(())

@@ -5,21 +5,30 @@ use crate::fresh::Fresh;
 use crate::moving::Moving;
 use crate::points::{FlaggedPosition, Pointed};
 use crate::random::mix;
+use crate::walk::for_each;
 use crate::workload::{Plan, Workload, report};
 use anyhow::{Result, bail};
 use entities::Entity;
-use joins::JoinMut;
 use std::alloc::Global;
 use std::io::Print;
 use std::time::Clock;
-use storages::{ComponentEvent, ReaderId, WriteStorage};
+use storages::{Component, ComponentEvent, MaskedStorage, ReaderId, Tracked, WriteStorage};
 
 /// Entities with positions whose changes are read.
-#[derive(Drop)]
 struct Watched {
     moving: Moving<FlaggedPosition>,
     list: Vec<Entity>,
     reader: Option<ReaderId>,
+}
+
+impl Drop for Watched {
+    fn drop(self) {
+        let Watched {
+            moving: _moving,
+            list: _list,
+            reader: _reader,
+        } = self;
+    }
 }
 
 impl Fresh for Watched {
@@ -32,17 +41,34 @@ impl Fresh for Watched {
     }
 }
 
+/// A new reader of a storage.
+fn reader_of<T: Component<Storage: Tracked<T>>>(
+    storage: &mut MaskedStorage<T>,
+) -> Result<ReaderId> {
+    match storage.register_reader() {
+        Ok(reader) => Ok(reader),
+        Err(_) => bail!("out of memory"),
+    }
+}
+
+/// What happened in a storage and a reader did not read.
+#[inline]
+fn unread<T: Component<Storage: Tracked<T>>>(
+    storage: &mut MaskedStorage<T>,
+    reader: &ReaderId,
+) -> Result<Vec<ComponentEvent>> {
+    match storage.read(reader) {
+        Ok(events) => Ok(events),
+        Err(_) => bail!("no such reader"),
+    }
+}
+
 impl Watched {
     /// So many entities, before there is a reader, and then the reader.
     fn populate(&mut self, count: u32) -> Result<()> {
         self.moving.populate(&mut self.list, count)?;
-        match self.moving.positions.register_reader() {
-            Ok(reader) => {
-                self.reader = Some(reader);
-                Ok(())
-            }
-            Err(_) => bail!("out of memory"),
-        }
+        self.reader = Some(reader_of(&mut self.moving.positions)?);
+        Ok(())
     }
 
     /// What happened and was not read.
@@ -50,10 +76,7 @@ impl Watched {
         let Some(reader) = &self.reader else {
             bail!("no reader");
         };
-        match self.moving.positions.read(reader) {
-            Ok(events) => Ok(events),
-            Err(_) => bail!("no such reader"),
-        }
+        unread(&mut self.moving.positions, reader)
     }
 }
 
@@ -64,15 +87,13 @@ struct Modifies {
     passes: u64,
 }
 
-fn modify_all(moving: &mut Moving<FlaggedPosition>) {
-    let mut cursor = moving.positions.join_mut(&moving.velocities);
-    while let Some(_id) = cursor.next() {
-        if let Some(velocity) = cursor.beside() {
-            if let Ok(position) = cursor.item() {
-                position.0.advance_by(velocity.point());
-            }
-        }
-    }
+fn modify_all<P: Pointed, V: Pointed>(
+    positions: &mut MaskedStorage<P>,
+    velocities: &MaskedStorage<V>,
+) {
+    for_each(positions, velocities, |position: &mut P, velocity: &V| {
+        position.point_mut().advance_by(velocity.point());
+    });
 }
 
 fn modified_sum(events: &[ComponentEvent]) -> u64 {
@@ -97,7 +118,7 @@ impl Workload for Modifies {
 
     fn prepare(&self, _alloc: Global, state: &mut Watched) -> Result<()> {
         state.populate(self.count)?;
-        modify_all(&mut state.moving);
+        modify_all(&mut state.moving.positions, &state.moving.velocities);
         let _ = state.read()?;
         Ok(())
     }
@@ -105,7 +126,7 @@ impl Workload for Modifies {
     fn work(&self, state: &mut Watched) -> Result<u64> {
         let mut sum: u64 = 0;
         for _pass in 0..self.passes {
-            modify_all(&mut state.moving);
+            modify_all(&mut state.moving.positions, &state.moving.velocities);
             sum = mix(sum, modified_sum(state.read()?.as_slice()));
         }
         Ok(sum)

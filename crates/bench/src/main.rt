@@ -18,6 +18,7 @@ mod random;
 mod saving;
 mod sets;
 mod threads;
+mod walk;
 mod workload;
 mod worlds;
 

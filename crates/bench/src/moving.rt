@@ -11,11 +11,20 @@ use storages::{
 };
 
 /// Entities, with a storage of positions and one of velocities.
-#[derive(Drop)]
 pub struct Moving<P: Pointed> {
     pub entities: EntitiesRes,
     pub positions: MaskedStorage<P>,
     pub velocities: MaskedStorage<VecVelocity>,
+}
+
+impl<P: Pointed> Drop for Moving<P> {
+    fn drop(self) {
+        let Moving {
+            entities: _entities,
+            positions: _positions,
+            velocities: _velocities,
+        } = self;
+    }
 }
 
 impl<P: Pointed> Fresh for Moving<P> {
@@ -62,6 +71,14 @@ pub fn living_sum(entities: &EntitiesRes, count: u32) -> u64 {
     sum
 }
 
+/// Takes the components of entities out of a storage.
+#[inline]
+fn drop_from<S: AnyStorage>(storage: &mut S, list: &[Entity]) -> Result<()> {
+    storage.reserve_drop(list)?;
+    storage.drop(list);
+    Ok(())
+}
+
 impl<P: Pointed> Moving<P> {
     /// An entity of its own, with both components.
     #[inline]
@@ -84,11 +101,8 @@ impl<P: Pointed> Moving<P> {
 
     /// Takes the components of entities out.
     pub fn strip(&mut self, list: &[Entity]) -> Result<()> {
-        AnyStorage::reserve_drop(&mut self.positions, list)?;
-        AnyStorage::drop(&mut self.positions, list);
-        AnyStorage::reserve_drop(&mut self.velocities, list)?;
-        AnyStorage::drop(&mut self.velocities, list);
-        Ok(())
+        drop_from(&mut self.positions, list)?;
+        drop_from(&mut self.velocities, list)
     }
 
     /// A checksum of the entities below `count` that have a position, ascending, with their positions.

@@ -1,10 +1,11 @@
 //! Components that are updated in threads, as many as there are processors that the program may use.
+ghost use Rattle.std.specs.Borrow.{Bor};
 
 use crate::fresh::Fresh;
 use crate::workload::{Best, Plan};
 use anyhow::{Result, bail};
 use hibits::{BitSetAll, Index};
-use joins::{Join, JoinMut};
+use joins::{Join, JoinMut, Lookup, RepeatableJoin};
 use joins_parallel::{par_for_each, par_update};
 use std::alloc::{Alloc, Global};
 use std::io::Print;
@@ -87,6 +88,27 @@ fn sum_of<T: Seeded>(storage: &MaskedStorage<T>) -> u64 {
     sum
 }
 
+/// Replaces components in threads, of whatever type: a call at a known one is slow to prove.
+#[inline]
+pub fn update<
+    T: Component<Storage: UnprotectedStorage<T>> + Drop + Send + Sync,
+    J: RepeatableJoin,
+    F: Fn(&T, J::Type) -> Option<T> + Sync + Drop,
+>(
+    rt: &(impl Threads + Alloc<A = Global> + Sync),
+    storage: &mut MaskedStorage<T>,
+    join: J,
+    f: F,
+) -> Result<()>
+where
+    T::Storage: Sync,
+    J::Value: Lookup<J::Type> + Sync,
+    requires { (x : Bor T) (z : J.Type) → F.pre f x z }
+{
+    par_update(rt, storage, join, f)?;
+    Ok(())
+}
+
 /// Runs the rounds on each seed, so often, and sums what each time makes.
 fn run_rounds(
     rt: &(impl Threads + Alloc<A = Global> + Sync),
@@ -95,7 +117,7 @@ fn run_rounds(
 ) -> Result<u64> {
     let mut sum: u64 = 0;
     for _pass in 0..passes {
-        par_update(
+        update(
             rt,
             storage,
             BitSetAll,

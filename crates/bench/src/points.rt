@@ -44,9 +44,9 @@ impl Point {
         Point::new(1.0, 0.5, (number % 4) as f32 * 0.25)
     }
 
-    // Adds one to the first number.
+    /// Adds one to the first number.
     #[inline]
-    fn advance(&mut self) {
+    pub fn advance(&mut self) {
         let x = self.x + 1.0;
         if !x.is_nan() {
             self.x = x;
@@ -80,8 +80,8 @@ pub trait Pointed: Component<Storage: UnprotectedStorage<Self>> + Copy + Drop {
     /// The point.
     fn point(self) -> Point;
 
-    /// Adds one to the first number.
-    fn advance(&mut self);
+    /// The point, to change it.
+    fn point_mut(&mut self) -> &mut Point;
 }
 
 /// A position in a `VecStorage`.
@@ -94,7 +94,7 @@ pub struct VecVelocity(Point);
 
 /// A position in a `VecStorage` that tells of its changes.
 #[derive(Clone, Copy)]
-pub struct FlaggedPosition(pub Point);
+pub struct FlaggedPosition(Point);
 
 impl Component for FlaggedPosition {
     type Storage = FlaggedStorage<Self, VecStorage<Self>>;
@@ -144,8 +144,8 @@ impl Pointed for VecPosition {
     }
 
     #[inline]
-    fn advance(&mut self) {
-        self.0.advance();
+    fn point_mut(&mut self) -> &mut Point {
+        &mut self.0
     }
 }
 
@@ -161,8 +161,8 @@ impl Pointed for VecVelocity {
     }
 
     #[inline]
-    fn advance(&mut self) {
-        self.0.advance();
+    fn point_mut(&mut self) -> &mut Point {
+        &mut self.0
     }
 }
 
@@ -178,8 +178,8 @@ impl Pointed for DensePosition {
     }
 
     #[inline]
-    fn advance(&mut self) {
-        self.0.advance();
+    fn point_mut(&mut self) -> &mut Point {
+        &mut self.0
     }
 }
 
@@ -195,8 +195,8 @@ impl Pointed for DenseVelocity {
     }
 
     #[inline]
-    fn advance(&mut self) {
-        self.0.advance();
+    fn point_mut(&mut self) -> &mut Point {
+        &mut self.0
     }
 }
 
@@ -212,8 +212,8 @@ impl Pointed for HashPosition {
     }
 
     #[inline]
-    fn advance(&mut self) {
-        self.0.advance();
+    fn point_mut(&mut self) -> &mut Point {
+        &mut self.0
     }
 }
 
@@ -229,8 +229,8 @@ impl Pointed for FlaggedPosition {
     }
 
     #[inline]
-    fn advance(&mut self) {
-        self.0.advance();
+    fn point_mut(&mut self) -> &mut Point {
+        &mut self.0
     }
 }
 

@@ -1,19 +1,22 @@
 //! Entities with a place, a link and a marker each, saved as a text and loaded from it.
+ghost use Rattle.std.specs.Prelude.{◌≡◌};
 
 use crate::fresh::Fresh;
 use crate::links::{Link, X, Y};
+use crate::moving::give;
 use crate::random::mix;
 use crate::workload::{Plan, Workload, report};
 use anyhow::{Result, bail};
 use entities::{EntitiesRes, Entity};
 use saveload::{
-    EntityData, Marker, MarkerAllocator, SimpleMarker, SimpleMarkerAllocator, deserialize,
-    from_json, serialize_to_json,
+    DeserializeComponents, EntityData, JsonData, JsonPlaces, Marker, MarkerAllocator,
+    SerializeComponents, SimpleMarker, SimpleMarkerAllocator, deserialize, from_json,
+    serialize_to_json,
 };
 use std::alloc::Global;
 use std::io::Print;
 use std::time::Clock;
-use storages::{Component, MaskedStorage, ReadStorage, UnprotectedStorage, WriteStorage};
+use storages::{MaskedStorage, ReadStorage, WriteStorage};
 
 /// A kind of markers.
 #[derive(Clone, Copy)]
@@ -21,11 +24,7 @@ struct Net;
 
 type Mark = SimpleMarker<Net>;
 
-/// What is saved of an entity.
-type Record = EntityData<Mark, (Option<X>, Option<Y>, Option<Mark>)>;
-
 /// Entities, with what is stored for them.
-#[derive(Drop)]
 struct Level {
     entities: EntitiesRes,
     xs: MaskedStorage<X>,
@@ -33,6 +32,19 @@ struct Level {
     links: MaskedStorage<Link>,
     marks: MaskedStorage<Mark>,
     marker: SimpleMarkerAllocator<Net>,
+}
+
+impl Drop for Level {
+    fn drop(self) {
+        let Level {
+            entities: _entities,
+            xs: _xs,
+            ys: _ys,
+            links: _links,
+            marks: _marks,
+            marker: _marker,
+        } = self;
+    }
 }
 
 impl Fresh for Level {
@@ -51,11 +63,20 @@ impl Fresh for Level {
 }
 
 /// One level that is saved and one that is loaded, with the text.
-#[derive(Drop)]
 struct Levels {
     old: Level,
     new: Level,
     text: Option<String>,
+}
+
+impl Drop for Levels {
+    fn drop(self) {
+        let Levels {
+            old: _old,
+            new: _new,
+            text: _text,
+        } = self;
+    }
 }
 
 impl Fresh for Levels {
@@ -66,22 +87,6 @@ impl Fresh for Levels {
             text: None,
         })
     }
-}
-
-/// Gives a component to an entity.
-fn give<T: Component<Storage: UnprotectedStorage<T>> + Drop>(
-    entities: &EntitiesRes,
-    storage: &mut MaskedStorage<T>,
-    entity: Entity,
-    component: T,
-) -> Result<()> {
-    if WriteStorage::new(entities, storage)
-        .insert(entity, component)
-        .is_err()
-    {
-        bail!("no component was inserted");
-    }
-    Ok(())
 }
 
 /// An entity with a place and a marker.
@@ -116,6 +121,19 @@ fn fill(level: &mut Level, count: u32) -> Result<()> {
     Ok(())
 }
 
+/// The text of what is stored, of whatever component types: a call at known ones is slow to prove.
+#[inline]
+fn text_of<M: Marker + Copy + JsonData, P: SerializeComponents<M>>(
+    alloc: Global,
+    places: &P,
+    marks: &ReadStorage<'_, M>,
+) -> Result<String>
+where
+    P::Data: JsonPlaces,
+{
+    Ok(serialize_to_json(alloc, places, marks)?)
+}
+
 /// The text of a level.
 fn save(level: &Level, alloc: Global) -> Result<String> {
     let places = (
@@ -124,22 +142,40 @@ fn save(level: &Level, alloc: Global) -> Result<String> {
         ReadStorage::new(&level.entities, &level.links),
     );
     let marks = ReadStorage::new(&level.entities, &level.marks);
-    Ok(serialize_to_json(alloc, &places, &marks)?)
+    text_of(alloc, &places, &marks)
 }
 
-/// Takes a text's entities up in a level, with the merge of their births.
+/// Takes a text's entities up, with the merge of their births.
+#[inline]
+fn take_up<M: Marker + JsonData, P: DeserializeComponents<M>>(
+    alloc: Global,
+    places: &mut P,
+    entities: &mut EntitiesRes,
+    marks: &mut MaskedStorage<M>,
+    marker: &mut M::Allocator,
+    text: &str,
+) -> Result<()>
+where
+    M::Allocator: MarkerAllocator<M>,
+    P::Data: JsonPlaces,
+    requires { (m n : M) → M.is_clone m n → m ≡ n }
+{
+    let list: Vec<EntityData<M, P::Data>> = from_json(alloc, text)?;
+    deserialize(alloc, places, entities, marks, marker, list)?;
+    let _ = entities.alloc_mut().merge(alloc)?;
+    Ok(())
+}
+
+/// Takes a text's entities up in a level.
 fn load(level: &mut Level, alloc: Global, text: &str) -> Result<()> {
-    let list: Vec<Record> = from_json(alloc, text)?;
-    deserialize(
+    take_up(
         alloc,
         &mut (&mut level.xs, &mut level.ys, &mut level.links),
         &mut level.entities,
         &mut level.marks,
         &mut level.marker,
-        list,
-    )?;
-    let _ = level.entities.alloc_mut().merge(alloc)?;
-    Ok(())
+        text,
+    )
 }
 
 /// A checksum's step for an entity, with where its link goes.

@@ -17,10 +17,18 @@ struct Adds {
 }
 
 /// A set that grows, and the indices to add.
-#[derive(Drop)]
 struct Growing {
     set: BitSet,
     list: Vec<u32>,
+}
+
+impl Drop for Growing {
+    fn drop(self) {
+        let Growing {
+            set: _set,
+            list: _list,
+        } = self;
+    }
 }
 
 impl Fresh for Growing {
@@ -95,10 +103,18 @@ fn walk_once(a: &BitSet, b: &BitSet) -> u64 {
 }
 
 /// Two sets.
-#[derive(Drop)]
 struct TwoSets {
     first: BitSet,
     second: BitSet,
+}
+
+impl Drop for TwoSets {
+    fn drop(self) {
+        let TwoSets {
+            first: _first,
+            second: _second,
+        } = self;
+    }
 }
 
 impl Fresh for TwoSets {

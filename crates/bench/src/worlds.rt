@@ -8,23 +8,28 @@ use crate::workload::{Plan, Workload, report};
 use anyhow::{Result, bail};
 use composed::{Empty, Of2};
 use entities::Entity;
-use specs::{Builder, Has, Storages, World, value};
+use specs::{Builder, EntityBuilder, Has, Held, LazyBuilder, Storages, World, value};
 use std::alloc::Global;
 use std::io::Print;
 use std::marker::PhantomData;
 use std::time::Clock;
 
+/// How entities die.
+#[derive(Clone, Copy)]
+enum Way {
+    /// All by one call.
+    Bulk,
+    /// By a call each.
+    OneByOne,
+    /// By marks, and a merge.
+    Marked,
+}
+
 /// What is timed.
 #[derive(Clone, Copy)]
 enum Task {
-    /// Entities are built with two components each.
-    Create,
-    /// Half of them die by one call, and as many are built.
-    DeleteBulk,
-    /// The same by a call each.
-    DeleteOne,
-    /// The same by marks and a merge.
-    DeleteMarked,
+    /// Half of the entities die, and as many are built.
+    Delete(Way),
     /// A storage is looked up by its component type.
     Fetch,
     /// A position for each is queued, and put.
@@ -35,6 +40,13 @@ enum Task {
 
 /// The type of a world's storages, with those of positions and of velocities at two places.
 type Kinds<P, I, V, J, S> = PhantomData<(P, I, V, J, S)>;
+
+/// So many entities are built with two components each.
+#[derive(Drop)]
+struct Births<P, I, V, J, S> {
+    count: u32,
+    kinds: Kinds<P, I, V, J, S>,
+}
 
 /// A task in worlds of so many entities.
 #[derive(Drop)]
@@ -52,21 +64,27 @@ impl<S: Empty + Drop> Fresh for World<S> {
     }
 }
 
+/// The builder, with a component.
+#[inline]
+fn given<'a, T: Pointed, I, S: Has<T, I>>(
+    builder: EntityBuilder<'a, S>,
+    component: T,
+) -> Result<EntityBuilder<'a, S>> {
+    match builder.with(component) {
+        Ok(builder) => Ok(builder),
+        Err(_) => bail!("no component was inserted"),
+    }
+}
+
 /// An entity with both components.
 fn bear<P: Pointed, I, V: Pointed, J, S: Has<P, I> + Has<V, J>>(
     world: &mut World<S>,
     position: u32,
     velocity: u32,
 ) -> Result<Entity> {
-    let Ok(builder) = world
-        .create_entity()?
-        .with(P::of(Point::position(position)))
-    else {
-        bail!("no position was inserted");
-    };
-    let Ok(builder) = builder.with(V::of(Point::velocity(velocity))) else {
-        bail!("no velocity was inserted");
-    };
+    let builder = world.create_entity()?;
+    let builder = given::<P, I, S>(builder, P::of(Point::position(position)))?;
+    let builder = given::<V, J, S>(builder, V::of(Point::velocity(velocity)))?;
     Ok(builder.build())
 }
 
@@ -88,19 +106,14 @@ fn populate_velocities<V: Pointed, J, S: Has<V, J>>(
     count: u32,
 ) -> Result<()> {
     for number in 0..count {
-        let Ok(builder) = state
-            .0
-            .create_entity()?
-            .with(V::of(Point::velocity(number)))
-        else {
-            bail!("no velocity was inserted");
-        };
+        let builder = state.0.create_entity()?;
+        let builder = given::<V, J, S>(builder, V::of(Point::velocity(number)))?;
         state.1.push(builder.build())?;
     }
     Ok(())
 }
 
-fn delete_each<S: Empty + Storages>(state: &mut State<S>) -> Result<()> {
+fn delete_each<S: Storages>(state: &mut State<S>) -> Result<()> {
     for entity in state.1.as_slice() {
         if state.0.delete_entity(*entity).is_err() {
             bail!("no entity was deleted");
@@ -109,14 +122,14 @@ fn delete_each<S: Empty + Storages>(state: &mut State<S>) -> Result<()> {
     Ok(())
 }
 
-fn delete_bulk<S: Empty + Storages>(state: &mut State<S>) -> Result<()> {
+fn delete_bulk<S: Storages>(state: &mut State<S>) -> Result<()> {
     if state.0.delete_entities(state.1.as_slice()).is_err() {
         bail!("no entity was deleted");
     }
     Ok(())
 }
 
-fn delete_marked<S: Empty + Storages>(state: &mut State<S>) -> Result<()> {
+fn delete_marked<S: Storages>(state: &mut State<S>) -> Result<()> {
     for entity in state.1.as_slice() {
         state.0.parts().core.parts().entities.delete(*entity)?;
     }
@@ -168,6 +181,18 @@ fn insert_lazily<P: Pointed, I, S: Storages + Has<P, I>>(state: &mut State<S>) -
     Ok(())
 }
 
+/// The builder, with a value that is queued.
+#[inline]
+fn given_lazily<'a, S: Held, K: Drop>(
+    builder: LazyBuilder<'a, S, K>,
+    value: S::Value,
+) -> Result<LazyBuilder<'a, S, K>> {
+    match builder.with_value(value) {
+        Ok(builder) => Ok(builder),
+        Err(_) => bail!("no job was queued"),
+    }
+}
+
 /// A lazy birth with both components.
 fn bear_lazily<P: Pointed, I, V: Pointed, J, S: Has<P, I> + Has<V, J>>(
     world: &mut World<S>,
@@ -175,12 +200,8 @@ fn bear_lazily<P: Pointed, I, V: Pointed, J, S: Has<P, I> + Has<V, J>>(
 ) -> Result<()> {
     let position = value::<P, S, I>(P::of(Point::position(number)));
     let velocity = value::<V, S, J>(V::of(Point::velocity(number)));
-    let Ok(builder) = world.parts().create_entity()?.with(position) else {
-        bail!("no job was queued");
-    };
-    let Ok(builder) = builder.with(velocity) else {
-        bail!("no job was queued");
-    };
+    let builder = given_lazily(world.parts().create_entity()?, position)?;
+    let builder = given_lazily(builder, velocity)?;
     let _ = builder.build();
     Ok(())
 }
@@ -210,97 +231,176 @@ fn sum_of<P: Pointed, I, S: Has<P, I>>(world: &World<S>, count: u32) -> Result<u
     Ok(sum)
 }
 
+/// The same, or 0 where positions are not registered.
+fn checksum_of<P: Pointed, I, S: Has<P, I>>(world: &World<S>, count: u32) -> u64 {
+    match sum_of::<P, I, S>(world, count) {
+        Ok(sum) => sum,
+        Err(_) => 0,
+    }
+}
+
+/// Registers both component types.
+fn register<P: Pointed, I, V: Pointed, J, S: Has<P, I> + Has<V, J>>(
+    world: &mut World<S>,
+) -> Result<()> {
+    world.register::<P, I>()?;
+    world.register::<V, J>()?;
+    Ok(())
+}
+
+impl<P: Pointed, I, V: Pointed, J, S: Empty + Has<P, I> + Has<V, J> + Drop> Workload
+    for Births<P, I, V, J, S> {
+    type State = World<S>;
+
+    fn operations(&self) -> u64 {
+        u64::from(self.count)
+    }
+
+    fn prepare(&self, _alloc: Global, state: &mut World<S>) -> Result<()> {
+        register::<P, I, V, J, S>(state)
+    }
+
+    fn work(&self, state: &mut World<S>) -> Result<u64> {
+        create::<P, I, V, J, S>(state, self.count)?;
+        Ok(0)
+    }
+
+    fn checksum(&self, state: &World<S>, _answer: u64) -> u64 {
+        checksum_of::<P, I, S>(state, self.count)
+    }
+}
+
+/// So many entities, of which half are to die, at random.
+fn populate_doomed<P: Pointed, I, V: Pointed, J, S: Has<P, I> + Has<V, J>>(
+    state: &mut State<S>,
+    count: u32,
+) -> Result<()> {
+    populate::<P, I, V, J, S>(state, count)?;
+    Random::new().shuffle(&mut state.1);
+    state.1.truncate((count / 2) as usize);
+    Ok(())
+}
+
+/// Those of a list die, and as many are born.
+fn delete_and_bear<P: Pointed, I, V: Pointed, J, S: Storages + Has<P, I> + Has<V, J>>(
+    state: &mut State<S>,
+    count: u32,
+    way: Way,
+) -> Result<()> {
+    match way {
+        Way::Bulk => delete_bulk(state)?,
+        Way::OneByOne => delete_each(state)?,
+        Way::Marked => delete_marked(state)?,
+    }
+    bear_again::<P, I, V, J, S>(&mut state.0, count)
+}
+
 impl<P: Pointed, I, V: Pointed, J, S: Empty + Storages + Has<P, I> + Has<V, J> + Drop> Workload
     for InWorld<P, I, V, J, S> {
     type State = State<S>;
 
     fn operations(&self) -> u64 {
         match self.task {
-            Task::DeleteBulk | Task::DeleteOne | Task::DeleteMarked => u64::from(
-                self.count / 2 * 2,
-            ),
+            Task::Delete(_) => u64::from(self.count / 2 * 2),
             _ => u64::from(self.count),
         }
     }
 
     fn prepare(&self, _alloc: Global, state: &mut State<S>) -> Result<()> {
-        state.0.register::<P, I>()?;
-        state.0.register::<V, J>()?;
+        register::<P, I, V, J, S>(&mut state.0)?;
         match self.task {
-            Task::Create | Task::LazyCreate => Ok(()),
+            Task::LazyCreate => Ok(()),
             Task::Fetch => populate::<P, I, V, J, S>(state, 1),
             Task::LazyInsert => populate_velocities::<V, J, S>(state, self.count),
-            Task::DeleteBulk | Task::DeleteOne | Task::DeleteMarked => {
-                populate::<P, I, V, J, S>(state, self.count)?;
-                Random::new().shuffle(&mut state.1);
-                state.1.truncate((self.count / 2) as usize);
-                Ok(())
-            }
+            Task::Delete(_) => populate_doomed::<P, I, V, J, S>(state, self.count),
         }
     }
 
     fn work(&self, state: &mut State<S>) -> Result<u64> {
         match self.task {
-            Task::Create => create::<P, I, V, J, S>(&mut state.0, self.count)?,
             Task::LazyCreate => create_lazily::<P, I, V, J, S>(&mut state.0, self.count)?,
             Task::LazyInsert => insert_lazily::<P, I, S>(state)?,
             Task::Fetch => return fetch::<P, I, S>(&state.0, self.count),
-            Task::DeleteBulk => delete_bulk(state)?,
-            Task::DeleteOne => delete_each(state)?,
-            Task::DeleteMarked => delete_marked(state)?,
-        }
-        if let Task::DeleteBulk | Task::DeleteOne | Task::DeleteMarked = self.task {
-            bear_again::<P, I, V, J, S>(&mut state.0, self.count)?;
+            Task::Delete(way) => delete_and_bear::<P, I, V, J, S>(state, self.count, way)?,
         }
         Ok(0)
     }
 
     fn checksum(&self, state: &State<S>, _answer: u64) -> u64 {
-        match sum_of::<P, I, S>(&state.0, self.count) {
-            Ok(sum) => sum,
-            Err(_) => 0,
-        }
+        checksum_of::<P, I, S>(&state.0, self.count)
     }
 }
 
-/// Reports on a task.
-fn tell<P: Pointed, I, V: Pointed, J, S: Empty + Storages + Has<P, I> + Has<V, J> + Drop>(
+/// Reports on births in worlds of whatever storages have both component types.
+fn tell_births<P: Pointed, I, V: Pointed, J, S: Empty + Has<P, I> + Has<V, J> + Drop>(
     rt: &(impl Clock + Print),
     alloc: Global,
     plan: &Plan,
     prefix: &str,
     name: &str,
-    task: Task,
 ) -> Result<()> {
-    let workload = InWorld::<P, I, V, J, S> {
-        task,
+    let workload = Births::<P, I, V, J, S> {
         count: plan.count,
         kinds: PhantomData,
     };
     report(rt, alloc, plan, prefix, name, &workload)
 }
 
-/// Reports on each.
-pub fn run(rt: &(impl Clock + Print), alloc: Global, plan: &Plan, prefix: &str) -> Result<()> {
+/// Reports on each task.
+fn tell_tasks<P: Pointed, I, V: Pointed, J, S: Empty + Storages + Has<P, I> + Has<V, J> + Drop>(
+    rt: &(impl Clock + Print),
+    alloc: Global,
+    plan: &Plan,
+    prefix: &str,
+) -> Result<()> {
     for (name, task) in [
-        ("a_create2_vec", Task::Create),
-        ("g_delete_bulk_recreate", Task::DeleteBulk),
-        ("g_delete_one_recreate", Task::DeleteOne),
-        ("g_delete_atomic_recreate", Task::DeleteMarked),
+        ("g_delete_bulk_recreate", Task::Delete(Way::Bulk)),
+        ("g_delete_one_recreate", Task::Delete(Way::OneByOne)),
+        ("g_delete_atomic_recreate", Task::Delete(Way::Marked)),
         ("m_lazy_insert_maintain", Task::LazyInsert),
         ("m_lazy_create_maintain", Task::LazyCreate),
         ("z_fetch_read_storage", Task::Fetch),
     ] {
-        tell::<VecPosition, _, VecVelocity, _, Of2<VecPosition, VecVelocity>>(
-            rt, alloc, plan, prefix, name, task,
-        )?;
+        let workload = InWorld::<P, I, V, J, S> {
+            task,
+            count: plan.count,
+            kinds: PhantomData,
+        };
+        report(rt, alloc, plan, prefix, name, &workload)?;
     }
-    tell::<DensePosition, _, DenseVelocity, _, Of2<DensePosition, DenseVelocity>>(
+    Ok(())
+}
+
+/// Reports on births and on each task.
+fn tell<P: Pointed, I, V: Pointed, J, S: Empty + Storages + Has<P, I> + Has<V, J> + Drop>(
+    rt: &(impl Clock + Print),
+    alloc: Global,
+    plan: &Plan,
+    prefix: &str,
+) -> Result<()> {
+    tell_births::<P, I, V, J, S>(rt, alloc, plan, prefix, "a_create2_vec")?;
+    tell_tasks::<P, I, V, J, S>(rt, alloc, plan, prefix)
+}
+
+/// Reports on worlds of positions and velocities in vectors. The storages are known here alone, in one call that does the rest: it is slow to
+/// prove.
+fn tell_vec(rt: &(impl Clock + Print), alloc: Global, plan: &Plan, prefix: &str) -> Result<()> {
+    tell::<VecPosition, _, VecVelocity, _, Of2<VecPosition, VecVelocity>>(rt, alloc, plan, prefix)
+}
+
+/// Reports on births in worlds of dense ones.
+fn tell_dense(rt: &(impl Clock + Print), alloc: Global, plan: &Plan, prefix: &str) -> Result<()> {
+    tell_births::<DensePosition, _, DenseVelocity, _, Of2<DensePosition, DenseVelocity>>(
         rt,
         alloc,
         plan,
         prefix,
         "a_create2_dense",
-        Task::Create,
     )
+}
+
+/// Reports on each.
+pub fn run(rt: &(impl Clock + Print), alloc: Global, plan: &Plan, prefix: &str) -> Result<()> {
+    tell_vec(rt, alloc, plan, prefix)?;
+    tell_dense(rt, alloc, plan, prefix)
 }

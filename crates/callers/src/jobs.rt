@@ -1,16 +1,19 @@
 //! Jobs of a user's: one that queues itself, one that queues an insertion, and one that makes an entity with a component.
-ghost use Rattle.std.specs.Prelude.{◌≡◌, ◌∷◌, [], ◌++◌, false, IfOk, OnOk, OnErr};
+ghost use Rattle.std.specs.Prelude.{◌≡◌, ◌∷◌, [], ◌++◌, false, Some, IfOk, IfErr, OnOk, OnErr};
+ghost use Rattle.entities.specs.declared.entity.Entity.{Entity as AnEntity};
 ghost use Rattle.entities.specs.Population.{born};
 ghost use Rattle.specs.specs.People.{Births};
 ghost use Rattle.specs.specs.State.{State, core_state, OnPeople};
 ghost use Rattle.specs.specs.Steps.{world_state};
-ghost use Rattle.specs.specs.declared.job.Job.TheVariants.{Own};
+ghost use Rattle.specs.specs.Queue.{queued};
+ghost use Rattle.specs.specs.declared.job.Job.TheVariants.{Insert, Own};
 ghost use Rattle.callers.specs.Spreads.{Given};
 
 use specs::{
-    Core, CreateError, Entity, Held, LazyUpdate, Maintained, Parts, Storages, World, WorldJob,
+    Core, CreateError, Entity, Held, Job, JobList, LazyUpdate, Maintained, Parts, Storages, World,
+    WorldJob,
 };
-use std::alloc::AllocError;
+use std::alloc::{AllocError, Global};
 
 /// Queues itself, so it runs again at each turn.
 #[derive(Drop)]
@@ -153,6 +156,48 @@ pub fn queue<S: Storages, J: WorldJob<S>>(
     ensures err { OnErr result (world_state S.table S.ids world.new ≡ world_state S.table S.ids world.old) }
 {
     world.parts().lazy.exec(job)
+}
+
+// The value of an insertion.
+fn value_in<S: Held, J: Drop>(job: Option<Job<S, J>>) -> S::Value
+    requires { (e : AnEntity) × (v : S.Value) × (job ≡ Some (Insert e v)) }
+    ensures { (e : AnEntity) (v : S.Value) → job ≡ Some (Insert e v) → result ≡ v }
+{
+    match job {
+        Some(Job::Insert(_, value)) => value,
+        _ => unreachable!(),
+    }
+}
+
+/// Two insertions are queued, or none, and then both values come back.
+pub fn queue_both<S: Held, J: Drop>(
+    alloc: Global,
+    queue: &mut LazyUpdate<S, J>,
+    entity: Entity,
+    first: S::Value,
+    second: S::Value,
+) -> Result<(), (S::Value, S::Value, AllocError)>
+    ensures ok { OnOk result (queued queue.new ≡ queued queue.old ++ Insert entity first ∷ Insert entity second ∷ []) }
+    ensures first { IfErr result (λ r. r.0 ≡ first) }
+    ensures second { IfErr result (λ r. r.1 ≡ second) }
+    ensures err { OnErr result (queued queue.new ≡ queued queue.old) }
+{
+    let mut list = JobList::new(alloc);
+    if let Err((job, refused)) = list.push(Job::Insert(entity, first)) {
+        return Err((value_in(Some(job)), second, refused));
+    }
+    if let Err((job, refused)) = list.push(Job::Insert(entity, second)) {
+        let first = value_in(list.pop_front());
+        return Err((first, value_in(Some(job)), refused));
+    }
+    match queue.append(list) {
+        Ok(()) => Ok(()),
+        Err((mut list, refused)) => {
+            let first = value_in(list.pop_front());
+            let second = value_in(list.pop_front());
+            Err((first, second, refused))
+        }
+    }
 }
 
 /// A job that takes no memory stops no run: where it is the only one that waits, it is done.

@@ -9,13 +9,12 @@ ghost use Rattle.entities.specs.Population.{index_of, IsAlive};
 ghost use Rattle.storages.specs.Slot.{indices_of};
 
 use crate::components::Health;
-use entities::{EntitiesRes, Entity};
-use hibits::{BitSet, BitSetAll, BitSetLike, INDEX_LIMIT, Index};
-use joins::{BitAnd, Join};
-use joins_parallel::{ParJoin, par_update};
+use composed::{
+    BitAnd, BitSet, BitSetAll, BitSetLike, EntitiesRes, Entity, INDEX_LIMIT, Index, Join,
+    MaskedStorage, ParJoin, par_update,
+};
 use std::alloc::{Alloc, AllocError, Global};
 use std::thread::Threads;
-use storages::MaskedStorage;
 
 /// A join gives what an entity has that is alive.
 pub fn points_at(healths: &MaskedStorage<Health>, entities: &EntitiesRes, e: Entity) -> Option<u32>

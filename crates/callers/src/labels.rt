@@ -67,7 +67,7 @@ pub fn queued_with<S: Storages, J: WorldJob<S>>(
     let Ok(builder) = parts.create_entity() else {
         return None;
     };
-    let Ok(builder) = builder.with(value) else {
+    let Ok(builder) = builder.with_value(value) else {
         return None;
     };
     let Ok(builder) = builder.marked(slot) else {

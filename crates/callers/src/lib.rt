@@ -1,4 +1,4 @@
-//! Callers of the libraries, as a user would write them: each is proved from the public contracts alone, and all but eight functions with
+//! Callers of the libraries, as a user would write them: each is proved from the public contracts alone, and all but nine functions with
 //! no proof file. What one of them could not prove would be a hole in a contract.
 #![tactic(auto)]
 
@@ -11,44 +11,117 @@ mod entries;
 mod jobs;
 mod joined;
 mod labels;
+mod lasting;
 mod own_world;
 mod phases;
 mod placed;
+mod readers;
 mod saving;
 mod sets;
 mod spots;
+mod traits;
 mod typed;
 mod views;
 mod worlds;
 
-pub use causes::{saved_without_causes, taken_up_without_causes};
-pub use changes::{all_changes_are, first_change};
-pub use channels::{heard, read_twice, told};
-pub use components::{
-    Health, dead_and_gone, healths, hit, inserted_and_found, no_healths, removed_beside,
-    taken_and_gone, viewed_twice,
-};
-pub use cursors::{
-    Shield, all_have, all_taken, first_has, first_in_view_has, first_living_has, first_low_healed,
-    first_taken, first_two_beside, next_pair_has,
-};
-pub use entries::{ninety_at, taken, three_and_found};
-pub use jobs::{Again, Late, Spread, queue};
-pub use joined::{all_healed, all_points, counted, in_both, points_at, same_again, words_for_one};
-pub use labels::{born_labelled, has_used_up, labelled, queued_with};
-pub use own_world::{
-    Frozen, Game, Leader, Load, Parts, Place, Speed, load_slot, loaded, moved_and_found, new_game,
-    put_and_found,
-};
-pub use phases::{marked_at_closing, sees_its_own, two_births};
+pub use causes::saved_without_causes;
+pub use causes::taken_up_without_causes;
+pub use changes::all_changes_are;
+pub use changes::first_change;
+pub use channels::heard;
+pub use channels::read_twice;
+pub use channels::told;
+pub use components::Health;
+pub use components::dead_and_gone;
+pub use components::healths;
+pub use components::hit;
+pub use components::inserted_and_found;
+pub use components::no_healths;
+pub use components::removed_beside;
+pub use components::taken_and_gone;
+pub use components::viewed_twice;
+pub use cursors::Shield;
+pub use cursors::all_have;
+pub use cursors::all_taken;
+pub use cursors::first_has;
+pub use cursors::first_in_view_has;
+pub use cursors::first_living_has;
+pub use cursors::first_low_healed;
+pub use cursors::first_taken;
+pub use cursors::first_two_beside;
+pub use cursors::next_pair_has;
+pub use entries::ninety_at;
+pub use entries::taken;
+pub use entries::three_and_found;
+pub use jobs::Again;
+pub use jobs::Late;
+pub use jobs::Spread;
+pub use jobs::queue;
+pub use jobs::queue_both;
+pub use joined::all_healed;
+pub use joined::all_points;
+pub use joined::counted;
+pub use joined::in_both;
+pub use joined::points_at;
+pub use joined::same_again;
+pub use joined::words_for_one;
+pub use labels::born_labelled;
+pub use labels::has_used_up;
+pub use labels::labelled;
+pub use labels::queued_with;
+pub use lasting::built_and_dropped;
+pub use lasting::dead_for_good;
+pub use lasting::followed;
+pub use lasting::lives_after_calls;
+pub use own_world::Frozen;
+pub use own_world::Game;
+pub use own_world::Leader;
+pub use own_world::Load;
+pub use own_world::Parts;
+pub use own_world::Place;
+pub use own_world::Speed;
+pub use own_world::load_slot;
+pub use own_world::loaded;
+pub use own_world::moved_and_found;
+pub use own_world::new_game;
+pub use own_world::put_and_found;
+pub use phases::marked_at_closing;
+pub use phases::sees_alive_again;
+pub use phases::sees_its_own;
+pub use phases::sees_its_own_mark;
+pub use phases::two_births;
 pub use placed::all_overwritten;
-pub use saving::{lacks_ids, stays_unmarked, taken_up};
-pub use sets::{
-    added_and_found, first_is_member, none_to_walk, one, others_stay, removed_and_gone,
-};
-pub use spots::{Spot, written_and_read};
-pub use typed::{
-    built_with, overwritten, stripped, two_written, written_and_found, written_in_world,
-};
-pub use views::{both_taken, ended_twice};
-pub use worlds::{Placed, deleted_is_gone, is_back, lived, new_world, position, removed_unheard};
+pub use readers::both_heard;
+pub use readers::insertion_heard;
+pub use readers::nothing_heard;
+pub use readers::read_before;
+pub use saving::lacks_ids;
+pub use saving::stays_unmarked;
+pub use saving::taken_up;
+pub use sets::added_and_found;
+pub use sets::first_is_member;
+pub use sets::none_to_walk;
+pub use sets::one;
+pub use sets::others_stay;
+pub use sets::removed_and_gone;
+pub use spots::Spot;
+pub use spots::written_and_read;
+pub use traits::dropped_and_gone;
+pub use traits::put_by_builder;
+pub use traits::slice_of;
+pub use typed::built_with;
+pub use typed::equal_by_value;
+pub use typed::overwritten;
+pub use typed::stripped;
+pub use typed::two_written;
+pub use typed::written_and_found;
+pub use typed::written_in_world;
+pub use views::both_taken;
+pub use views::ended_twice;
+pub use worlds::Placed;
+pub use worlds::deleted_is_gone;
+pub use worlds::is_back;
+pub use worlds::lived;
+pub use worlds::new_world;
+pub use worlds::position;
+pub use worlds::removed_unheard;

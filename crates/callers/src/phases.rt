@@ -44,7 +44,6 @@ pub fn marked_at_closing(alloc: Global, entities: &mut EntitiesRes, entity: Enti
 }
 
 /// A pass sees alive what it was given.
-#[tactic(auto, using(entities::specs::Phase::Laws::newly_given))]
 pub fn sees_its_own(shared: &Shared<'_>, pass: &mut Pass) -> bool
     requires opened { IsOpen (entities_of shared.now) (board_of shared.now) }
     requires pass { IsPassOf (board_of shared.now) pass.old }
@@ -52,6 +51,31 @@ pub fn sees_its_own(shared: &Shared<'_>, pass: &mut Pass) -> bool
 {
     match shared.create(pass) {
         Ok(entity) => shared.is_alive(pass, entity),
+        Err(_) => true,
+    }
+}
+
+/// Whom a pass saw alive it sees alive again.
+pub fn sees_alive_again(shared: &Shared<'_>, pass: &mut Pass, entity: Entity) -> bool
+    requires opened { IsOpen (entities_of shared.now) (board_of shared.now) }
+    requires pass { IsPassOf (board_of shared.now) pass.old }
+    ensures { result ≡ true }
+{
+    if shared.is_alive(pass, entity) {
+        shared.is_alive(pass, entity)
+    } else {
+        true
+    }
+}
+
+/// Whom a pass deleted it sees as one that dies, whatever it did in between.
+pub fn sees_its_own_mark(shared: &Shared<'_>, pass: &mut Pass, entity: Entity) -> bool
+    requires opened { IsOpen (entities_of shared.now) (board_of shared.now) }
+    requires pass { IsPassOf (board_of shared.now) pass.old }
+    ensures { result ≡ true }
+{
+    match shared.delete(pass, entity) {
+        Ok(()) => shared.pending(pass, entity),
         Err(_) => true,
     }
 }

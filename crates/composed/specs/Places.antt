@@ -57,3 +57,18 @@ pub idless_of_both : {K L : Type 0} (m : K → Bool) (n : L → Bool) (i : K →
     → (k : Either K L) → of_either m n k ≡ false → of_either i j k ≡ Some 0
 idless_of_both m n i j first rest (First k) h = first k h
 idless_of_both m n i j first rest (Rest l) h = rest l h
+
+abbrev first_or : {V W : Type 0} → V → Either V W → V
+first_or other (First v) = v
+first_or other (Rest w) = other
+
+abbrev rest_or : {V W : Type 0} → W → Either V W → W
+rest_or other (First v) = other
+rest_or other (Rest w) = w
+
+-- two in the first are one where they are one in the whole, and so are two in the rest
+pub of_first : {V W : Type 0} {v v' : V} → ◌≡◌ {A = Either V W} (First v) (First v') → v ≡ v'
+of_first {v} same = ap (first_or v) same
+
+pub of_rest : {V W : Type 0} {w w' : W} → ◌≡◌ {A = Either V W} (Rest w) (Rest w') → w ≡ w'
+of_rest {w} same = ap (rest_or w) same

@@ -5,7 +5,7 @@ ghost use Rattle.composed.specs.declared.either.Either.TheVariants.{First, Rest}
 
 use crate::either::Either;
 use hibits::BitSet;
-use specs::{ComponentEvent, EntitiesRes, Entity, Held, MarkError, ReaderId, Refusal, Storages};
+use specs::{ChannelCall, ChannelReply, EntitiesRes, Entity, Held, MarkError, Refusal, Storages};
 use std::alloc::{AllocError, Global};
 
 /// The storages of both. A call goes to the part that its slot or its value names, and costs what it costs there.
@@ -137,35 +137,14 @@ impl<A: Storages, B: Storages> Storages for Both<A, B> {
         }
     }
 
-    fn register_reader(&mut self, slot: Self::Slot) -> Result<ReaderId, Refusal> {
-        match slot {
-            Either::First(slot) => self.first.register_reader(slot),
-            Either::Rest(slot) => self.rest.register_reader(slot),
-        }
-    }
-
-    fn read(
+    fn call_channel(
         &mut self,
         slot: Self::Slot,
-        reader: &ReaderId,
-    ) -> Result<Vec<ComponentEvent>, Refusal> {
+        call: ChannelCall<'_>,
+    ) -> Result<ChannelReply, Refusal> {
         match slot {
-            Either::First(slot) => self.first.read(slot, reader),
-            Either::Rest(slot) => self.rest.read(slot, reader),
-        }
-    }
-
-    fn drop_reader(&mut self, slot: Self::Slot, reader: ReaderId) -> Result<(), Refusal> {
-        match slot {
-            Either::First(slot) => self.first.drop_reader(slot, reader),
-            Either::Rest(slot) => self.rest.drop_reader(slot, reader),
-        }
-    }
-
-    fn set_event_emission(&mut self, slot: Self::Slot, on: bool) -> Result<(), Refusal> {
-        match slot {
-            Either::First(slot) => self.first.set_event_emission(slot, on),
-            Either::Rest(slot) => self.rest.set_event_emission(slot, on),
+            Either::First(slot) => self.first.call_channel(slot, call),
+            Either::Rest(slot) => self.rest.call_channel(slot, call),
         }
     }
 

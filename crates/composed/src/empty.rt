@@ -21,21 +21,21 @@ pub trait Empty: Held + Sized {
 }
 
 impl<T: Component + Drop> Empty for Only<T> {
-    #[tactic(auto, using(crate::proofs::Parts::has_no_value))]
+    #[tactic(auto, using(crate::proofs::Sides::has_no_value))]
     fn empty(_alloc: Global) -> Self {
         Only::new()
     }
 }
 
 impl<T> Empty for Marking<SimpleMarker<T>, SimpleMarkerAllocator<T>> {
-    #[tactic(auto, using(crate::proofs::Parts::has_no_value))]
+    #[tactic(auto, using(crate::proofs::Sides::has_no_value))]
     fn empty(alloc: Global) -> Self {
         Marking::new(alloc)
     }
 }
 
 impl<A: Empty, B: Empty> Empty for Both<A, B> {
-    #[tactic(auto, using(crate::proofs::Parts::has_no_value, crate::proofs::Parts::all_left))]
+    #[tactic(auto, using(crate::proofs::Sides::has_no_value, crate::proofs::Sides::all_left))]
     fn empty(alloc: Global) -> Self {
         Both {
             first: A::empty(alloc),

@@ -137,6 +137,8 @@ impl<T: Component + Drop> Has<T, Here> for Only<T> {
     ghost only = { λ s w. elim [ Sole ↦ inl refl ] };
 
     ghost places = { λ t. refl };
+
+    ghost one_to_one = { λ t u same. same };
 }
 
 impl<M: Marker, A: MarkerAllocator<M>> Has<M, Here> for Marking<M, A> {
@@ -168,12 +170,14 @@ impl<M: Marker, A: MarkerAllocator<M>> Has<M, Here> for Marking<M, A> {
     ghost only = { λ s w. elim [ Sole ↦ inl refl ] };
 
     ghost places = { λ t. refl };
+
+    ghost one_to_one = { λ t u same. same };
 }
 
 impl<T: Component, I, A: Has<T, I>, B: Held> Has<T, InFirst<I>> for Both<A, B> {
     ghost use Rattle.composed.specs.declared.either.Either.TheVariants.{First, Rest};
     ghost use Rattle.composed.specs.Both.{of_either};
-    ghost use Rattle.composed.specs.Places.{sees_first, only_first};
+    ghost use Rattle.composed.specs.Places.{sees_first, only_first, of_first};
     ghost use Rattle.std.proofs.Common.{ap};
 
     ghost the_slot = { First A.the_slot };
@@ -205,12 +209,14 @@ impl<T: Component, I, A: Has<T, I>, B: Held> Has<T, InFirst<I>> for Both<A, B> {
     ghost keeps_ids = { λ s w. ap (λ ids. of_either ids (B.ids s.rest)) (A.keeps_ids s.first w) };
 
     ghost places = { λ t. ap First (A.places t) };
+
+    ghost one_to_one = { λ t u same. A.one_to_one t u (of_first same) };
 }
 
 impl<T: Component, I, A: Held, B: Has<T, I>> Has<T, InRest<I>> for Both<A, B> {
     ghost use Rattle.composed.specs.declared.either.Either.TheVariants.{First, Rest};
     ghost use Rattle.composed.specs.Both.{of_either};
-    ghost use Rattle.composed.specs.Places.{sees_rest, only_rest};
+    ghost use Rattle.composed.specs.Places.{sees_rest, only_rest, of_rest};
     ghost use Rattle.std.proofs.Common.{ap};
 
     ghost the_slot = { Rest B.the_slot };
@@ -242,4 +248,6 @@ impl<T: Component, I, A: Held, B: Has<T, I>> Has<T, InRest<I>> for Both<A, B> {
     ghost keeps_ids = { λ s w. ap (λ ids. of_either (A.ids s.first) ids) (B.keeps_ids s.rest w) };
 
     ghost places = { λ t. ap Rest (B.places t) };
+
+    ghost one_to_one = { λ t u same. B.one_to_one t u (of_rest same) };
 }

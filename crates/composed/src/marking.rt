@@ -3,7 +3,7 @@ use crate::only::{Only, Sole};
 use hibits::BitSet;
 use saveload::{Marker, MarkerAllocator, SimpleMarker, SimpleMarkerAllocator};
 use specs::{
-    ComponentEvent, Duplicate, EntitiesRes, Entity, Held, MarkError, ReaderId, Refusal, Storages,
+    ChannelCall, ChannelReply, Duplicate, EntitiesRes, Entity, Held, MarkError, Refusal, Storages,
     field_marks,
 };
 use std::alloc::{AllocError, Global};
@@ -125,20 +125,8 @@ where
         field_marks::mark(&mut self.markers.field, &mut self.allocator, entities, e)
     }
 
-    fn register_reader(&mut self, slot: Sole) -> Result<ReaderId, Refusal> {
-        self.markers.register_reader(slot)
-    }
-
-    fn read(&mut self, slot: Sole, reader: &ReaderId) -> Result<Vec<ComponentEvent>, Refusal> {
-        self.markers.read(slot, reader)
-    }
-
-    fn drop_reader(&mut self, slot: Sole, reader: ReaderId) -> Result<(), Refusal> {
-        self.markers.drop_reader(slot, reader)
-    }
-
-    fn set_event_emission(&mut self, slot: Sole, on: bool) -> Result<(), Refusal> {
-        self.markers.set_event_emission(slot, on)
+    fn call_channel(&mut self, slot: Sole, call: ChannelCall<'_>) -> Result<ChannelReply, Refusal> {
+        self.markers.call_channel(slot, call)
     }
 
     fn reserve_drop(&mut self, count: usize) -> Result<(), AllocError> {

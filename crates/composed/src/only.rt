@@ -1,7 +1,7 @@
 //! A struct of storages for one component type.
 use hibits::BitSet;
 use specs::{
-    ComponentEvent, Duplicate, EntitiesRes, Entity, Held, MarkError, ReaderId, Refusal, Storages,
+    ChannelCall, ChannelReply, Duplicate, EntitiesRes, Entity, Held, MarkError, Refusal, Storages,
     field,
 };
 use std::alloc::{AllocError, Global};
@@ -126,20 +126,27 @@ where
         }
     }
 
-    fn register_reader(&mut self, _slot: Sole) -> Result<ReaderId, Refusal> {
-        field::register_reader(&mut self.field)
-    }
-
-    fn read(&mut self, _slot: Sole, reader: &ReaderId) -> Result<Vec<ComponentEvent>, Refusal> {
-        field::events(&mut self.field, reader)
-    }
-
-    fn drop_reader(&mut self, _slot: Sole, reader: ReaderId) -> Result<(), Refusal> {
-        field::drop_reader(&mut self.field, reader)
-    }
-
-    fn set_event_emission(&mut self, _slot: Sole, on: bool) -> Result<(), Refusal> {
-        field::emit(&mut self.field, on)
+    fn call_channel(
+        &mut self,
+        _slot: Sole,
+        call: ChannelCall<'_>,
+    ) -> Result<ChannelReply, Refusal> {
+        match call {
+            ChannelCall::Register => {
+                Ok(ChannelReply::Reader(field::register_reader(&mut self.field)?))
+            }
+            ChannelCall::Read(reader) => {
+                Ok(ChannelReply::Events(field::events(&mut self.field, reader)?))
+            }
+            ChannelCall::End(reader) => {
+                field::drop_reader(&mut self.field, reader)?;
+                Ok(ChannelReply::Done)
+            }
+            ChannelCall::Emit(on) => {
+                field::emit(&mut self.field, on)?;
+                Ok(ChannelReply::Done)
+            }
+        }
     }
 
     fn reserve_drop(&mut self, count: usize) -> Result<(), AllocError> {

@@ -1,6 +1,6 @@
 //! A struct of storages with a further field, of which its slots know nothing.
 use hibits::BitSet;
-use specs::{ComponentEvent, EntitiesRes, Entity, Held, MarkError, ReaderId, Refusal, Storages};
+use specs::{ChannelCall, ChannelReply, EntitiesRes, Entity, Held, MarkError, Refusal, Storages};
 use std::alloc::{AllocError, Global};
 
 /// Storages, and beside them a list of numbers. Each call goes to the storages.
@@ -87,24 +87,12 @@ impl<S: Storages> Storages for Listed<S> {
         self.storages.mark(entities, slot, e)
     }
 
-    fn register_reader(&mut self, slot: Self::Slot) -> Result<ReaderId, Refusal> {
-        self.storages.register_reader(slot)
-    }
-
-    fn read(
+    fn call_channel(
         &mut self,
         slot: Self::Slot,
-        reader: &ReaderId,
-    ) -> Result<Vec<ComponentEvent>, Refusal> {
-        self.storages.read(slot, reader)
-    }
-
-    fn drop_reader(&mut self, slot: Self::Slot, reader: ReaderId) -> Result<(), Refusal> {
-        self.storages.drop_reader(slot, reader)
-    }
-
-    fn set_event_emission(&mut self, slot: Self::Slot, on: bool) -> Result<(), Refusal> {
-        self.storages.set_event_emission(slot, on)
+        call: ChannelCall<'_>,
+    ) -> Result<ChannelReply, Refusal> {
+        self.storages.call_channel(slot, call)
     }
 
     fn reserve_drop(&mut self, count: usize) -> Result<(), AllocError> {

@@ -13,7 +13,9 @@ use crate::own_jobs::{listing, lists};
 use crate::stories::{self, told};
 use composed::Empty;
 use slots::{Health, Position};
-use specs::{Command, Core, Entity, Has, LazyUpdate, Parts, Refusal, Storages, World, WorldJob};
+use specs::{
+    Builder, Command, Core, Entity, Has, LazyUpdate, Parts, Refusal, Storages, World, WorldJob,
+};
 use specs_run::ScriptJob;
 use std::alloc::{AllocError, Global};
 use std::process::Abort;
@@ -255,7 +257,7 @@ fn puts_nested<R: Abort, P, S: Storages + Has<Position, P>>(
 /// An entity that is built with a value, which is queued.
 fn built<S: Storages>(world: &mut Busy<S>, value: S::Value) -> Option<Entity> {
     let builder = world.parts().create_entity().ok()?;
-    let builder = builder.with(value).ok()?;
+    let builder = builder.with_value(value).ok()?;
     Some(builder.build())
 }
 

@@ -8,5 +8,6 @@ pub mod Ends
 pub mod Calls
 pub mod Tickets
 pub mod Given
+pub mod Seen
 pub mod Theirs
 pub mod Shares

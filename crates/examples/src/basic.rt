@@ -1,11 +1,8 @@
 //! Entities that move: two component types, a system over their storages, and a few steps.
 use crate::game::{Parts, Position, Velocity};
 use anyhow::{Result, bail};
-use composed::{Both, Empty};
-use joins::{Join, JoinMut};
-use specs::{Builder, Entity, Has, World};
+use composed::{Both, Builder, Empty, Entity, Has, Join, JoinMut, MaskedStorage, World};
 use std::alloc::Global;
-use storages::MaskedStorage;
 
 /// Moves each entity that has a velocity by one step.
 pub fn move_all(positions: &mut MaskedStorage<Position>, velocities: &MaskedStorage<Velocity>) {

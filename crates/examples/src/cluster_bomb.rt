@@ -2,10 +2,10 @@
 use crate::basic::{Moves, place, show};
 use crate::game::{Fuse, Position, Velocity};
 use anyhow::{Result, bail};
-use entities::EntitiesRes;
-use joins::JoinMut;
-use specs::{Entity, Field, Has, LazyUpdate, Parts, Storages, World, WorldParts, value};
-use storages::{Component, MaskedStorage, WriteStorage};
+use composed::{
+    Component, EntitiesRes, Entity, Field, Has, JoinMut, LazyUpdate, MaskedStorage, Parts,
+    Storages, World, WorldParts, WriteStorage, value,
+};
 
 /// The ways that fragments go.
 const WAYS: [Velocity; 4] = [

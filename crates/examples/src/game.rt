@@ -1,7 +1,7 @@
 //! The game of the examples: its component types, and the storages of a world of them.
-use composed::Of2;
-use specs::Entity;
-use storages::{Component, DenseVecStorage, FlaggedStorage, HashMapStorage, VecStorage};
+use composed::{
+    Component, DenseVecStorage, Entity, FlaggedStorage, HashMapStorage, Of2, VecStorage,
+};
 
 /// Where an entity is.
 #[derive(Clone, Copy, Debug, PartialEq)]

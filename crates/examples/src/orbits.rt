@@ -2,10 +2,7 @@
 use crate::basic::{Moves, place};
 use crate::game::{Parts, Position, Velocity};
 use anyhow::Result;
-use composed::Both;
-use joins::{Join, JoinMut};
-use specs::{Has, World};
-use storages::MaskedStorage;
+use composed::{Both, Has, Join, JoinMut, MaskedStorage, World};
 
 /// Pulls each particle to the sun, which is at the origin: the nearer, the stronger.
 fn pull_all(velocities: &mut MaskedStorage<Velocity>, positions: &MaskedStorage<Position>) {

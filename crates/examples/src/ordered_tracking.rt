@@ -1,12 +1,12 @@
 //! A table of points that follows the events of a storage, and never looks at the rest of it.
 use crate::game::Score;
 use anyhow::{Result, bail};
-use composed::{Empty, Only};
-use hibits::Index;
-use specs::{Builder, Has, Storages, World};
+use composed::{
+    Builder, ComponentEvent, Empty, Entity, Has, Index, MaskedStorage, Only, ReaderId, Storages,
+    World,
+};
 use std::alloc::Global;
 use std::collections::BTreeMap;
-use storages::{ComponentEvent, MaskedStorage, ReaderId};
 
 /// The points by index, as the events told them.
 type Table = BTreeMap<Index, i64>;
@@ -38,6 +38,16 @@ fn follow(
     Ok(())
 }
 
+/// Two entities, and a reader that is told of their points.
+fn begin<I, S: Has<Score, I>>(world: &mut World<S>) -> Result<(Entity, Entity, ReaderId)> {
+    world.register::<Score, _>()?;
+    let first = world.create_entity()?.build();
+    let second = world.create_entity()?.build();
+    let mut scores = world.write_storage::<Score, _>()?;
+    let reader = scores.masked_mut().register_reader()?;
+    Ok((first, second, reader))
+}
+
 /// Gives points to entities, changes those of one, and takes those of another.
 fn play<I, S: Storages + Has<Score, I>>(
     alloc: Global,
@@ -45,11 +55,8 @@ fn play<I, S: Storages + Has<Score, I>>(
     text: &mut String,
 ) -> Result<()> {
     let table = &mut Table::new(alloc);
-    world.register::<Score, _>()?;
-    let first = world.create_entity()?.build();
-    let second = world.create_entity()?.build();
+    let (first, second, reader) = begin(world)?;
     let mut scores = world.write_storage::<Score, _>()?;
-    let reader = scores.masked_mut().register_reader()?;
     scores.insert(first, Score(10))?;
     scores.insert(second, Score(20))?;
     follow(table, scores.masked_mut(), &reader, text)?;

@@ -1,13 +1,21 @@
 //! A phase, in which passes make entities and let entities die at once, without a lock. Each may be given to a thread of its own.
 use crate::story::{Fresh, told_of};
 use anyhow::Result;
-use entities::EntitiesRes;
+use entities::{Closed, EntitiesRes, Entity};
 use std::alloc::Global;
 
 impl Fresh for EntitiesRes {
     fn fresh(alloc: Global) -> Result<Self> {
         Ok(EntitiesRes::new(alloc))
     }
+}
+
+/// Who was made, and what the phase came to.
+fn tell(text: &mut String, made: [Option<Entity>; 2], closed: Closed) -> Result<()> {
+    let [first, second] = made;
+    writeln!(text, "made: {first:?}, {second:?}")?;
+    writeln!(text, "{} births, {} marks", closed.births, closed.marks)?;
+    Ok(())
 }
 
 /// Two passes make an entity each, and one of them marks one that lived before.
@@ -25,9 +33,7 @@ fn share(entities: &mut EntitiesRes, text: &mut String, alloc: Global) -> Result
                 second = shared.create(&mut pass).ok();
             }
             let closed = shared.close(passes);
-            writeln!(text, "made: {first:?}, {second:?}")?;
-            writeln!(text, "{} births, {} marks", closed.births, closed.marks)?;
-            Ok(())
+            tell(text, [first, second], closed)
         }
         Err(error) => Err(error.into()),
     }

@@ -2,8 +2,7 @@
 ghost use Rattle.saveload.specs.Wrapped.{link_conversion, link_faithful};
 
 use crate::game::Leader;
-use entities::Entity;
-use saveload::{ConvertSaveload, LoadError, Marker, SaveError};
+use composed::{ConvertSaveload, Entity, LoadError, Marker, SaveError};
 use std::alloc::{AllocError, Global};
 
 impl<M: Marker> ConvertSaveload<M> for Leader {

@@ -2,16 +2,12 @@
 use crate::game::Leader;
 use crate::story::{Fresh, told_of};
 use anyhow::{Result, bail};
-use entities::{EntitiesRes, Entity};
-use joins::Join;
-use saveload::{
-    EntityData, MarkerAllocator, SimpleMarker, SimpleMarkerAllocator, deserialize, from_json,
-    serialize, to_json,
+use composed::{
+    Component, EntitiesRes, Entity, EntityData, Join, MarkerAllocator, MaskedStorage, ReadStorage,
+    SimpleMarker, SimpleMarkerAllocator, TryDefault, UnprotectedStorage, WriteStorage, deserialize,
+    from_json, serialize, to_json,
 };
 use std::alloc::Global;
-use storages::{
-    Component, MaskedStorage, ReadStorage, TryDefault, UnprotectedStorage, WriteStorage,
-};
 
 /// What is saved.
 #[derive(Clone, Copy)]
@@ -55,10 +51,12 @@ where
 
 impl Fresh for Level {
     fn fresh(alloc: Global) -> Result<Self> {
+        let leaders = empty(alloc)?;
+        let names = empty(alloc)?;
         Ok(Level {
             entities: EntitiesRes::new(alloc),
-            leaders: empty(alloc)?,
-            names: empty(alloc)?,
+            leaders,
+            names,
             namer: SimpleMarkerAllocator::new(alloc),
         })
     }

@@ -4,10 +4,8 @@ use crate::cluster_bomb::explode;
 use crate::game::{Fuse, Parts, Position, Velocity};
 use crate::orbits::{Pulls, fly};
 use anyhow::{Result, bail};
-use composed::Empty;
-use specs::{Has, Storages, World};
+use composed::{Empty, Has, HashMapStorage, MaskedStorage, Storages, TryDefault, World};
 use std::alloc::Global;
-use storages::{HashMapStorage, MaskedStorage, TryDefault};
 
 /// What can be told of a game.
 #[derive(Clone, Copy)]

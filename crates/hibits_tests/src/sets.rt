@@ -47,8 +47,10 @@ fn adds(rt: HostRuntime) -> Result<(), Fail> {
     assert_eq!(rt; set.first_from(0), Some(16777215));
     assert_eq!(rt; set.reserve_for(7), Ok(()));
     assert_eq!(rt; set.reserve_for(16777216), Err(SetError::IndexLimit));
-    let mut roomy = BitSet::with_capacity(rt.alloc(), 16777216)?;
-    assert_eq!(rt; roomy.add(4097), Ok(false));
+    for max in [0, 1, 64, 4097, 16777215, 16777216] {
+        let mut roomy = BitSet::with_capacity(rt.alloc(), max)?;
+        assert_eq!(rt; roomy.add(4097), Ok(false));
+    }
     assert_eq!(rt;
         BitSet::with_capacity(rt.alloc(), 16777217).err(),
         Some(SetError::IndexLimit)

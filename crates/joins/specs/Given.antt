@@ -1,14 +1,14 @@
 -- The values that an opened change set still has to give.
 use Rattle.std.specs.Prelude.{ℕ, Bool, Option, is_some, option_map}
 use Rattle.storages.specs.declared.kinds.dense_vec_storage.DenseVecStorage.{DenseVecStorage}
-use Rattle.storages.specs.Dense as dense
+use Rattle.storages.specs.DenseValues.{dense_value}
 use Rattle.joins.specs.declared.change_set.Change.{Change}
 use Rattle.joins.specs.Held.{value_of}
 
 module _ {T : Type 0} where
   -- what stands at an index
   abbrev pub change_at : DenseVecStorage (Change T) → ℕ → Option (Change T)
-  change_at s i = dense.value_of s.values.items s.ids.items s.places.items i
+  change_at s i = dense_value s i
 
   -- whether there is a value at an index
   abbrev pub has_value : DenseVecStorage (Change T) → ℕ → Bool

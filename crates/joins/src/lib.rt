@@ -10,6 +10,7 @@ mod cursors;
 mod indexed;
 mod iter;
 mod join;
+mod lent_sets;
 mod living;
 mod lookup;
 mod lookup_tuples;

@@ -1,8 +1,19 @@
-//! What is looked up in three to six, of which each but the first stands in the second of a pair.
+//! What is looked up in one, and in three to six, of which each but the first stands in the second of a pair.
 ghost use Rattle.std.specs.Prelude.{◌&&◌};
 
 use crate::lookup::Lookup;
 use hibits::Index;
+
+impl<A, V: Lookup<A>> Lookup<(A,)> for (V,) {
+    ghost can_look = { λ v i. V.can_look v.0 i };
+
+    ghost finds = { λ v i r. V.finds v.0 i r.0 };
+
+    #[inline(always)]
+    fn at(&self, id: Index) -> (A,) {
+        (self.0.at(id),)
+    }
+}
 
 impl<A, B, C, V: Lookup<A>, W: Lookup<B>, X: Lookup<C>> Lookup<(A, B, C)> for (V, (W, X)) {
     ghost can_look = { λ v i. V.can_look v.0 i && (W.can_look v.1.0 i && X.can_look v.1.1 i) };

@@ -8,7 +8,9 @@ use crate::join::Join;
 use crate::lookup::Lookup;
 use crate::optional::MaybeJoin;
 use entities::EntitiesRes;
-use hibits::{BitSet, BitSetAll, BitSetAnd, BitSetLike, BitSetNot, BitSetOr, BitSetXor, Layers};
+use hibits::{
+    BitSet, BitSetAll, BitSetAnd, BitSetLike, BitSetNot, BitSetOr, BitSetXor, Layers, MaskExpr,
+};
 use storages::{
     AntiStorage, Component, MaskedStorage, ReadStorage, UnprotectedStorage, WriteStorage,
 };
@@ -130,6 +132,70 @@ impl RepeatableJoin for BitSetAll {
     ghost same = { λ v i r h. h };
 }
 
+impl RepeatableJoin for BitSet {
+    ghost again = { refl };
+
+    ghost ready = { λ v i h. h };
+
+    ghost same = { λ v i r h. h };
+}
+
+impl<M: Layers + Drop> RepeatableJoin for MaskExpr<M> {
+    ghost again = { refl };
+
+    ghost ready = { λ v i h. h };
+
+    ghost same = { λ v i r h. h };
+}
+
+impl<'a, A: Layers, B: Layers> RepeatableJoin for &'a BitSetAnd<A, B> {
+    ghost again = { refl };
+
+    ghost ready = { λ v i h. h };
+
+    ghost same = { λ v i r h. h };
+}
+
+impl<'a, A: Layers, B: Layers> RepeatableJoin for &'a BitSetOr<A, B> {
+    ghost again = { refl };
+
+    ghost ready = { λ v i h. h };
+
+    ghost same = { λ v i r h. h };
+}
+
+impl<'a, A: Layers, B: Layers> RepeatableJoin for &'a BitSetXor<A, B> {
+    ghost again = { refl };
+
+    ghost ready = { λ v i h. h };
+
+    ghost same = { λ v i r h. h };
+}
+
+impl<'a, A: Layers> RepeatableJoin for &'a BitSetNot<A> {
+    ghost again = { refl };
+
+    ghost ready = { λ v i h. h };
+
+    ghost same = { λ v i r h. h };
+}
+
+impl<'a> RepeatableJoin for &'a BitSetAll {
+    ghost again = { refl };
+
+    ghost ready = { λ v i h. h };
+
+    ghost same = { λ v i r h. h };
+}
+
+impl<'a, M: Layers> RepeatableJoin for &'a MaskExpr<M> {
+    ghost again = { refl };
+
+    ghost ready = { λ v i h. h };
+
+    ghost same = { λ v i r h. h };
+}
+
 impl<J: RepeatableJoin + Drop> RepeatableJoin for MaybeJoin<J>
 where
     J::Mask: BitSetLike,
@@ -140,6 +206,17 @@ where
     ghost ready = { λ v i. asked_follows _ _ _ _ (J.ready v.1 i) };
 
     ghost same = { λ v i r h. found_follows _ _ _ _ (λ x w. J.same v.1 i x w) h };
+}
+
+impl<A: RepeatableJoin> RepeatableJoin for (A,)
+where
+    A::Value: Lookup<A::Type>,
+{
+    ghost again = { A.again };
+
+    ghost ready = { λ v i. A.ready v.0 i };
+
+    ghost same = { λ v i r h. A.same v.0 i r.0 h };
 }
 
 impl<A: RepeatableJoin, B: RepeatableJoin> RepeatableJoin for (A, B)

@@ -1,10 +1,12 @@
 //! Restricted storages to read, as joins: they give a view of the storage from an index on which it has a component.
-ghost use Rattle.std.specs.Prelude.{◌≡◌, true, Some, length, option_copied};
+ghost use Rattle.std.specs.Prelude.{◌≡◌, true, Some, length, option_copied, refl};
 ghost use Rattle.hibits.specs.Left.{left};
 ghost use Rattle.std.specs.FinMap as map;
 
 use crate::join::Join;
 use crate::living::is_living;
+use crate::lookup::Lookup;
+use crate::repeatable::RepeatableJoin;
 use entities::{EntitiesRes, Entity};
 use hibits::{BitSet, Index};
 use storages::{Component, MaskedStorage, ReadStorage, UnprotectedStorage, WriteStorage};
@@ -26,7 +28,7 @@ pub struct PairedStorage<'a, T: Component> {
 }
 
 impl<'a, T: Component> RestrictedStorage<'a, T> {
-    ghost use Rattle.joins.specs.Restricted.{slot, entities_of};
+    ghost use Rattle.joins.specs.Restricted.{slot, entities_of, paired_slot, paired_index, paired_entities};
 
     /// A restricted view of a storage.
     #[inline(always)]
@@ -35,6 +37,21 @@ impl<'a, T: Component> RestrictedStorage<'a, T> {
         ensures entities { entities_of result ≡ entities.now }
     {
         RestrictedStorage { entities, storage }
+    }
+
+    // The storage with an index at which it has a component.
+    #[inline(always)]
+    fn paired(&self, id: Index) -> PairedStorage<'_, T>
+        requires { map.contains_key (slot self.now).map id ≡ true }
+        ensures index { paired_index result ≡ id }
+        ensures slot { paired_slot result ≡ slot self.now }
+        ensures entities { paired_entities result ≡ entities_of self.now }
+    {
+        PairedStorage {
+            entities: self.entities,
+            storage: self.storage,
+            id,
+        }
     }
 }
 
@@ -98,17 +115,35 @@ impl<'a, 'b, T: Component> Join for &'b RestrictedStorage<'a, T> {
     #[inline(always)]
     fn get(value: &mut &'b RestrictedStorage<'a, T>, id: Index) -> PairedStorage<'b, T> {
         let view: &'b RestrictedStorage<'a, T> = *value;
-        PairedStorage {
-            entities: view.entities,
-            storage: view.storage,
-            id,
-        }
+        view.paired(id)
     }
 
     #[inline(always)]
     fn is_unconstrained() -> bool {
         false
     }
+}
+
+impl<'a, 'b, T: Component> Lookup<PairedStorage<'b, T>> for &'b RestrictedStorage<'a, T> {
+    ghost use Rattle.joins.specs.Restricted.{slot, entities_of, paired_slot, paired_index, paired_entities};
+
+    ghost can_look = { λ v i. map.contains_key (slot v.now).map i };
+
+    ghost finds = { λ v i r. (paired_index r ≡ i) × (paired_slot r ≡ slot v.now) × (paired_entities r ≡ entities_of v.now) };
+
+    #[inline(always)]
+    fn at(&self, id: Index) -> PairedStorage<'b, T> {
+        let view: &'b RestrictedStorage<'a, T> = *self;
+        view.paired(id)
+    }
+}
+
+impl<'a, 'b, T: Component> RepeatableJoin for &'b RestrictedStorage<'a, T> {
+    ghost again = { refl };
+
+    ghost ready = { λ v i h. h };
+
+    ghost same = { λ v i r h. h };
 }
 
 /// What can be restricted to reading.

@@ -7,6 +7,7 @@ ghost use Rattle.hibits.specs.Sets.{Layered};
 use crate::join::Join;
 use hibits::{
     BitSet, BitSetAll, BitSetAnd, BitSetNot, BitSetOr, BitSetXor, INDEX_LIMIT, Index, Layers,
+    MaskExpr,
 };
 
 impl<'a> Join for &'a BitSet {
@@ -46,6 +47,43 @@ impl<'a> Join for &'a BitSet {
         ensures may { result ≡ false }
         ensures all { result ≡ true → (j : Bor Layered) (i : ℕ) → i < INDEX_LIMIT → set.contains j.now.members i ≡ true }
     {
+        false
+    }
+}
+
+impl Join for BitSet {
+    type Type = Index;
+
+    type Value = ();
+
+    type Mask = BitSet;
+
+    ghost has = { λ j i. set.contains j.members i };
+
+    ghost cost = { λ _. 1 };
+
+    ghost most = { λ j. set.len j.members };
+
+    ghost repeats = { true };
+
+    ghost gives = { λ _ i r. r ≡ i };
+
+    ghost can_get = { λ _ _. true };
+
+    ghost value_gives = { λ _ i r. r ≡ i };
+
+    #[inline(always)]
+    fn open(self) -> (BitSet, ()) {
+        (self, ())
+    }
+
+    #[inline(always)]
+    fn get(_value: &mut (), id: Index) -> Index {
+        id
+    }
+
+    #[inline(always)]
+    fn is_unconstrained() -> bool {
         false
     }
 }
@@ -225,6 +263,44 @@ impl Join for BitSetAll {
 
     #[inline(always)]
     fn open(self) -> (BitSetAll, ()) {
+        (self, ())
+    }
+
+    #[inline(always)]
+    fn get(value: &mut (), id: Index) -> Index {
+        let _ = value;
+        id
+    }
+
+    #[inline(always)]
+    fn is_unconstrained() -> bool {
+        false
+    }
+}
+
+impl<M: Layers + Drop> Join for MaskExpr<M> {
+    type Type = Index;
+
+    type Value = ();
+
+    type Mask = MaskExpr<M>;
+
+    ghost has = { λ j i. ⟦<MaskExpr<M> as Layers>⟧.has j 0 i };
+
+    ghost cost = { λ j. ⟦<MaskExpr<M> as Layers>⟧.cost j };
+
+    ghost most = { λ j. ⟦<MaskExpr<M> as Layers>⟧.most j };
+
+    ghost repeats = { true };
+
+    ghost gives = { λ _ i r. r ≡ i };
+
+    ghost can_get = { λ _ _. true };
+
+    ghost value_gives = { λ _ i r. r ≡ i };
+
+    #[inline(always)]
+    fn open(self) -> (MaskExpr<M>, ()) {
         (self, ())
     }
 

@@ -1,7 +1,48 @@
-//! Joins of three to six, by the pair of the first and the rest.
+//! Joins of one, and of three to six, these by the pair of the first and the rest.
 
 use crate::join::Join;
 use hibits::Index;
+
+impl<A: Join> Join for (A,) {
+    type Type = (A::Type,);
+
+    type Value = (A::Value,);
+
+    type Mask = A::Mask;
+
+    ghost has = { λ j i. A.has j.0 i };
+
+    ghost cost = { λ j. A.cost j.0 };
+
+    ghost most = { λ j. A.most j.0 };
+
+    ghost repeats = { A.repeats };
+
+    ghost unconstrained = { A.unconstrained };
+
+    ghost gives = { λ j i r. A.gives j.0 i r.0 };
+
+    ghost can_get = { λ v i. A.can_get v.0 i };
+
+    ghost value_gives = { λ v i r. A.value_gives v.0 i r.0 };
+
+    #[inline(always)]
+    fn open(self) -> (A::Mask, (A::Value,)) {
+        let (a,) = self;
+        let (mask, value) = a.open();
+        (mask, (value,))
+    }
+
+    #[inline(always)]
+    fn get(value: &mut (A::Value,), id: Index) -> (A::Type,) {
+        (A::get(&mut value.0, id),)
+    }
+
+    #[inline(always)]
+    fn is_unconstrained() -> bool {
+        A::is_unconstrained()
+    }
+}
 
 impl<A: Join, B: Join, C: Join> Join for (A, B, C) {
     type Type = (A::Type, B::Type, C::Type);

@@ -13,7 +13,7 @@ use Rattle.hibits.specs.Walks.{IsNext}
 use Rattle.storages.specs.Slot.{Slot}
 use Rattle.storages.specs.SliceLends.{left_as, with_slice}
 use Rattle.joins_parallel.specs.InPlace.{MayLeave, ChangedAt, OnlyChanges}
-use Rattle.joins_parallel.proofs.Replacing.{some_of_key, both_left, both_right}
+use Rattle.joins_parallel.proofs.Replacing.{some_of_key, both_right}
 
 -- the same call, of values that are equal
 pub same_call : {T I : Type 0} (gives : ℕ → I → Type 0) (leaves : MutBor T → I → Unit {0} → MutBor T → Type 0) (i : ℕ) (x x' y y' : T)
@@ -89,7 +89,26 @@ got_at [] i x e = cc
 got_at (a ∷ xs) zero x e = (omega arith, λ d. cc)
 got_at (a ∷ xs) (suc i) x e = let r = got_at xs i x e in let lt = r.0 in (omega (arith, lt), r.1)
 
--- A storage whose components are the places of a slice, in which some were changed: `both` tells which.
+some_is : {T : Type 0} (o : Option T) → is_some o ≡ true → (x : T) × (o ≡ Some x)
+some_is None h = cc
+some_is (Some x) h = (x, refl)
+
+-- A storage whose components are the places of a slice.
+module _ {T : Type 0} (item_at : List ℕ → List T → ℕ → Option T) (s : Slot T) (xs : List T)
+    (by_index : (order : List ℕ) (zs : List T) (q : ℕ) → item_at order zs q ≡ slice_get zs q)
+    (places : (q : ℕ) → IsSome (map.get s.map q) → item_at s.order xs q ≡ map.get s.map q) where
+  -- the slice has each component
+  pub was_there : (q : ℕ) (x : T) → map.get s.map q ≡ Some x → slice_get xs q ≡ Some x
+  was_there q x e = sym (by_index s.order xs q) ∙ places q (some_of_key s.map q (ap is_some e)) ∙ e
+
+  -- what the slice has at the index of a component is the component
+  pub is_component : (q : ℕ) (x : T) → map.contains_key s.map q ≡ true → x ≡ slice_index_or xs q x → map.get s.map q ≡ Some x
+  is_component q x has e =
+      let o = some_is (map.get s.map q) has in
+      let g = got_at xs q o.0 (was_there q o.0 o.1) in
+      o.1 ∙ ap Some (sym (e ∙ g.1 x))
+
+-- The same, where some were changed: `both` tells which.
 module _ {T : Type 0} (item_at : List ℕ → List T → ℕ → Option T) (s : Slot T) (xs ys : List T) (both : ℕ → Bool)
     (by_index : (order : List ℕ) (zs : List T) (q : ℕ) → item_at order zs q ≡ slice_get zs q)
     (places : (q : ℕ) → IsSome (map.get s.map q) → item_at s.order xs q ≡ map.get s.map q)
@@ -99,20 +118,17 @@ module _ {T : Type 0} (item_at : List ℕ → List T → ℕ → Option T) (s : 
   abbrev after : Slot T
   after = with_slice item_at s (left_as xs ys)
 
-  pub was_there : (q : ℕ) (x : T) → map.get s.map q ≡ Some x → slice_get xs q ≡ Some x
-  was_there q x e = sym (by_index s.order xs q) ∙ places q (some_of_key s.map q (ap is_some e)) ∙ e
-
   -- a component is what was left at its place
   pub is_there : (q : ℕ) (x : T) → map.get s.map q ≡ Some x → map.get after.map q ≡ Some (slice_index_or ys q x)
   is_there q x e =
-      each (left_as xs ys) q ∙ ap (λ (o : Option T). cond (is_some o) (item_at s.order (left_as xs ys) q) None) e ∙ by_index s.order (left_as xs ys) q ∙ left_at xs ys q x (was_there q x e)
+      each (left_as xs ys) q ∙ ap (λ (o : Option T). cond (is_some o) (item_at s.order (left_as xs ys) q) None) e ∙ by_index s.order (left_as xs ys) q ∙ left_at xs ys q x (was_there item_at s xs by_index places q x e)
 
   not_there : (q : ℕ) → map.get s.map q ≡ None → map.get after.map q ≡ None
   not_there q e = each (left_as xs ys) q ∙ ap (λ (o : Option T). cond (is_some o) (item_at s.order (left_as xs ys) q) None) e
 
   kept_by : (q : ℕ) (o : Option T) → map.get s.map q ≡ o → both q ≡ false → map.get after.map q ≡ o
   kept_by q None e out = not_there q e
-  kept_by q (Some x) e out = let g = got_at xs q x (was_there q x e) in is_there q x e ∙ ap Some (others q x g.0 out ∙ g.1 x)
+  kept_by q (Some x) e out = let g = got_at xs q x (was_there item_at s xs by_index places q x e) in is_there q x e ∙ ap Some (others q x g.0 out ∙ g.1 x)
 
   -- what is not one of those to be changed stays
   pub stays : (q : ℕ) → both q ≡ false → map.get after.map q ≡ map.get s.map q
@@ -130,7 +146,7 @@ module _ {T : Type 0} (item_at : List ℕ → List T → ℕ → Option T) (s : 
     changed_by : (q : ℕ) (o : Option T) → map.get s.map q ≡ o → is_some o ≡ true → both q ≡ true → ChangedAt gives leaves s after q
     changed_by q None e has is = absurd (true≢false (sym has))
     changed_by q (Some x) e has is =
-        let g = got_at xs q x (was_there q x e) in let m = changed q x g.0 is in
+        let g = got_at xs q x (was_there item_at s xs by_index places q x e) in let m = changed q x g.0 is in
         record {
           component = x;
           now = slice_index_or ys q x;

@@ -136,12 +136,16 @@ after_room s s₁ s₂ is ys a b = record {
   inner_room = λ n h. b.inner_room n (a.inner_room (n + somes ys) h);
 }
 
+-- each index of a list of those that pass a test passes it
+pub each_of : (p : ℕ → Bool) (xs : List ℕ) → xs ≡ left p 0 → (k d : ℕ) → k < length xs → p (get_or xs k d) ≡ true
+each_of p xs e k d lt = rw e (left-each p 0 k d (rw e at lt))
+
 -- each index of a list is one of both
 pub each_left : (p q : ℕ → Bool) (xs : List ℕ) → xs ≡ left (λ i. p i && q i) 0 → (k d : ℕ) → k < length xs → p (get_or xs k d) ≡ true
-each_left p q xs e k d lt = both_left (p (get_or xs k d)) (q (get_or xs k d)) (rw e (left-each (λ i. p i && q i) 0 k d (rw e at lt)))
+each_left p q xs e k d lt = both_left (p (get_or xs k d)) (q (get_or xs k d)) (each_of (λ i. p i && q i) xs e k d lt)
 
 pub each_right : (p q : ℕ → Bool) (xs : List ℕ) → xs ≡ left (λ i. p i && q i) 0 → (k d : ℕ) → k < length xs → q (get_or xs k d) ≡ true
-each_right p q xs e k d lt = both_right (p (get_or xs k d)) (q (get_or xs k d)) (rw e (left-each (λ i. p i && q i) 0 k d (rw e at lt)))
+each_right p q xs e k d lt = both_right (p (get_or xs k d)) (q (get_or xs k d)) (each_of (λ i. p i && q i) xs e k d lt)
 
 -- nothing was made, so no room is wanted
 pub room_for_none : {T : Type 0} (o : Option ℕ) (ys : List (Option T)) → length ys ≡ 0 → HasRoom o (somes ys)

@@ -1,5 +1,5 @@
 -- Components that are changed in their places.
-use Rattle.std.specs.Prelude.{◌≡◌, ℕ, List, Bool, true, false, Some, slice_get}
+use Rattle.std.specs.Prelude.{◌≡◌, ℕ, Some}
 use Rattle.std.specs.FinMap as map
 use Rattle.std.specs.Borrow.{MutBor}
 use Rattle.storages.specs.Slot.{Slot}

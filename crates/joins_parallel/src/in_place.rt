@@ -1,5 +1,5 @@
 //! Components that threads change in their places.
-ghost use Rattle.std.specs.Prelude.{◌≡◌, ◌<◌, ℕ, true, false, List, length, slice_get, slice_index_or, refl, [], IfOk, IsOk, OnOk, OnErr};
+ghost use Rattle.std.specs.Prelude.{◌≡◌, ◌<◌, ℕ, Some, true, false, List, length, slice_get, slice_index_or, refl, [], IfOk, IsOk, OnOk, OnErr};
 ghost use Rattle.std.specs.Borrow.{MutBor};
 ghost use Rattle.std.specs.FinMap as map;
 ghost use Rattle.std.specs.FinSet as set;
@@ -49,14 +49,14 @@ fn change_each<T: Send, I, V: Lookup<I> + Sync, F: Fn(&mut T, I) + Sync>(
     f: &F,
 )
     requires threads { 0 < threads }
-    requires called { (x : MutBor T) (z : I) → F.pre f.now x z }
+    requires called { (i : ℕ) (x : MutBor T) (z : I) → i < length slice.old → set.contains members.now.members i ≡ true → x.now ≡ slice_index_or slice.old i x.now → V.finds values.now i z → F.pre f.now x z }
     requires ready { (i : ℕ) → set.contains members.now.members i ≡ true → V.can_look values.now i ≡ true }
     requires below { (i : ℕ) → set.contains members.now.members i ≡ true → i < INDEX_LIMIT }
     ensures changed { (i : ℕ) (d : T) → i < length slice.old → set.contains members.now.members i ≡ true → MayLeave (V.finds values.now) (F.post f.now) i (slice_index_or slice.old i d) (slice_index_or slice.new i d) }
     ensures others { (i : ℕ) (d : T) → i < length slice.old → set.contains members.now.members i ≡ false → slice_index_or slice.new i d ≡ slice_index_or slice.old i d }
 {
     let change = |place: usize, component: &mut T|
-        requires { ((x : MutBor T) (z : I) → F.pre f.now x z) × ((i : ℕ) → set.contains members.now.members i ≡ true → V.can_look values.now i ≡ true) × ((i : ℕ) → set.contains members.now.members i ≡ true → i < INDEX_LIMIT) }
+        requires { (set.contains members.now.members place ≡ true → (x : MutBor T) (z : I) → x.now ≡ component.now → V.finds values.now place z → F.pre f.now x z) × ((i : ℕ) → set.contains members.now.members i ≡ true → V.can_look values.now i ≡ true) × ((i : ℕ) → set.contains members.now.members i ≡ true → i < INDEX_LIMIT) }
         ensures changed { set.contains members.entry.now.members place ≡ true → MayLeave (V.finds values.entry.now) (F.post f.entry.now) place component.entry.now component.exit.now }
         ensures others { set.contains members.entry.now.members place ≡ false → component.exit.now ≡ component.entry.now }
     {
@@ -71,7 +71,7 @@ fn change_each<T: Send, I, V: Lookup<I> + Sync, F: Fn(&mut T, I) + Sync>(
 
 /// Calls `f` with a `&mut` to each component at the indices of a storage and of a join, and with the join's item, from as many threads as there
 /// are processors, below 2,048 places in the caller's. Each component is written in its place, so no answers are kept; the indices are collected
-/// first. Threads have to be started, so for little work a loop over a cursor is faster.
+/// first, and `f` is called with nothing else. Threads have to be started, so for little work a loop over a cursor is faster.
 ///
 /// After an error nothing has changed: memory was refused for the indices. Where the two share no index it is not refused. Stands for
 /// `rayon`'s `for_each` on `specs::join::ParJoin::par_join` over a storage to write to, for storages that have each component at its
@@ -85,7 +85,7 @@ pub fn par_for_each<T: Component + Send, J: RepeatableJoin, F: Fn(&mut T, J::Typ
 where
     T::Storage: Placed<T>,
     J::Value: Lookup<J::Type> + Sync,
-    requires called { (x : MutBor T) (z : J.Type) → F.pre f x z }
+    requires called { (i : ℕ) (x : MutBor T) (z : J.Type) → map.get storage.old.map i ≡ Some x.now → J.has join i ≡ true → J.gives join i z → F.pre f x z }
     ensures each { OnOk result ((i : ℕ) → i < INDEX_LIMIT → map.contains_key storage.old.map i ≡ true → J.has join i ≡ true → ChangedAt (J.gives join) (F.post f) storage.old storage.new i) }
     ensures others { OnOk result ((i : ℕ) → J.has join i ≡ false → map.get storage.new.map i ≡ map.get storage.old.map i) }
     ensures rest { OnOk result (OnlyChanges storage.old storage.new) }

@@ -1,5 +1,5 @@
 //! A join that is mapped in several threads.
-ghost use Rattle.std.specs.Prelude.{◌≡◌, [], IfOk, IsOk, Ok, length};
+ghost use Rattle.std.specs.Prelude.{◌≡◌, ℕ, true, [], IfOk, IsOk, Ok, length};
 ghost use Rattle.std.specs.List.{AllZip};
 ghost use Rattle.hibits.specs.Left.{left};
 
@@ -35,9 +35,9 @@ impl<J: RepeatableJoin + Drop> JoinParIter<J>
 where
     J::Value: Lookup<J::Type> + Sync,
 {
-    /// What `f` makes of the items, in the order of the indices, from as many threads as there are processors. It collects the indices
-    /// first; below 2,048 of them it stays in the caller's thread. Where the calls of `f` together take less than some 0.5 ms, a loop over
-    /// `Join::join` is faster.
+    /// What `f` makes of the items, in the order of the indices, from as many threads as there are processors. `f` is called with what the join
+    /// gives at its indices, and with nothing else. The indices are collected first; below 2,048 of them all stays in the caller's thread.
+    /// Where the calls of `f` together take less than some 0.5 ms, a loop over `Join::join` is faster.
     ///
     /// Where memory is refused there is no list, and some calls of `f` may have been made. Where the join has no index it is not refused.
     pub fn map_collect<R: Send + Drop, F: Fn(J::Type) -> R + Sync + Drop>(
@@ -45,7 +45,7 @@ where
         rt: &(impl Threads + Alloc<A = Global> + Sync),
         f: F,
     ) -> Result<Vec<R>, AllocError>
-        requires called { (x : J.Type) → F.pre f x }
+        requires called { (i : ℕ) (x : J.Type) → J.has self.join i ≡ true → J.gives self.join i x → F.pre f x }
         ensures idle { left (J.has self.join) 0 ≡ [] → IsOk result }
         ensures made { IfOk result (λ v. AllZip (λ i y. (x : J.Type) × J.gives self.join i x × F.post f x y) (left (J.has self.join) 0) v.items) }
     {

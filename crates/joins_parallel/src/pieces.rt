@@ -44,7 +44,7 @@ pub(crate) fn piece<T, V: Lookup<T>, R: Drop, F: Fn(T) -> R>(
     values: &V,
     f: &F,
 ) -> Result<Vec<R>, AllocError>
-    requires called { (x : T) → F.pre f.now x }
+    requires called { All (λ i. (x : T) → V.finds values.now i x → F.pre f.now x) part.now }
     requires ready { All (λ i. V.can_look values.now i ≡ true) part.now }
     ensures made { IfOk result (λ v. AllZip (λ i y. (x : T) × V.finds values.now i x × F.post f.now x y) part.now v.items) }
     ensures idle { part.now ≡ [] → IsOk result }
@@ -83,7 +83,7 @@ pub(crate) fn map_pieces<T, V: Lookup<T> + Sync, R: Send + Drop, F: Fn(T) -> R +
     values: &V,
     f: &F,
 ) -> Result<Vec<R>, AllocError>
-    requires called { (x : T) → F.pre f.now x }
+    requires called { All (λ i. (x : T) → V.finds values.now i x → F.pre f.now x) list.now }
     requires ready { All (λ i. V.can_look values.now i ≡ true) list.now }
     ensures made { IfOk result (λ v. AllZip (λ i y. (x : T) × V.finds values.now i x × F.post f.now x y) list.now v.items) }
     ensures idle { list.now ≡ [] → IsOk result }
@@ -97,7 +97,7 @@ pub(crate) fn map_pieces<T, V: Lookup<T> + Sync, R: Send + Drop, F: Fn(T) -> R +
         .par_chunks(size)
         .map(
             |part: &[Index]| -> Result<Vec<R>, AllocError>
-                requires { All (λ i. V.can_look values.now i ≡ true) part.now × ((x : T) → F.pre f.now x) }
+                requires { All (λ i. V.can_look values.now i ≡ true) part.now × All (λ i. (x : T) → V.finds values.now i x → F.pre f.now x) part.now }
                 ensures { IfOk result (λ v. AllZip (λ i y. (x : T) × V.finds values.entry.now i x × F.post f.entry.now x y) part.now v.items) }
             { piece(alloc, part, values, f) },
         )

@@ -83,7 +83,7 @@ fn made_piece<
     values: &V,
     f: &F,
 ) -> Result<Vec<Option<T>>, AllocError>
-    requires called { (x : Bor T) (z : I) → F.pre f.now x z }
+    requires called { All (λ i. (x : Bor T) (z : I) → map.get storage.now.map i ≡ Some x.now → V.finds values.now i z → F.pre f.now x z) part.now }
     requires present { All (λ i. map.contains_key storage.now.map i ≡ true) part.now }
     requires ready { All (λ i. V.can_look values.now i ≡ true) part.now }
     ensures made { IfOk result (λ v. AllZip (λ i y. (x : Bor T) × (z : I) × (map.get storage.now.map i ≡ Some x.now) × V.finds values.now i z × F.post f.now x z y) part.now v.items) }
@@ -113,7 +113,7 @@ fn made_of<
 ) -> Result<Vec<Option<T>>, AllocError>
 where
     T::Storage: Sync,
-    requires called { (x : Bor T) (z : I) → F.pre f.now x z }
+    requires called { All (λ i. (x : Bor T) (z : I) → map.get storage.now.map i ≡ Some x.now → V.finds values.now i z → F.pre f.now x z) list.now }
     requires present { All (λ i. map.contains_key storage.now.map i ≡ true) list.now }
     requires ready { All (λ i. V.can_look values.now i ≡ true) list.now }
     ensures made { IfOk result (λ v. AllZip (λ i y. (x : Bor T) × (z : I) × (map.get storage.now.map i ≡ Some x.now) × V.finds values.now i z × F.post f.now x z y) list.now v.items) }
@@ -128,7 +128,7 @@ where
         .par_chunks(size)
         .map(
             |part: &[Index]| -> Result<Vec<Option<T>>, AllocError>
-                requires { All (λ i. map.contains_key storage.now.map i ≡ true) part.now × All (λ i. V.can_look values.now i ≡ true) part.now × ((x : Bor T) (z : I) → F.pre f.now x z) }
+                requires { All (λ i. map.contains_key storage.now.map i ≡ true) part.now × All (λ i. V.can_look values.now i ≡ true) part.now × All (λ i. (x : Bor T) (z : I) → map.get storage.now.map i ≡ Some x.now → V.finds values.now i z → F.pre f.now x z) part.now }
                 ensures { IfOk result (λ v. AllZip (λ i y. (x : Bor T) × (z : I) × (map.get storage.entry.now.map i ≡ Some x.now) × V.finds values.entry.now i z × F.post f.entry.now x z y) part.now v.items) }
             { made_piece(alloc, part, storage, values, f) },
         )
@@ -137,8 +137,9 @@ where
 }
 
 /// Each component at the indices of a storage and of a join becomes what `f` makes of it and of the join's item, where it makes anything.
-/// `f` is called in as many threads as there are processors, below 2,048 indices in the caller's; the components are replaced ascending, each
-/// by one modification, after all calls. Where the calls of `f` together take less than some 0.5 ms, a loop that writes in place is faster.
+/// `f` is called with the components at these indices, and with nothing else, in as many threads as there are processors, below 2,048 indices in
+/// the caller's; the components are replaced ascending, each by one modification, after all calls. Where the calls of `f` together take less than
+/// some 0.5 ms, a loop that writes in place is faster.
 ///
 /// After an error nothing has changed: memory was refused for the answers, or for the events of a tracked storage. Where the two share no index
 /// it is not refused. Stands for
@@ -156,7 +157,7 @@ pub fn par_update<
 where
     T::Storage: Sync,
     J::Value: Lookup<J::Type> + Sync,
-    requires called { (x : Bor T) (z : J.Type) → F.pre f x z }
+    requires called { (i : ℕ) (x : Bor T) (z : J.Type) → map.get storage.old.map i ≡ Some x.now → J.has join i ≡ true → J.gives join i z → F.pre f x z }
     ensures ok { OnOk result (Updates storage.old storage.new (both_have storage.old (J.has join)) (J.gives join) (F.post f)) }
     ensures each { OnOk result ((i : ℕ) → i < INDEX_LIMIT → map.contains_key storage.old.map i ≡ true → J.has join i ≡ true → UpdatedAt storage.old storage.new i (J.gives join) (F.post f)) }
     ensures others { OnOk result ((i : ℕ) → J.has join i ≡ false → map.get storage.new.map i ≡ map.get storage.old.map i) }

@@ -33,6 +33,8 @@ pub fn given_by_generation<R: Abort, Y: Joined>(rt: &R, yard: &mut Y) -> Result<
     equal!(rt; next.id(), entity.id());
     equal!(rt; yard.both_at(entity), None);
     equal!(rt; yard.both_at(next), Some((2, 0)));
+    equal!(rt; yard.restricted_at(entity), None);
+    equal!(rt; yard.restricted_at(next), Some((2, 2)));
     equal!(rt; yard.both_in(entity.id()), Some((2, 0)));
     Ok(())
 }

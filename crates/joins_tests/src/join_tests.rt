@@ -1,5 +1,7 @@
 //! Joins.
-use crate::walks::{beside, contradictions, shared, six};
+use crate::walks::{
+    beside, contradictions, given, of_lent, of_tree, one_at, ones, outside, shared, six,
+};
 use hibits::{BitSet, BitSetLike, SetError};
 use joins::{BitAnd, Join, maybe};
 use std::alloc::Global;
@@ -24,6 +26,9 @@ enum Story {
     MayBeThere,
     ShareNothing,
     AreUnconstrained,
+    OneIsJoined,
+    LentOnesAreJoined,
+    TreesAreJoined,
 }
 
 // Whether a story of two sets comes true.
@@ -36,6 +41,9 @@ fn tell(alloc: Global, story: Story, a: &BitSet, b: &BitSet) -> Result<bool, Fai
         Story::MayBeThere => Ok(beside(alloc, a, b)?.as_slice() == [0, 102, 4].as_slice()),
         Story::ShareNothing => Ok(contradictions(a) == 0),
         Story::AreUnconstrained => Ok(are_unconstrained(a)),
+        Story::OneIsJoined => Ok(ones(a) == 3 && one_at(a, 2) && !one_at(a, 3)),
+        Story::LentOnesAreJoined => are_lent(alloc, a, b),
+        Story::TreesAreJoined => is_tree(alloc, a, b),
     }
 }
 
@@ -132,5 +140,47 @@ fn are_unconstrained(a: &BitSet) -> bool {
 #[test]
 fn joins_of_what_may_be_there_alone_are_unconstrained(rt: HostRuntime) -> Result<(), Fail> {
     assert!(rt; comes_true(rt.alloc(), &[0, 2], &[], Story::AreUnconstrained)?);
+    Ok(())
+}
+
+#[test]
+fn a_tuple_of_one_is_a_join(rt: HostRuntime) -> Result<(), Fail> {
+    assert!(rt; comes_true(rt.alloc(), &[0, 2, 4], &[], Story::OneIsJoined)?);
+    Ok(())
+}
+
+// Whether views of 0, 2, 4 and of 2, 3 that are lent give what they have.
+fn are_lent(alloc: Global, a: &BitSet, b: &BitSet) -> Result<bool, Fail> {
+    let (both, either, one) = of_lent(alloc, a, b)?;
+    Ok(
+        both.as_slice() == [2].as_slice()
+            && either.as_slice() == [0, 2, 3, 4].as_slice()
+            && one.as_slice() == [0, 3, 4].as_slice()
+            && outside(a, b) == 2,
+    )
+}
+
+#[test]
+fn views_that_are_lent_are_joins(rt: HostRuntime) -> Result<(), Fail> {
+    assert!(rt; comes_true(rt.alloc(), &[0, 2, 4], &[2, 3], Story::LentOnesAreJoined)?);
+    Ok(())
+}
+
+// Whether a tree of 0, 2, 4 without 2, 3 gives 0 and 4, lent and given up.
+fn is_tree(alloc: Global, a: &BitSet, b: &BitSet) -> Result<bool, Fail> {
+    let (lent, own) = of_tree(alloc, a, b)?;
+    Ok(lent.as_slice() == [0, 4].as_slice() && own.as_slice() == [0, 4].as_slice())
+}
+
+#[test]
+fn trees_of_sets_are_joins(rt: HostRuntime) -> Result<(), Fail> {
+    assert!(rt; comes_true(rt.alloc(), &[0, 2, 4], &[2, 3], Story::TreesAreJoined)?);
+    Ok(())
+}
+
+#[test]
+fn a_set_that_is_given_up_is_a_join(rt: HostRuntime) -> Result<(), Fail> {
+    let set = set_of(rt.alloc(), &[1, 64, 16777215])?;
+    assert!(rt; given(rt.alloc(), set)?.as_slice() == [1, 64, 16777215].as_slice());
     Ok(())
 }

@@ -3,7 +3,7 @@ use crate::worlds::{Numbered, World};
 use crate::yard::Joined;
 use entities::Entity;
 use hibits::BitSet;
-use joins::Join;
+use joins::{Join, JoinIter, RestrictedStorage};
 use std::alloc::{AllocError, Global};
 use storages::{MaskedStorage, UnprotectedStorage};
 
@@ -57,6 +57,14 @@ where
             Some((first, second)) => Some((first.number(), second.number())),
             None => None,
         }
+    }
+
+    fn restricted_at(&self, e: Entity) -> Option<(i32, i32)> {
+        let restricted = RestrictedStorage::new(&self.entities, &self.first);
+        let walk = JoinIter::new(&restricted);
+        let at = walk.get(e, &self.entities)?.get_unchecked().number();
+        let again = walk.get_unchecked(e.id())?.get(e)?.number();
+        Some((at, again))
     }
 
     fn midway(&self, e: Entity) -> Option<(i32, i32, i32)> {

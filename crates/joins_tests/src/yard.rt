@@ -110,6 +110,9 @@ pub trait Joined: Yard {
     /// At an index.
     fn both_in(&self, id: u32) -> Option<(i32, i32)>;
 
+    /// At an entity and at an index, of the first storage, restricted.
+    fn restricted_at(&self, e: Entity) -> Option<(i32, i32)>;
+
     /// First, then at an entity, and then as the next, of the first storage.
     fn midway(&self, e: Entity) -> Option<(i32, i32, i32)>;
 

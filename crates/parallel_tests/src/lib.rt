@@ -6,7 +6,13 @@ mod components;
 #[cfg(test)]
 mod meeting_tests;
 #[cfg(test)]
+mod meeting_update_tests;
+#[cfg(test)]
 mod place_tests;
+#[cfg(test)]
+mod relying_tests;
+#[cfg(test)]
+mod restricted_tests;
 #[cfg(test)]
 mod update_tests;
 #[cfg(test)]

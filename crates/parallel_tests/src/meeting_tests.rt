@@ -9,8 +9,8 @@ use storages::{MaskedStorage, UnprotectedStorage};
 // How many turns the first call waits at most.
 const MOST_TURNS: u32 = 100_000_000;
 
-// Waits for the flag in the first call, and sets it in the last.
-fn meet(flag: &AtomicU64, number: u64) -> bool {
+/// Waits for the flag in the first call, and sets it in the last.
+pub fn meet(flag: &AtomicU64, number: u64) -> bool {
     if number == 4095 {
         flag.store(1, Ordering::SeqCst);
     }

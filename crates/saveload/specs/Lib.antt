@@ -6,6 +6,7 @@ pub mod Conversion
 pub mod Plain
 pub mod Places
 pub mod Tuples
+pub mod Unsaved
 pub mod Saved
 pub mod Remapping
 pub mod Closing

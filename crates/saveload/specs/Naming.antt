@@ -68,6 +68,14 @@ pub record MakesMarked {I : Type 0} (eq : I → I → Bool) (old : Naming I) (id
 abbrev pub NamesNone : {I : Type 0} → (I → I → Bool) → Naming I → I → Naming I → Type 0
 NamesNone eq old id new = (new ≡ old) ⊎ MakesMarked eq old id new
 
+-- where the id names an entity, its marker is updated by a newer one, and each other marker stays
+abbrev pub UpdatesKnown : {M I : Type 0} → (M → M → M) → Naming I → I → M → Entity → Slot M → Slot M → Type 0
+UpdatesKnown {M} updated old id newer e s s' = (m : M) → Knows old id e → map.get s.map (index_of e) ≡ Some m → s'.map ≡ map.insert s.map (index_of e) (updated m newer)
+
+-- where it names nobody, the entity gets the newer marker as it is, and each other marker stays
+abbrev pub PutsWhole : {M I : Type 0} → Naming I → I → M → Entity → Slot M → Slot M → Type 0
+PutsWhole old id newer e s s' = NamesNobody old id → s'.map ≡ map.insert s.map (index_of e) newer
+
 abbrev pub NamesAll : {I : Type 0} → (I → I → Bool) → Naming I → List I → Naming I → Type 0
 NamesAll eq old [] new = new ≡ old
 NamesAll {I} eq old (id ∷ ids) new = (e : Entity) × (mid : Naming I) × Names eq old id e mid × NamesAll eq mid ids new

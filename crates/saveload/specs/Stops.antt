@@ -35,29 +35,40 @@ IsOfNaming people IndexLimit = NoneFree people × NoneUnused people
 IsOfNaming people (Custom t) = ⊥
 IsOfNaming people OutOfMemory = Unit {0}
 
--- of one place none is stored
-abbrev pub PartlyOne : {X : Type 0} → X → X → X → Type 0
-PartlyOne old new mid = mid ≡ old
+-- of what was saved, the error, an old row and a new one: the row that is left
+abbrev pub Partial : Type 0 → Type 0 → Type 1
+Partial D V = D → LoadError → V → V → V → Type 0
 
--- of a first place and the rest: none, or the first place and some of the rest
-abbrev pub PartlyPair : {X Y : Type 0} → (Y → Y → Y → Type 0) → X × Y → X × Y → X × Y → Type 0
-PartlyPair PartlyRest old new mid = (mid ≡ old) ⊎ ((mid.0 ≡ new.0) × PartlyRest old.1 new.1 mid.1)
+-- the causes for which what was saved at a place is refused
+abbrev pub Causes : Type 0 → Type 1
+Causes D = D → List ℕ → Type 0
 
--- some first places of a row are the new row's and the others the old one's, but not all are the new row's
-abbrev pub PartlyTwo : {X Y : Type 0} → X × Y → X × Y → X × Y → Type 0
-PartlyTwo old new mid = PartlyPair PartlyOne old new mid
+-- refused at its one place, for a cause of that place: the old one's is left
+abbrev pub PartlyOne : {D X : Type 0} → Causes D → Partial D X
+PartlyOne causes d e old new mid = IsOfStoring (causes d) e × (mid ≡ old)
 
-abbrev pub PartlyThree : {X Y Z : Type 0} → X × Y × Z → X × Y × Z → X × Y × Z → Type 0
-PartlyThree old new mid = PartlyPair PartlyTwo (three.nest old) (three.nest new) (three.nest mid)
+-- refused at the first place, for a cause of that place: the old row is left; or at the rest: the new one's first place is left, and what the rest leaves
+abbrev pub PartlyPair : {D R X Y : Type 0} → Causes D → Partial R Y → Partial (D × R) (X × Y)
+PartlyPair causes PartlyRest d e old new mid = (IsOfStoring (causes d.0) e × (mid ≡ old)) ⊎ ((mid.0 ≡ new.0) × PartlyRest d.1 e old.1 new.1 mid.1)
 
-abbrev pub PartlyFour : {W X Y Z : Type 0} → W × X × Y × Z → W × X × Y × Z → W × X × Y × Z → Type 0
-PartlyFour old new mid = PartlyPair PartlyThree (four.nest old) (four.nest new) (four.nest mid)
+-- refused at a place for a cause of that place: the places before it are the new row's, it and those after it the old one's
+abbrev pub PartlyTwo : {A B X Y : Type 0} → Causes A → Causes B → Partial (A × B) (X × Y)
+PartlyTwo c1 c2 = PartlyPair c1 (PartlyOne c2)
 
-abbrev pub PartlyFive : {V W X Y Z : Type 0} → V × W × X × Y × Z → V × W × X × Y × Z → V × W × X × Y × Z → Type 0
-PartlyFive old new mid = PartlyPair PartlyFour (five.nest old) (five.nest new) (five.nest mid)
+abbrev pub PartlyThree : {A B C X Y Z : Type 0} → Causes A → Causes B → Causes C → Partial (A × B × C) (X × Y × Z)
+PartlyThree c1 c2 c3 d e old new mid = PartlyPair c1 (PartlyTwo c2 c3) (three.nest d) e (three.nest old) (three.nest new) (three.nest mid)
 
-abbrev pub PartlySix : {U V W X Y Z : Type 0} → U × V × W × X × Y × Z → U × V × W × X × Y × Z → U × V × W × X × Y × Z → Type 0
-PartlySix old new mid = PartlyPair PartlyFive (six.nest old) (six.nest new) (six.nest mid)
+abbrev pub PartlyFour : {A B C D W X Y Z : Type 0} → Causes A → Causes B → Causes C → Causes D
+    → Partial (A × B × C × D) (W × X × Y × Z)
+PartlyFour c1 c2 c3 c4 d e old new mid = PartlyPair c1 (PartlyThree c2 c3 c4) (four.nest d) e (four.nest old) (four.nest new) (four.nest mid)
+
+abbrev pub PartlyFive : {A B C D E V W X Y Z : Type 0} → Causes A → Causes B → Causes C → Causes D → Causes E
+    → Partial (A × B × C × D × E) (V × W × X × Y × Z)
+PartlyFive c1 c2 c3 c4 c5 d e old new mid = PartlyPair c1 (PartlyFour c2 c3 c4 c5) (five.nest d) e (five.nest old) (five.nest new) (five.nest mid)
+
+abbrev pub PartlySix : {A B C D E F U V W X Y Z : Type 0} → Causes A → Causes B → Causes C → Causes D → Causes E → Causes F
+    → Partial (A × B × C × D × E × F) (U × V × W × X × Y × Z)
+PartlySix c1 c2 c3 c4 c5 c6 d e old new mid = PartlyPair c1 (PartlyFive c2 c3 c4 c5 c6) (six.nest d) e (six.nest old) (six.nest new) (six.nest mid)
 
 -- at an index some first places of a row are stored, and not all
 pub record PutsPartly {V : Type 0} (Partly : V → V → V → Type 0) (old : ℕ → V) (i : ℕ) (row : V) (new : ℕ → V) : Type 0 where
@@ -65,10 +76,10 @@ pub record PutsPartly {V : Type 0} (Partly : V → V → V → Type 0) (old : �
   pub part : Partly (old i) row mid
   pub rows : new ≡ row_put old i mid
 
--- some first places of what was saved are put at an entity's index, and not all, by what a closure answers
-abbrev pub PutsSome : {M V D : Type 0} → (V → V → V → Type 0) → Conversion M V D → (M → Option Entity → Type 0) → D → Entity
+-- the places of what was saved before the one that an error refuses are put at an entity's index, by what a closure answers
+abbrev pub PutsSome : {M V D : Type 0} → Partial D V → Conversion M V D → (M → Option Entity → Type 0) → D → Entity → LoadError
     → (ℕ → V) → (ℕ → V) → Type 0
-PutsSome {M} Partly c post d e old new = (f : M → Entity) → GivesEach post (c.mentions d) f → PutsPartly Partly old (index_of e) (c.loaded f d) new
+PutsSome {M} Partly c post d e why old new = (f : M → Entity) → GivesEach post (c.mentions d) f → PutsPartly (Partly d why) old (index_of e) (c.loaded f d) new
 
 -- the ids before one are named, that one isn't, and why
 pub record StopsNaming {I : Type 0} (eq : I → I → Bool) (old : Naming I) (ids : List I) (e : LoadError) (new : Naming I) : Type 0 where
@@ -81,7 +92,7 @@ pub record StopsNaming {I : Type 0} (eq : I → I → Bool) (old : Naming I) (id
   pub none : NamesNone eq mid id new
   pub why : IsOfNaming mid.people e
 
-module _ {M I V D : Type 0} (id_of : M → I) (eq : I → I → Bool) (c : Conversion M V D) (Partly : V → V → V → Type 0) where
+module _ {M I V D : Type 0} (id_of : M → I) (eq : I → I → Bool) (c : Conversion M V D) (Partly : Partial D V) where
   -- its own id, or one that its components mention, is not named; no place is stored
   pub record NotNamed (old : Loading I V) (r : EntityData M D) (e : LoadError) (new : Loading I V) : Type 0 where
     pub stops : StopsNaming eq old.naming (id_of r.marker ∷ map id_of (c.mentions r.components)) e new.naming
@@ -94,13 +105,13 @@ module _ {M I V D : Type 0} (id_of : M → I) (eq : I → I → Bool) (c : Conve
     pub rows : new.rows ≡ old.rows
     pub why : e ≡ OutOfMemory
 
-  -- all are named; some first places are stored, and the next is refused
+  -- all are named; the places before one are stored, and that one is refused
   pub record NotStored (old : Loading I V) (r : EntityData M D) (e : LoadError) (new : Loading I V) : Type 0 where
     pub entity : Entity
     pub mid : Naming I
     pub own : Names eq old.naming (id_of r.marker) entity mid
     pub mentioned : NamesAll eq mid (map id_of (c.mentions r.components)) new.naming
-    pub row : PutsPartly Partly old.rows (index_of entity) (c.loaded (named id_of new.naming.mapping) r.components) new.rows
+    pub row : PutsPartly (Partly r.components e) old.rows (index_of entity) (c.loaded (named id_of new.naming.mapping) r.components) new.rows
     pub why : IsOfStoring (c.unloaded r.components) e
 
   abbrev pub RefusesRecord : Loading I V → EntityData M D → LoadError → Loading I V → Type 0
@@ -117,7 +128,7 @@ module _ {M I V D : Type 0} (id_of : M → I) (eq : I → I → Bool) (c : Conve
     pub stopped : RefusesRecord mid refused e new
 
 -- why one record of a load was refused, or a list, and what it keeps, by what is lent to it
-module _ {M I V D A P : Type 0} (id_of : M → I) (eq : I → I → Bool) (c : Conversion M V D) (Partly : V → V → V → Type 0) (mapping : A → I → Option Entity) (left : A → List I → Option ℕ) (rows : P → ℕ → V) where
+module _ {M I V D A P : Type 0} (id_of : M → I) (eq : I → I → Bool) (c : Conversion M V D) (Partly : Partial D V) (mapping : A → I → Option Entity) (left : A → List I → Option ℕ) (rows : P → ℕ → V) where
   abbrev pub RefusesOneInto : Census → A → Slot M → P → EntityData M D → LoadError → Census → A → Slot M → P → Type 0
   RefusesOneInto entities a markers p r e entities' a' markers' p' =
       RefusesRecord id_of eq c Partly (loading id_of mapping left rows entities a markers p) r e (loading id_of mapping left rows entities' a' markers' p')
@@ -132,7 +143,7 @@ abbrev pub StopsNamingOf : {M I A : Type 0} → (M → I) → (I → I → Bool)
 StopsNamingOf id_of eq mapping left entities a markers ms e entities' a' markers' =
     StopsNaming eq (naming id_of mapping left entities a markers) (map id_of ms) e (naming id_of mapping left entities' a' markers')
 
--- of a first place and the rest of a row some first ones are stored, and not all
-abbrev pub PutsSomeWithRest : {M T D W E : Type 0} → (W → W → W → Type 0) → Conversion M T D → Conversion M W E → (M → Option Entity → Type 0) → Option D × E → Entity
+-- of a first place and the rest of a row those before the refused one are stored
+abbrev pub PutsSomeWithRest : {M T D W E : Type 0} → Partial E W → Conversion M T D → Conversion M W E → (M → Option Entity → Type 0) → Option D × E → Entity → LoadError
     → Slot T → (ℕ → W) → Slot T → (ℕ → W) → Type 0
-PutsSomeWithRest Partly a r post d e first rest first' rest' = PutsSome (PartlyPair Partly) (both (place a) r) post d e (beside first rest) (beside first' rest')
+PutsSomeWithRest Partly a r post d e why first rest first' rest' = PutsSome (PartlyPair (place a).unloaded Partly) (both (place a) r) post d e why (beside first rest) (beside first' rest')

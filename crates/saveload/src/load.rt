@@ -11,6 +11,7 @@ ghost use Rattle.saveload.specs.Naming.{NamesAllOf};
 ghost use Rattle.saveload.specs.Places.{place, both};
 ghost use Rattle.saveload.specs.Loads.{column, beside, PutsSaved, PutsWithRest, LoadsOneInto, LoadsInto};
 ghost use Rattle.saveload.specs.Told.{IsTold};
+ghost use Rattle.saveload.specs.declared.error.LoadError.{LoadError as Refusal};
 ghost use Rattle.saveload.specs.Stops.{IsOfStoring, PutsSome, PutsSomeWithRest, StopsNamingOf, RefusesOneInto, StopsInto};
 
 use crate::convert::ConvertSaveload;
@@ -19,7 +20,7 @@ use crate::error::LoadError;
 use crate::marker::{Marker, MarkerAllocator};
 use entities::{EntitiesRes, Entity};
 use std::alloc::{AllocError, Global};
-use storages::{Component, InsertError, MaskedStorage, UnprotectedStorage, WriteStorage};
+use storages::{Component, MaskedStorage, UnprotectedStorage, WriteStorage};
 
 /// A tuple of one to six storages that are lent for a load.
 ///
@@ -34,8 +35,8 @@ pub trait DeserializeComponents<M: Marker> {
 
     ghost rows: { Self → ℕ → Self.Row };
 
-    // Of an old row and a new one: some first places of a row are the new one's and the others the old one's, but not all are the new one's.
-    ghost Partly: { Self.Row → Self.Row → Self.Row → Type 0 };
+    // Of what was saved, an error of one of its places, an old row and a new one: the places before that one are the new row's, and the others the old one's.
+    ghost Partly: { Self.Data → Refusal → Self.Row → Self.Row → Self.Row → Type 0 };
 
     // The same storages are lent, and each was changed by insertions and removals alone, of which its readers were told.
     ghost Changes: { Self → Self → Type 0 };
@@ -47,7 +48,7 @@ pub trait DeserializeComponents<M: Marker> {
 
     /// Stores what was saved at an entity that is alive, place by place, by the entities that `ids` gives: a component, which takes
     /// the place of the one that was there, or none, which takes that one out. After a refusal the places before the refused one stay. An
-    /// entity that is not alive gets nothing.
+    /// entity that is not alive gets nothing, and is not refused.
     ///
     /// Ports `DeserializeComponents::deserialize_entity`.
     fn deserialize_entity<F: Fn(M) -> Option<Entity>>(
@@ -61,9 +62,10 @@ pub trait DeserializeComponents<M: Marker> {
         requires { F.IsAlwaysCallable ids }
         ensures changes { Changes self.old self.new }
         ensures rows { is_alive (population entities.now) entity ≡ true → OnOk result (PutsSaved conversion (F.post ids) saved entity (rows self.old) (rows self.new)) }
-        ensures stopped { is_alive (population entities.now) entity ≡ true → OnErr result (PutsSome Partly conversion (F.post ids) saved entity (rows self.old) (rows self.new)) }
+        ensures stopped { is_alive (population entities.now) entity ≡ true → IfErr result (λ e. PutsSome Partly conversion (F.post ids) saved entity e (rows self.old) (rows self.new)) }
         ensures refused { (f : M → Being) → GivesEach (F.post ids) (conversion.mentions saved) f → IfErr result (IsOfStoring (conversion.unloaded saved)) }
-        ensures dead { is_alive (population entities.now) entity ≡ false → rows self.new ≡ rows self.old };
+        ensures dead { is_alive (population entities.now) entity ≡ false → rows self.new ≡ rows self.old }
+        ensures alive { OnErr result (is_alive (population entities.now) entity ≡ true) };
 
     ghost faithful: { IsFaithful conversion };
 
@@ -92,7 +94,7 @@ pub(crate) fn add_mentions<M: Marker, T: ConvertSaveload<M>>(
     Ok(())
 }
 
-// Stores a place of an entity.
+// Stores a place of an entity, if that is alive.
 pub(crate) fn store_place<
     M: Marker,
     T: Component<Storage: UnprotectedStorage<T>> + Drop + ConvertSaveload<M>,
@@ -111,9 +113,13 @@ pub(crate) fn store_place<
     ensures told { IsTold masked.old masked.new }
     ensures err { OnErr result (column masked.new ≡ column masked.old) }
     ensures dead { is_alive (population entities.now) entity ≡ false → column masked.new ≡ column masked.old }
+    ensures alive { OnErr result (is_alive (population entities.now) entity ≡ true) }
     ensures refused { (f : M → Being) → GivesEach (F.post ids.now) ((place T.conversion).mentions saved) f
         → IfErr result (IsOfStoring ((place T.conversion).unloaded saved)) }
 {
+    if !entities.is_alive(entity) {
+        return Ok(());
+    }
     match saved {
         Some(saved) => {
             let value = T::convert_from(saved, alloc, ids)?;
@@ -147,11 +153,12 @@ pub(crate) fn store_with_rest<
     ensures changes { R.Changes rest.old rest.new }
     ensures rows { is_alive (population entities.now) entity ≡ true
         → OnOk result (PutsWithRest A.conversion R.conversion (F.post ids) saved entity first.old (R.rows rest.old) first.new (R.rows rest.new)) }
-    ensures stopped { is_alive (population entities.now) entity ≡ true → OnErr result (PutsSomeWithRest R.Partly A.conversion R.conversion
-        (F.post ids) saved entity first.old (R.rows rest.old) first.new (R.rows rest.new)) }
+    ensures stopped { is_alive (population entities.now) entity ≡ true → IfErr result (λ e. PutsSomeWithRest R.Partly A.conversion R.conversion
+        (F.post ids) saved entity e first.old (R.rows rest.old) first.new (R.rows rest.new)) }
     ensures refused { (f : M → Being) → GivesEach (F.post ids) ((both (place A.conversion) R.conversion).mentions saved) f
         → IfErr result (IsOfStoring ((both (place A.conversion) R.conversion).unloaded saved)) }
     ensures dead { is_alive (population entities.now) entity ≡ false → beside first.new (R.rows rest.new) ≡ beside first.old (R.rows rest.old) }
+    ensures alive { OnErr result (is_alive (population entities.now) entity ≡ true) }
 {
     let (place, others) = saved;
     store_place(alloc, entities, first, entity, place, &ids)?;
@@ -165,15 +172,14 @@ fn put_at<T: Component<Storage: UnprotectedStorage<T>> + Drop>(
     entity: Entity,
     value: T,
 ) -> Result<(), AllocError>
-    ensures alive { is_alive (population entities.now) entity ≡ true → OnOk result (masked.new.map ≡ finmap.insert masked.old.map (index_of entity) value) }
-    ensures dead { is_alive (population entities.now) entity ≡ false → OnOk result (masked.new.map ≡ masked.old.map) }
+    requires alive { is_alive (population entities.now) entity ≡ true }
+    ensures ok { OnOk result (masked.new.map ≡ finmap.insert masked.old.map (index_of entity) value) }
     ensures told { IsTold masked.old masked.new }
     ensures err { OnErr result (masked.new.map ≡ masked.old.map) }
 {
     match WriteStorage::new(entities, masked).insert(entity, value) {
         Ok(_) => Ok(()),
-        Err(InsertError::WrongGeneration(_, _)) => Ok(()),
-        Err(InsertError::OutOfMemory(_)) => Err(AllocError),
+        Err(_) => Err(AllocError),
     }
 }
 

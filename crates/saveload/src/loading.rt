@@ -1,5 +1,6 @@
 //! Tuples of one to six storages that are lent for a load.
 ghost use Rattle.saveload.specs.Loads.{column};
+ghost use Rattle.saveload.specs.Places.{place};
 ghost use Rattle.saveload.specs.Stops.{PartlyOne, PartlyTwo, PartlyThree, PartlyFour, PartlyFive, PartlySix};
 ghost use Rattle.saveload.specs.Tuples.{one_place, two_places, three_places, four_places, five_places, six_places};
 ghost use Rattle.saveload.specs.Told.{IsFilled, filled_self, filled_both};
@@ -25,7 +26,7 @@ where
 
     ghost rows = { λ s i. record { 0 = column s.0.now i } };
 
-    ghost Partly = { PartlyOne };
+    ghost Partly = { PartlyOne (one_place A.conversion).unloaded };
 
     ghost Changes = { λ s t. IsFilled s.0 t.0 };
 
@@ -71,7 +72,7 @@ where
 
     ghost rows = { λ s i. (column s.0.now i, column s.1.now i) };
 
-    ghost Partly = { PartlyTwo };
+    ghost Partly = { PartlyTwo (place A.conversion).unloaded (place B.conversion).unloaded };
 
     ghost Changes = { λ s t. IsFilled s.0 t.0 × IsFilled s.1 t.1 };
 
@@ -126,7 +127,7 @@ where
 
     ghost rows = { λ s i. (column s.0.now i, column s.1.now i, column s.2.now i) };
 
-    ghost Partly = { PartlyThree };
+    ghost Partly = { PartlyThree (place A.conversion).unloaded (place B.conversion).unloaded (place C.conversion).unloaded };
 
     ghost Changes = { λ s t. IsFilled s.0 t.0 × IsFilled s.1 t.1 × IsFilled s.2 t.2 };
 
@@ -193,7 +194,7 @@ where
 
     ghost rows = { λ s i. (column s.0.now i, column s.1.now i, column s.2.now i, column s.3.now i) };
 
-    ghost Partly = { PartlyFour };
+    ghost Partly = { PartlyFour (place A.conversion).unloaded (place B.conversion).unloaded (place C.conversion).unloaded (place D.conversion).unloaded };
 
     ghost Changes = { λ s t. IsFilled s.0 t.0 × IsFilled s.1 t.1 × IsFilled s.2 t.2 × IsFilled s.3 t.3 };
 
@@ -264,7 +265,7 @@ where
 
     ghost rows = { λ s i. (column s.0.now i, column s.1.now i, column s.2.now i, column s.3.now i, column s.4.now i) };
 
-    ghost Partly = { PartlyFive };
+    ghost Partly = { PartlyFive (place A.conversion).unloaded (place B.conversion).unloaded (place C.conversion).unloaded (place D.conversion).unloaded (place E.conversion).unloaded };
 
     ghost Changes = { λ s t. IsFilled s.0 t.0 × IsFilled s.1 t.1 × IsFilled s.2 t.2 × IsFilled s.3 t.3 × IsFilled s.4 t.4 };
 
@@ -346,7 +347,7 @@ where
 
     ghost rows = { λ s i. (column s.0.now i, column s.1.now i, column s.2.now i, column s.3.now i, column s.4.now i, column s.5.now i) };
 
-    ghost Partly = { PartlySix };
+    ghost Partly = { PartlySix (place A.conversion).unloaded (place B.conversion).unloaded (place C.conversion).unloaded (place D.conversion).unloaded (place E.conversion).unloaded (place G.conversion).unloaded };
 
     ghost Changes = { λ s t. IsFilled s.0 t.0 × IsFilled s.1 t.1 × IsFilled s.2 t.2 × IsFilled s.3 t.3 × IsFilled s.4 t.4 × IsFilled s.5 t.5 };
 

@@ -1,5 +1,6 @@
 //! Markers, and what gives them their ids.
 ghost use Rattle.std.specs.Prelude.{◌≡◌, ◌↔◌, ◌⊎◌, true, false, ℕ, List, [], Option, Some, None, Ok, Err, IfSome, IfOk, IfErr, OnOk, OnErr, IsTrue, is_some};
+ghost use Rattle.std.specs.FinMap as finmap;
 ghost use Rattle.entities.specs.declared.entity.Entity.{Entity};
 ghost use Rattle.entities.specs.Census.{population};
 ghost use Rattle.entities.specs.Population.{NoneFree, NoneUnused, IsAlive, mark, index_of};
@@ -7,7 +8,7 @@ ghost use Rattle.storages.specs.Life.{is_alive};
 ghost use Rattle.storages.specs.Limit.{IsIndex};
 ghost use Rattle.storages.specs.Slot.{IsSame};
 ghost use Rattle.storages.specs.WriteView.{slot, entities_of, found, storage_name};
-ghost use Rattle.saveload.specs.Naming.{naming, ids_in, Names, NamesNone, once_given, put_id, put_at};
+ghost use Rattle.saveload.specs.Naming.{naming, ids_in, Names, NamesNone, UpdatesKnown, PutsWhole, once_given, put_id, put_at};
 ghost use Rattle.saveload.specs.Remapping.{living_ids};
 ghost use Rattle.saveload.specs.Told.{IsTold};
 ghost use Rattle.saveload.specs.Marking.{MarksNew, IsOfIds, MayHaveGiven, TakesOne};
@@ -31,17 +32,18 @@ pub trait Marker: Component<Storage: UnprotectedStorage<Self>> + Clone + Drop + 
     // The id of a marker.
     ghost id_of: { Self → Self.Identifier };
 
+    // What is left of a marker once a newer one came: the newer one, where nothing else is written.
+    ghost updated: { Self → Self → Self } = { λ old new. new };
+
     /// The id, which stays the same.
     fn id(&self) -> Self::Identifier
         ensures { result ≡ id_of self.now };
 
-    /// Takes over what a newer marker of the same id holds: all of it, where nothing else is written.
+    /// Takes over what a newer marker of the same id holds, as the marker's `updated` says. The id stays.
     fn update(&mut self, new: Self)
         requires { id_of self.old ≡ id_of new }
-        ensures { id_of self.new ≡ id_of self.old }
-    {
-        *self = new;
-    }
+        ensures same_id { id_of self.new ≡ id_of self.old }
+        ensures takes { self.new ≡ updated self.old new };
 
     // Two ids are equal just where the test says so.
     ghost same_ids: { (a b : Self.Identifier) → IsTrue (Self.Identifier.eq a b) ↔ (a ≡ b) };
@@ -90,9 +92,9 @@ pub trait MarkerAllocator<M: Marker> {
         ensures { result ≡ mapping self.now id };
 
     /// The entity that a marker names: the one that its id is mapped to, if that is alive and has a marker of this id, which is
-    /// then updated; else a new one, whose birth is pending, with this marker.
+    /// then updated; else a new one, whose birth is pending, with this marker. Each other marker stays as it was.
     ///
-    /// After a refusal an entity that was made is marked, and the id may be mapped to it.
+    /// After a refusal each marker is as it was; an entity that was made is marked, and the id may be mapped to it.
     fn retrieve_entity(
         &mut self,
         marker: M,
@@ -103,6 +105,9 @@ pub trait MarkerAllocator<M: Marker> {
         ensures err { OnErr result (NamesNone M.Identifier.eq (naming M.id_of mapping ids_past entities.old self.old storage.old) (M.id_of marker) (naming M.id_of mapping ids_past entities.new self.new storage.new)) }
         ensures limit { result ≡ Err CreateError.IndexLimit → NoneFree (population entities.old) × NoneUnused (population entities.old) }
         ensures told { IsTold storage.old storage.new }
+        ensures known { IfOk result (λ e. UpdatesKnown M.updated (naming M.id_of mapping ids_past entities.old self.old storage.old) (M.id_of marker) marker e storage.old storage.new) }
+        ensures whole { IfOk result (λ e. PutsWhole (naming M.id_of mapping ids_past entities.old self.old storage.old) (M.id_of marker) marker e storage.old storage.new) }
+        ensures kept { OnErr result (storage.new.map ≡ storage.old.map) }
     {
         let id = marker.id();
         if let Some(known) = named_by(self.retrieve_entity_internal(id), entities, storage, id) {
@@ -199,7 +204,8 @@ fn update_at<M: Marker>(
 ) -> Result<(), CreateError>
     requires { ids_in M.id_of storage.old index ≡ Some (M.id_of marker) }
     ensures ids { OnOk result (ids_in M.id_of storage.new ≡ ids_in M.id_of storage.old) }
-    ensures err { OnErr result (ids_in M.id_of storage.new ≡ ids_in M.id_of storage.old) }
+    ensures known { (m : M) → finmap.get storage.old.map index ≡ Some m → OnOk result (storage.new.map ≡ finmap.insert storage.old.map index (M.updated m marker)) }
+    ensures err { OnErr result (storage.new.map ≡ storage.old.map) }
     ensures told { IsTold storage.old storage.new }
     ensures refused { IfErr result (λ e. e ≡ CreateError.OutOfMemory) }
 {
@@ -228,8 +234,9 @@ fn put_marker<M: Marker>(
     marker: M,
 ) -> Result<(), AllocError>
     requires { IsIndex index }
-    ensures ok { OnOk result (ids_in M.id_of storage.new ≡ put_at (ids_in M.id_of storage.old) index (M.id_of marker)) }
-    ensures err { OnErr result (ids_in M.id_of storage.new ≡ ids_in M.id_of storage.old) }
+    ensures ok { OnOk result (storage.new.map ≡ finmap.insert storage.old.map index marker) }
+    ensures ids { OnOk result (ids_in M.id_of storage.new ≡ put_at (ids_in M.id_of storage.old) index (M.id_of marker)) }
+    ensures err { OnErr result (storage.new.map ≡ storage.old.map) }
     ensures told { IsTold storage.old storage.new }
 {
     match storage.put(index, marker) {

@@ -1,8 +1,9 @@
 //! Saving the components of one entity, place by place.
-ghost use Rattle.std.specs.Prelude.{◌≡◌, ◌++◌, Option, Some, None, Ok, Err, IfOk, IfErr, OnOk, OnErr};
+ghost use Rattle.std.specs.Prelude.{◌≡◌, ◌++◌, ℕ, List, Option, Some, None, Ok, Err, IfOk, IfErr, OnOk, OnErr};
 ghost use Rattle.entities.specs.declared.entity.Entity.{Entity as Being};
 ghost use Rattle.saveload.specs.Conversion.{Conversion, IsFaithful, Answers, AllNamed, SavesBy, RefusesBy, RefusesFor, NoCause};
 ghost use Rattle.saveload.specs.Places.{place, both};
+ghost use Rattle.saveload.specs.Unsaved.{UnsavedOne, UnsavedPair, ComesInTurn};
 
 use crate::convert::ConvertSaveload;
 use crate::error::SaveError;
@@ -24,12 +25,15 @@ pub trait SerializeComponents<M: Marker> {
 
     ghost values: { Self → Being → Self.Row };
 
+    // By the names that a function gives, the causes for which a row is refused: each reference of the place that has the cause, and of those before it, is named.
+    ghost Unsaved: { (Being → Option M) → Self.Row → List ℕ → Type 0 };
+
     /// The entities that the components of an entity refer to, place by place.
     fn references(&self, alloc: Global, entity: Entity) -> Result<Vec<Entity>, AllocError>
         ensures { IfOk result (λ v. v.items ≡ conversion.references (values self.now entity)) };
 
     /// The data of an entity's components, by the markers that `ids` gives. The first reference of a place for which it gives none is
-    /// refused as `Unmarked`, before that place is converted.
+    /// refused as `Unmarked`, before that place is converted, and before a later place is looked at.
     ///
     /// Ports `SerializeComponents::serialize_entity`.
     fn serialize_entity<F: Fn(Entity) -> Option<M>>(
@@ -40,7 +44,8 @@ pub trait SerializeComponents<M: Marker> {
     ) -> Result<Self::Data, SaveError>
         requires { F.IsAlwaysCallable ids }
         ensures saved { IfOk result (SavesBy conversion (F.post ids) (values self.now entity)) }
-        ensures refused { IfErr result (RefusesBy conversion (F.post ids) (values self.now entity)) };
+        ensures refused { IfErr result (RefusesBy conversion (F.post ids) (values self.now entity)) }
+        ensures turn { IfErr result (ComesInTurn Unsaved conversion (F.post ids) (values self.now entity)) };
 
     // The laws of conversions.
     ghost faithful: { IsFaithful conversion };
@@ -74,6 +79,7 @@ where
     requires { F.IsAlwaysCallable ids.now }
     ensures saved { IfOk result (SavesBy (place S.Component.conversion) (F.post ids.now) (S.found storage.now entity)) }
     ensures refused { IfErr result (RefusesBy (place S.Component.conversion) (F.post ids.now) (S.found storage.now entity)) }
+    ensures turn { IfErr result (ComesInTurn (UnsavedOne (place S.Component.conversion)) (place S.Component.conversion) (F.post ids.now) (S.found storage.now entity)) }
 {
     match storage.get(entity) {
         Some(value) => {
@@ -120,6 +126,7 @@ where
     requires { F.IsAlwaysCallable ids }
     ensures saved { IfOk result (SavesBy (both (place A.Component.conversion) R.conversion) (F.post ids) (A.found first.now entity, R.values rest.now entity)) }
     ensures refused { IfErr result (RefusesBy (both (place A.Component.conversion) R.conversion) (F.post ids) (A.found first.now entity, R.values rest.now entity)) }
+    ensures turn { IfErr result (ComesInTurn (UnsavedPair (place A.Component.conversion) R.Unsaved) (both (place A.Component.conversion) R.conversion) (F.post ids) (A.found first.now entity, R.values rest.now entity)) }
 {
     let data = serialize_place(alloc, first, entity, &ids)?;
     let others = rest.serialize_entity(alloc, entity, &ids)?;

@@ -1,4 +1,6 @@
 //! Tuples of one to six storages whose components are saved.
+ghost use Rattle.saveload.specs.Places.{place};
+ghost use Rattle.saveload.specs.Unsaved.{UnsavedOne, UnsavedTwo, UnsavedThree, UnsavedFour, UnsavedFive, UnsavedSix};
 ghost use Rattle.saveload.specs.Tuples.{one_place, two_places, three_places, four_places, five_places, six_places};
 ghost use Rattle.saveload.specs.Tuples.{one_place_faithful, two_places_faithful, three_places_faithful, four_places_faithful, five_places_faithful, six_places_faithful};
 
@@ -21,6 +23,8 @@ where
     ghost conversion = { one_place A.Component.conversion };
 
     ghost values = { λ s e. record { 0 = A.found s.0 e } };
+
+    ghost Unsaved = { UnsavedOne (one_place A.Component.conversion) };
 
     fn references(&self, alloc: Global, entity: Entity) -> Result<Vec<Entity>, AllocError> {
         place_references::<M, A>(alloc, &self.0, entity)
@@ -54,6 +58,8 @@ where
     ghost conversion = { two_places A.Component.conversion B.Component.conversion };
 
     ghost values = { λ s e. (A.found s.0 e, B.found s.1 e) };
+
+    ghost Unsaved = { UnsavedTwo (place A.Component.conversion) (place B.Component.conversion) };
 
     fn references(&self, alloc: Global, entity: Entity) -> Result<Vec<Entity>, AllocError> {
         let mut list = place_references::<M, A>(alloc, &self.0, entity)?;
@@ -102,6 +108,8 @@ where
     ghost conversion = { three_places A.Component.conversion B.Component.conversion C.Component.conversion };
 
     ghost values = { λ s e. (A.found s.0 e, B.found s.1 e, C.found s.2 e) };
+
+    ghost Unsaved = { UnsavedThree (place A.Component.conversion) (place B.Component.conversion) (place C.Component.conversion) };
 
     fn references(&self, alloc: Global, entity: Entity) -> Result<Vec<Entity>, AllocError> {
         let mut list = place_references::<M, A>(alloc, &self.0, entity)?;
@@ -155,6 +163,8 @@ where
     ghost conversion = { four_places A.Component.conversion B.Component.conversion C.Component.conversion D.Component.conversion };
 
     ghost values = { λ s e. (A.found s.0 e, B.found s.1 e, C.found s.2 e, D.found s.3 e) };
+
+    ghost Unsaved = { UnsavedFour (place A.Component.conversion) (place B.Component.conversion) (place C.Component.conversion) (place D.Component.conversion) };
 
     fn references(&self, alloc: Global, entity: Entity) -> Result<Vec<Entity>, AllocError> {
         let mut list = place_references::<M, A>(alloc, &self.0, entity)?;
@@ -214,6 +224,8 @@ where
     ghost conversion = { five_places A.Component.conversion B.Component.conversion C.Component.conversion D.Component.conversion E.Component.conversion };
 
     ghost values = { λ s e. (A.found s.0 e, B.found s.1 e, C.found s.2 e, D.found s.3 e, E.found s.4 e) };
+
+    ghost Unsaved = { UnsavedFive (place A.Component.conversion) (place B.Component.conversion) (place C.Component.conversion) (place D.Component.conversion) (place E.Component.conversion) };
 
     fn references(&self, alloc: Global, entity: Entity) -> Result<Vec<Entity>, AllocError> {
         let mut list = place_references::<M, A>(alloc, &self.0, entity)?;
@@ -277,6 +289,8 @@ where
     ghost conversion = { six_places A.Component.conversion B.Component.conversion C.Component.conversion D.Component.conversion E.Component.conversion G.Component.conversion };
 
     ghost values = { λ s e. (A.found s.0 e, B.found s.1 e, C.found s.2 e, D.found s.3 e, E.found s.4 e, G.found s.5 e) };
+
+    ghost Unsaved = { UnsavedSix (place A.Component.conversion) (place B.Component.conversion) (place C.Component.conversion) (place D.Component.conversion) (place E.Component.conversion) (place G.Component.conversion) };
 
     fn references(&self, alloc: Global, entity: Entity) -> Result<Vec<Entity>, AllocError> {
         let mut list = place_references::<M, A>(alloc, &self.0, entity)?;

@@ -21,7 +21,7 @@ use std::marker::PhantomData;
 use storages::{Component, DenseVecStorage, MaskedStorage, WriteStorage};
 
 /// A marker that is a number, of a kind `T`. Ports `specs::saveload::SimpleMarker`.
-#[derive(PartialEq, Eq, Hash)]
+#[derive_where(PartialEq, Eq, Hash)]
 pub struct SimpleMarker<T> {
     id: u64,
     kind: PhantomData<T>,
@@ -71,8 +71,15 @@ impl<T> Marker for SimpleMarker<T> {
 
     ghost id_of = { λ m. m.id };
 
+    ghost updated = { λ old new. new };
+
     fn id(&self) -> u64 {
         self.id
+    }
+
+    /// The newer marker stays.
+    fn update(&mut self, new: Self) {
+        *self = new;
     }
 
     ghost same_ids = { same_numbers };

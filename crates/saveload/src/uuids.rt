@@ -23,7 +23,7 @@ use storages::{Component, MaskedStorage, VecStorage, WriteStorage};
 use uuid::Uuid;
 
 /// A marker that is an identifier of sixteen bytes, drawn from a generator `R`. Ports `specs::saveload::UuidMarker`.
-#[derive(PartialEq, Eq, Hash)]
+#[derive_where(PartialEq, Eq, Hash)]
 pub struct UuidMarker<R> {
     uuid: Uuid,
     generator: PhantomData<R>,
@@ -81,8 +81,15 @@ impl<R> Marker for UuidMarker<R> {
 
     ghost id_of = { λ m. m.uuid };
 
+    ghost updated = { λ old new. new };
+
     fn id(&self) -> Uuid {
         self.uuid
+    }
+
+    /// The newer marker stays.
+    fn update(&mut self, new: Self) {
+        *self = new;
     }
 
     ghost same_ids = { same_uuids };

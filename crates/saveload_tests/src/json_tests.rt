@@ -1,9 +1,11 @@
 //! Saved lists as texts.
 use crate::components::Position;
 use crate::worlds::{
-    NetMarker, Record, World, comes_true, is_linked, is_marked_now, is_placed, save, save_text,
+    Record, World, comes_true, entity_at, is_linked, is_marked_now, is_placed, records_of, save,
+    save_text, text_of,
 };
-use saveload::{LoadError, SaveError, from_json, to_json};
+use entities::Entity;
+use saveload::{LoadError, SaveError};
 use std::alloc::Global;
 use std::process::Abort;
 use std::test::Fail;
@@ -17,13 +19,13 @@ const FOUR: &str =
 type Read = Result<Vec<Record>, LoadError>;
 
 fn read(alloc: Global, text: &str) -> Read {
-    from_json(alloc, text)
+    records_of(alloc, text)
 }
 
 /// Whether a text is read as a list whose text is the second one.
 fn is_read_as(alloc: Global, text: &str, written: &str) -> Result<bool, Fail> {
     match read(alloc, text) {
-        Ok(list) => Ok(to_json(alloc, &list)?.as_str() == written),
+        Ok(list) => Ok(text_of(alloc, &list)?.as_str() == written),
         Err(_) => Ok(false),
     }
 }
@@ -37,7 +39,7 @@ fn two_saved(world: &mut World) -> Result<bool, Fail> {
     let marked = is_marked_now(world, 0) && is_marked_now(world, 1);
     let linked = is_linked(world, 0, 1) && is_linked(world, 1, 0) && is_placed(world, 0, 5);
     let list = save(world).ok().ok_or("not saved")?;
-    let text = to_json(world.alloc, &list)?;
+    let text = text_of(world.alloc, &list)?;
     Ok(marked && linked && text.as_str() == TWO)
 }
 
@@ -47,6 +49,11 @@ fn a_saved_list_is_written_compactly(rt: HostRuntime) -> Result<(), Fail> {
     Ok(())
 }
 
+// Whether no text is written since an entity has no marker.
+fn is_refused_for(world: &World, entity: Entity) -> bool {
+    matches!(save_text(world), Err(SaveError::Unmarked(unmarked)) if unmarked == entity)
+}
+
 // The same, written a record at a time; an entity without a marker that is referred to is refused.
 fn two_written(world: &mut World) -> Result<bool, Fail> {
     let empty = save_text(world).ok().ok_or("not saved")?;
@@ -54,8 +61,7 @@ fn two_written(world: &mut World) -> Result<bool, Fail> {
     let linked = is_linked(world, 0, 1) && is_linked(world, 1, 0) && is_placed(world, 0, 5);
     let text = save_text(world).ok().ok_or("not saved")?;
     let stray = is_linked(world, 1, 2);
-    let third = world.entities.entity(2);
-    let refused = matches!(save_text(world), Err(SaveError::Unmarked(e)) if e == third);
+    let refused = is_refused_for(world, entity_at(world, 2));
     Ok(empty.as_str() == "[]" && marked && linked && text.as_str() == TWO && stray && refused)
 }
 
@@ -224,7 +230,7 @@ fn is_refused_or_told(alloc: Global, bytes: &[u8]) -> Result<bool, Fail> {
     };
     match read(alloc, text) {
         Ok(list) => {
-            let written = to_json(alloc, &list)?;
+            let written = text_of(alloc, &list)?;
             Ok(written.as_str().as_bytes() == without_spaces(alloc, bytes)?.as_slice())
         }
         Err(LoadError::NotTheForm) => Ok(true),

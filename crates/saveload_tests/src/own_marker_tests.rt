@@ -11,7 +11,7 @@ ghost use Rattle.storages.specs.Life.{is_alive};
 ghost use Rattle.storages.specs.Slot.{IsSame};
 ghost use Rattle.storages.specs.WriteView.{slot, entities_of, found, storage_name};
 
-use crate::worlds::{Told, comes_true, empty, living};
+use crate::worlds::{Told, comes_true, count_of, empty, living};
 use entities::{EntitiesRes, Entity};
 use saveload::{MarkError, Marker, MarkerAllocator};
 use std::alloc::{AllocError, Global};
@@ -36,6 +36,8 @@ impl Marker for NetMarker {
     type Allocator = NetNode;
 
     ghost id_of = { λ m. m.id };
+
+    ghost updated = { λ old new. record { id = old.id; seq = new.seq } };
 
     fn id(&self) -> u64 {
         self.id
@@ -220,20 +222,44 @@ fn id_and_seq(net: &Net, index: u32) -> Option<(u64, u64)> {
     }
 }
 
+// The entity of an index.
+fn entity_at(net: &Net, index: u32) -> Entity {
+    net.entities.entity(index)
+}
+
+// The entity that a marker names.
+fn named_by(net: &mut Net, marker: NetMarker) -> Option<Entity> {
+    net.node
+        .retrieve_entity(marker, &mut net.markers, &mut net.entities)
+        .ok()
+}
+
 // A newer marker names the entity, and what is stored is updated.
 fn named_by_a_newer_one(net: &mut Net) -> Result<bool, Fail> {
-    let entity = net.entities.entity(0);
+    let entity = entity_at(net, 0);
     let marked = is_marked_now(net, entity) && id_and_seq(net, 0) == Some((0, 0));
-    let newer = NetMarker { id: 0, seq: 7 };
-    let named = net
-        .node
-        .retrieve_entity(newer, &mut net.markers, &mut net.entities);
-    let updated = id_and_seq(net, 0) == Some((0, 7)) && net.markers.count() == 1;
-    Ok(marked && named == Ok(entity) && updated)
+    let named = named_by(net, NetMarker { id: 0, seq: 7 });
+    let updated = id_and_seq(net, 0) == Some((0, 7)) && count_of(&net.markers) == 1;
+    Ok(marked && named == Some(entity) && updated)
+}
+
+// A marker of an unknown id names a new entity, which has all that the marker holds.
+fn named_anew(net: &mut Net) -> Result<bool, Fail> {
+    let entity = entity_at(net, 0);
+    let marked = is_marked_now(net, entity);
+    let named = named_by(net, NetMarker { id: 5, seq: 9 });
+    let whole = id_and_seq(net, 1) == Some((5, 9)) && count_of(&net.markers) == 2;
+    Ok(marked && named == Some(entity_at(net, 1)) && whole && id_and_seq(net, 0) == Some((0, 0)))
 }
 
 #[test]
 fn a_marker_is_updated_by_a_newer_one_of_its_id(rt: HostRuntime) -> Result<(), Fail> {
     assert!(rt; comes_true(rt.alloc(), 1, named_by_a_newer_one)?);
+    Ok(())
+}
+
+#[test]
+fn a_new_entity_has_all_that_its_marker_holds(rt: HostRuntime) -> Result<(), Fail> {
+    assert!(rt; comes_true(rt.alloc(), 1, named_anew)?);
     Ok(())
 }

@@ -1,15 +1,14 @@
 //! What is saved, and what a load makes of it.
 use crate::components::Position;
 use crate::worlds::{
-    NetMarker, Record, SavedPair, World, Worlds, built, comes_true, id_at, ids_are, is_linked,
-    is_marked_now, is_placed, links_are, load, marker_of, place_of, records_are, save, save_all,
-    target_of,
+    NetMarker, Record, SavedPair, World, Worlds, built, comes_true, entity, entity_at, id_at,
+    ids_are, is_linked, is_marked_now, is_placed, is_raised, links_are, load, marker_of, markers,
+    place_of, positions, records_are, save, save_all, target_of, view,
 };
 use entities::Entity;
 use saveload::{DeserializeComponents, EntityData, Marker, SaveError, SerializeComponents};
 use std::alloc::Global;
 use std::test::Fail;
-use storages::ReadStorage;
 
 // Whether the marked ones are saved with these ids and links, and loaded into the other world.
 fn carried(worlds: &mut Worlds, ids: &[(u64, Option<u64>)]) -> Result<bool, Fail> {
@@ -37,12 +36,17 @@ fn carried_crosswise(worlds: &mut Worlds) -> Result<bool, Fail> {
 fn births_are(world: &World, births: &[bool]) -> bool {
     let mut index = 0u32;
     for pending in births {
-        if world.entities.raised().contains(index) != *pending {
+        if is_raised(world, index) != *pending {
             return false;
         }
         index = index.wrapping_add(1);
     }
-    !world.entities.living().0.contains(0)
+    !is_merged(world, 0)
+}
+
+// Whether an index lives, and its birth was merged.
+fn is_merged(world: &World, index: u32) -> bool {
+    world.entities.living().0.contains(index)
 }
 
 #[test]
@@ -103,7 +107,7 @@ fn carried_and_built(worlds: &mut Worlds) -> Result<bool, Fail> {
 
 // Whether two were loaded, and two more get the next ids.
 fn go_on_from_two(world: &mut World) -> Result<bool, Fail> {
-    let loaded = world.markers.count() == 2;
+    let loaded = markers(world) == 2;
     let _third = built(world)?;
     let _fourth = built(world)?;
     Ok(
@@ -111,7 +115,7 @@ fn go_on_from_two(world: &mut World) -> Result<bool, Fail> {
             && place_of(world, 0) == Some(32)
             && place_of(world, 1) == Some(64)
             && ids_are(world, [Some(0), Some(1), Some(2), Some(3)].as_slice())
-            && world.markers.count() == 4,
+            && markers(world) == 4,
     )
 }
 
@@ -131,7 +135,7 @@ fn record_at(marker: NetMarker, place: i64) -> Record {
 
 // Two records of one id.
 fn two_of_one_id(alloc: Global) -> Result<Vec<Record>, Fail> {
-    let any = Entity::from_parts(0, 1).ok_or("no entity")?;
+    let any = entity(0, 1)?;
     let marker = marker_of(alloc, 0, any)?;
     let mut list = Vec::with_capacity(alloc, 2)?;
     list.push(record_at(marker, 5))?;
@@ -143,12 +147,7 @@ fn two_of_one_id(alloc: Global) -> Result<Vec<Record>, Fail> {
 fn loaded_over(world: &mut World) -> Result<bool, Fail> {
     let list = two_of_one_id(world.alloc)?;
     let loaded = load(world, list).is_ok();
-    Ok(
-        loaded
-            && place_of(world, 0) == Some(7)
-            && world.positions.count() == 1
-            && world.markers.count() == 1,
-    )
+    Ok(loaded && place_of(world, 0) == Some(7) && positions(world) == 1 && markers(world) == 1)
 }
 
 #[test]
@@ -164,11 +163,11 @@ fn saved_with(
     marker: NetMarker,
 ) -> Result<(Option<i64>, Option<u64>), Option<Entity>> {
     let places = (
-        ReadStorage::new(&world.entities, &world.positions),
-        ReadStorage::new(&world.entities, &world.links),
+        view(&world.entities, &world.positions),
+        view(&world.entities, &world.links),
     );
     let ids = |e: Entity| { if e == marked { Some(marker) } else { None } };
-    match places.serialize_entity(world.alloc, world.entities.entity(0), ids) {
+    match places.serialize_entity(world.alloc, entity_at(world, 0), ids) {
         Ok((position, link)) => Ok((position.map(|p| p.0), link.map(|m: NetMarker| m.id()))),
         Err(SaveError::Unmarked(entity)) => Err(Some(entity)),
         Err(_) => Err(None),
@@ -177,7 +176,7 @@ fn saved_with(
 
 // Whether this was stored at index 1, where each marker names this entity.
 fn is_stored(world: &mut World, saved: SavedPair, target: Entity) -> bool {
-    let entity = world.entities.entity(1);
+    let entity = entity_at(world, 1);
     let mut lent = (&mut world.positions, &mut world.links);
     lent.deserialize_entity(
         world.alloc,
@@ -191,8 +190,8 @@ fn is_stored(world: &mut World, saved: SavedPair, target: Entity) -> bool {
 
 // One entity is saved where its target has an id, and refused where another has it.
 fn saved_alone(world: &mut World) -> Result<bool, Fail> {
-    let target = Entity::from_parts(3, 1).ok_or("no entity")?;
-    let other = Entity::from_parts(2, 1).ok_or("no entity")?;
+    let target = entity(3, 1)?;
+    let other = entity(2, 1)?;
     let seven = marker_of(world.alloc, 7, target)?;
     Ok(
         is_linked(world, 0, 3)
@@ -203,7 +202,7 @@ fn saved_alone(world: &mut World) -> Result<bool, Fail> {
 
 // One is stored, and then nothing in its place.
 fn stored_alone(world: &mut World) -> Result<bool, Fail> {
-    let target = Entity::from_parts(3, 1).ok_or("no entity")?;
+    let target = entity(3, 1)?;
     let seven = marker_of(world.alloc, 7, target)?;
     let stored = is_stored(world, (Some(Position(4)), Some(seven)), target);
     let there = place_of(world, 1) == Some(4) && target_of(world, 1) == Some(target);

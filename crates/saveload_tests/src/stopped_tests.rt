@@ -1,14 +1,14 @@
 //! What a load or a save that was refused keeps.
-use crate::components::{Level, Link, Position};
+use crate::components::{Level, Position};
 use crate::worlds::{
-    NetMarker, Told, World, comes_true, empty, ids_are, is_linked, is_marked_now, marker_of,
-    place_of, save_all,
+    NetMarker, Told, World, comes_true, empty, entity, entity_at, ids_are, is_linked, is_linked_to,
+    is_marked_now, load_places, marker_of, place_of, save_all,
 };
 use entities::Entity;
-use saveload::{EntityData, LoadError, MarkerAllocator, SaveError, deserialize};
+use saveload::{EntityData, LoadError, MarkerAllocator, SaveError};
 use std::alloc::Global;
 use std::test::Fail;
-use storages::{MaskedStorage, WriteStorage};
+use storages::MaskedStorage;
 
 // What is saved of an entity's position and level.
 type Standing = EntityData<NetMarker, (Option<Position>, Option<Level>)>;
@@ -47,7 +47,7 @@ fn level_of(leveled: &Leveled, index: u32) -> Option<i64> {
 
 // A record.
 fn standing(alloc: Global, id: u64, place: Option<i64>, level: i64) -> Result<Standing, Fail> {
-    let any = Entity::from_parts(0, 1).ok_or("no entity")?;
+    let any = entity(0, 1)?;
     Ok(EntityData {
         marker: marker_of(alloc, id, any)?,
         components: (place.map(|p| Position(p)), Some(Level(level))),
@@ -56,7 +56,7 @@ fn standing(alloc: Global, id: u64, place: Option<i64>, level: i64) -> Result<St
 
 // Whether a conversion of a list's own refused it.
 fn is_stopped(leveled: &mut Leveled, list: Vec<Standing>) -> bool {
-    let loaded = deserialize(
+    let loaded = load_places(
         leveled.world.alloc,
         &mut (&mut leveled.world.positions, &mut leveled.levels),
         &mut leveled.world.entities,
@@ -110,18 +110,32 @@ fn a_load_that_is_refused_keeps_what_came_before(rt: HostRuntime) -> Result<(), 
     Ok(())
 }
 
+// The entity that a save of all can't name, if that is why it is refused.
+fn unnamed_of(world: &mut World) -> Option<Entity> {
+    match save_all(world) {
+        Err(SaveError::Unmarked(entity)) => Some(entity),
+        _ => None,
+    }
+}
+
+// Whether a save of all is refused since no id is left.
+fn is_out_of_ids(world: &mut World) -> bool {
+    matches!(save_all(world), Err(SaveError::IdsExhausted))
+}
+
+// Whether the first entity could be given an id, without a marker.
+fn is_given(world: &mut World, id: u64) -> bool {
+    let first = entity_at(world, 0);
+    world.allocator.allocate(first, Some(id)).is_ok()
+}
+
 // The second of a chain refers to one that isn't alive.
 fn refused_in_a_chain(world: &mut World) -> Result<bool, Fail> {
-    let stale = Entity::from_parts(4, 9).ok_or("no entity")?;
-    let second = world.entities.entity(3);
+    let stale = entity(4, 9)?;
+    let second = entity_at(world, 3);
     let begun = is_marked_now(world, 0) && is_linked(world, 0, 3);
-    let linked = WriteStorage::new(&world.entities, &mut world.links)
-        .insert(second, Link(stale))
-        .is_ok();
-    let refused = match save_all(world) {
-        Err(SaveError::Unmarked(entity)) => entity == stale,
-        _ => false,
-    };
+    let linked = is_linked_to(world, second, stale);
+    let refused = unnamed_of(world) == Some(stale);
     Ok(
         begun
             && linked
@@ -133,12 +147,8 @@ fn refused_in_a_chain(world: &mut World) -> Result<bool, Fail> {
 // A chain of three, of which one id is left for two.
 fn refused_without_ids(world: &mut World) -> Result<bool, Fail> {
     let begun = is_marked_now(world, 0) && is_linked(world, 0, 2) && is_linked(world, 2, 1);
-    let first = world.entities.entity(0);
-    let given = world.allocator.allocate(first, Some(u64::MAX - 1)).is_ok();
-    let refused = match save_all(world) {
-        Err(SaveError::IdsExhausted) => true,
-        _ => false,
-    };
+    let given = is_given(world, u64::MAX - 1);
+    let refused = is_out_of_ids(world);
     Ok(begun && given && refused && ids_are(world, [Some(0), None, Some(u64::MAX)].as_slice()))
 }
 

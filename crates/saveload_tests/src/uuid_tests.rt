@@ -3,17 +3,19 @@ ghost use Rattle.std.specs.Prelude.{◌≡◌, ℕ, ◌+◌, ◌%◌, ◌^◌};
 ghost use Rattle.rand_core.specs.Steps.{stream_of, steps_u32};
 
 use crate::components::Position;
-use crate::worlds::{Told, comes_true, empty, living};
+use crate::worlds::{
+    Told, comes_true, count_of, empty, is_put, living, load_places, records_of, save_places,
+    text_of, view,
+};
 use entities::{EntitiesRes, Entity};
 use rand_core::utils::NextWord;
 use rand_core::{Rng, utils};
 use saveload::{
     EntityData, LoadError, MarkError, MarkerAllocator, UuidMarker, UuidMarkerAllocator, WithMarker,
-    deserialize, from_json, serialize, to_json,
 };
 use std::alloc::Global;
 use std::test::Fail;
-use storages::{MaskedStorage, ReadStorage, WriteStorage};
+use storages::{MaskedStorage, WriteStorage};
 use uuid::Uuid;
 
 /// A generator of words, each of which is the one before and as much more, past the greatest from 0 on. One that adds 0 gives one word again and
@@ -121,8 +123,23 @@ impl Told for Reloaded {
     }
 }
 
+// The entity of an index.
+fn entity_at(world: &Labelled, index: u32) -> Entity {
+    world.entities.entity(index)
+}
+
+// The entity that an identifier is mapped to.
+fn known(world: &Labelled, id: Uuid) -> Option<Entity> {
+    world.allocator.retrieve_entity_internal(id)
+}
+
+// How many labels there are.
+fn labels(world: &Labelled) -> usize {
+    count_of(&world.labels)
+}
+
 fn label(world: &mut Labelled, index: u32) -> Result<Option<bool>, MarkError> {
-    let entity = world.entities.entity(index);
+    let entity = entity_at(world, index);
     let mut labels = WriteStorage::new(&world.entities, &mut world.labels);
     world.allocator.mark(entity, &mut labels)
 }
@@ -140,7 +157,7 @@ fn drawn_twice(world: &mut Labelled) -> Result<bool, Fail> {
     let first = label(world, 0) == Ok(Some(true));
     let id = uuid_at(world, 0).ok_or("no label")?;
     let taken = label(world, 1) == Err(MarkError::IdTaken);
-    let kept = uuid_at(world, 0) == Some(id) && world.labels.count() == 1;
+    let kept = uuid_at(world, 0) == Some(id) && labels(world) == 1;
     let old = label(world, 0) == Ok(Some(false));
     Ok(
         first
@@ -148,7 +165,7 @@ fn drawn_twice(world: &mut Labelled) -> Result<bool, Fail> {
             && kept
             && old
             && uuid_at(world, 1) == None
-            && world.allocator.retrieve_entity_internal(id) == Some(world.entities.entity(0)),
+            && known(world, id) == Some(entity_at(world, 0)),
     )
 }
 
@@ -160,10 +177,13 @@ fn a_drawn_identifier_that_is_held_is_refused(rt: HostRuntime) -> Result<(), Fai
 
 // Whether an index could be given a position and a label.
 fn is_placed_and_labelled(world: &mut Labelled, index: u32, place: i64) -> bool {
-    let entity = world.entities.entity(index);
-    let placed = WriteStorage::new(&world.entities, &mut world.positions)
-        .insert(entity, Position(place))
-        .is_ok();
+    let entity = entity_at(world, index);
+    let placed = is_put(
+        &world.entities,
+        &mut world.positions,
+        entity,
+        Position(place),
+    );
     placed && label(world, index) == Ok(Some(true))
 }
 
@@ -177,10 +197,10 @@ fn place_of(world: &Labelled, index: u32) -> Option<i64> {
 
 // The positions of those that have labels.
 fn save(world: &Labelled) -> Result<Vec<Placed>, Fail> {
-    let places = (ReadStorage::new(&world.entities, &world.positions),);
-    let labels = ReadStorage::new(&world.entities, &world.labels);
+    let places = (view(&world.entities, &world.positions),);
+    let labels = view(&world.entities, &world.labels);
     Ok(
-        serialize(world.alloc, &places, &labels)
+        save_places(world.alloc, &places, &labels)
             .ok()
             .ok_or("not saved")?,
     )
@@ -188,7 +208,7 @@ fn save(world: &Labelled) -> Result<Vec<Placed>, Fail> {
 
 // Loads them.
 fn load(world: &mut Labelled, list: Vec<Placed>) -> Result<(), LoadError> {
-    deserialize(
+    load_places(
         world.alloc,
         &mut (&mut world.positions,),
         &mut world.entities,
@@ -225,7 +245,7 @@ fn two_reloaded(worlds: &mut Reloaded) -> Result<bool, Fail> {
     let placed = is_placed_and_labelled(&mut worlds.old, 0, 32)
         && is_placed_and_labelled(&mut worlds.old, 1, 64);
     let list = save(&worlds.old)?;
-    let loaded = load(&mut worlds.new, list).is_ok() && worlds.new.labels.count() == 2;
+    let loaded = load(&mut worlds.new, list).is_ok() && labels(&worlds.new) == 2;
     let same = uuid_at(&worlds.new, 0) == uuid_at(&worlds.old, 0)
         && uuid_at(&worlds.new, 1) == uuid_at(&worlds.old, 1);
     let there = place_of(&worlds.new, 0) == Some(32) && place_of(&worlds.new, 1) == Some(64);
@@ -236,14 +256,19 @@ fn two_reloaded(worlds: &mut Reloaded) -> Result<bool, Fail> {
 fn go_on_from_two(world: &mut Labelled) -> Result<bool, Fail> {
     let third = built(world)?;
     let fourth = built(world)?;
-    let counted = world.labels.count() == 4;
+    let counted = labels(world) == 4;
     Ok(third.id() == 2 && fourth.id() == 3 && counted && four_differ(world))
+}
+
+// From now on words from this one on are drawn, each of them once.
+fn draw_from(world: &mut Labelled, word: u32) {
+    world.allocator = UuidMarkerAllocator::new(world.alloc, generator(word, 1));
 }
 
 // The draws differ each time.
 fn reloaded_and_built(worlds: &mut Reloaded) -> Result<bool, Fail> {
-    worlds.old.allocator = UuidMarkerAllocator::new(worlds.old.alloc, generator(0, 1));
-    worlds.new.allocator = UuidMarkerAllocator::new(worlds.new.alloc, generator(100, 1));
+    draw_from(&mut worlds.old, 0);
+    draw_from(&mut worlds.new, 100);
     Ok(two_reloaded(worlds)? && go_on_from_two(&mut worlds.new)?)
 }
 
@@ -260,12 +285,12 @@ const UPPER: &str = "[{\"components\":[[7]],\"marker\":\"67e55044-10b1-426f-9247
 const BARE: &str = "[{\"components\":[[7]],\"marker\":\"67e5504410b1426f9247bb680e5fe0c8\"}]";
 
 fn read(alloc: Global, text: &str) -> Result<Vec<Saved>, LoadError> {
-    from_json(alloc, text)
+    records_of(alloc, text)
 }
 
 fn is_read_again(alloc: Global, text: &str) -> Result<bool, Fail> {
     match read(alloc, text) {
-        Ok(list) => Ok(to_json(alloc, &list)?.as_str() == text),
+        Ok(list) => Ok(text_of(alloc, &list)?.as_str() == text),
         Err(_) => Ok(false),
     }
 }

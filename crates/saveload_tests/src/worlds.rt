@@ -1,12 +1,15 @@
-//! Worlds of entities with positions, links and markers.
+//! Worlds of entities with positions, links and markers. A call of a library at a known type is slow to prove wherever it stands: so there is one of
+//! each in a function without a contract, and those that save and load know no type.
+ghost use Rattle.std.specs.Prelude.{◌≡◌};
+
 use crate::components::{Link, Position};
 use entities::{EntitiesRes, Entity};
 use saveload::{
-    EntityData, LoadError, MarkError, Marker, MarkerAllocator, SaveError, SimpleMarker,
-    SimpleMarkerAllocator, WithMarker, deserialize, serialize, serialize_recursive,
-    serialize_to_json,
+    DeserializeComponents, EntityData, JsonData, JsonPlaces, LoadError, MarkError, Marker,
+    MarkerAllocator, SaveError, SerializeComponents, SimpleMarker, SimpleMarkerAllocator,
+    WithMarker, deserialize, from_json, serialize, serialize_recursive, serialize_to_json, to_json,
 };
-use std::alloc::Global;
+use std::alloc::{AllocError, Global};
 use std::test::Fail;
 use storages::{
     Component, MaskedStorage, ReadStorage, TryDefault, UnprotectedStorage, WriteStorage,
@@ -139,6 +142,56 @@ pub fn comes_true<W: Told + Drop, F: FnOnce(&mut W) -> Result<bool, Fail>>(
     story(&mut world)
 }
 
+/// The entity of an index and a generation.
+pub fn entity(index: u32, generation: i32) -> Result<Entity, Fail> {
+    Ok(Entity::from_parts(index, generation).ok_or("no entity")?)
+}
+
+/// The entity of an index.
+pub fn entity_at(world: &World, index: u32) -> Entity {
+    world.entities.entity(index)
+}
+
+/// Whether an entity is alive.
+pub fn lives(world: &World, entity: Entity) -> bool {
+    world.entities.is_alive(entity)
+}
+
+/// Whether the birth of an index is pending.
+pub fn is_raised(world: &World, index: u32) -> bool {
+    world.entities.raised().contains(index)
+}
+
+/// The entity that an id is mapped to.
+pub fn known(world: &World, id: u64) -> Option<Entity> {
+    world.allocator.retrieve_entity_internal(id)
+}
+
+/// Whether an index lost its marker.
+pub fn is_unmarked_now(world: &mut World, index: u32) -> bool {
+    world.markers.drop(index).is_ok()
+}
+
+/// How many there are in a storage.
+pub fn count_of<T: Component>(storage: &MaskedStorage<T>) -> usize {
+    storage.count()
+}
+
+/// How many markers there are.
+pub fn markers(world: &World) -> usize {
+    count_of(&world.markers)
+}
+
+/// How many positions.
+pub fn positions(world: &World) -> usize {
+    count_of(&world.positions)
+}
+
+/// How many links.
+pub fn links(world: &World) -> usize {
+    count_of(&world.links)
+}
+
 /// Marks an entity.
 pub fn mark(world: &mut World, entity: Entity) -> Result<Option<bool>, MarkError> {
     let mut markers = WriteStorage::new(&world.entities, &mut world.markers);
@@ -147,7 +200,7 @@ pub fn mark(world: &mut World, entity: Entity) -> Result<Option<bool>, MarkError
 
 /// Whether the entity of an index just got its marker.
 pub fn is_marked_now(world: &mut World, index: u32) -> bool {
-    let entity = world.entities.entity(index);
+    let entity = entity_at(world, index);
     mark(world, entity) == Ok(Some(true))
 }
 
@@ -158,21 +211,42 @@ pub fn built(world: &mut World) -> Result<Entity, Fail> {
     Ok(builder.ok().ok_or("refused")?.build())
 }
 
+/// Whether an entity could be given a component.
+pub fn is_put<T: Component + Drop>(
+    entities: &EntitiesRes,
+    storage: &mut MaskedStorage<T>,
+    entity: Entity,
+    component: T,
+) -> bool
+where
+    T::Storage: UnprotectedStorage<T>,
+{
+    WriteStorage::new(entities, storage)
+        .insert(entity, component)
+        .is_ok()
+}
+
 /// Whether an index could be given a position.
 pub fn is_placed(world: &mut World, index: u32, place: i64) -> bool {
-    let entity = world.entities.entity(index);
-    WriteStorage::new(&world.entities, &mut world.positions)
-        .insert(entity, Position(place))
-        .is_ok()
+    let entity = entity_at(world, index);
+    is_put(
+        &world.entities,
+        &mut world.positions,
+        entity,
+        Position(place),
+    )
+}
+
+/// Whether an entity could be linked to another.
+pub fn is_linked_to(world: &mut World, source: Entity, target: Entity) -> bool {
+    is_put(&world.entities, &mut world.links, source, Link(target))
 }
 
 /// Whether an index could be linked to another.
 pub fn is_linked(world: &mut World, from: u32, to: u32) -> bool {
-    let target = world.entities.entity(to);
-    let source = world.entities.entity(from);
-    WriteStorage::new(&world.entities, &mut world.links)
-        .insert(source, Link(target))
-        .is_ok()
+    let target = entity_at(world, to);
+    let source = entity_at(world, from);
+    is_linked_to(world, source, target)
 }
 
 /// The id at an index.
@@ -242,39 +316,128 @@ pub fn marker_of(alloc: Global, id: u64, entity: Entity) -> Result<NetMarker, Fa
     )
 }
 
+/// Saves what is at whatever places, of those that have markers.
+pub fn save_places<M: Marker + Copy, P: SerializeComponents<M>>(
+    alloc: Global,
+    places: &P,
+    markers: &ReadStorage<'_, M>,
+) -> Result<Vec<EntityData<M, P::Data>>, SaveError> {
+    serialize(alloc, places, markers)
+}
+
+/// The same as a text.
+fn save_places_as_text<M: Marker + Copy + JsonData, P: SerializeComponents<M>>(
+    alloc: Global,
+    places: &P,
+    markers: &ReadStorage<'_, M>,
+) -> Result<String, SaveError>
+where
+    P::Data: JsonPlaces,
+{
+    serialize_to_json(alloc, places, markers)
+}
+
+/// The same with what they lead to.
+fn save_all_places<M: Marker + Copy, A: MarkerAllocator<M>, P: SerializeComponents<M>>(
+    alloc: Global,
+    places: &P,
+    allocator: &mut A,
+    markers: &mut WriteStorage<'_, M>,
+) -> Result<Vec<EntityData<M, P::Data>>, SaveError> {
+    serialize_recursive(alloc, places, allocator, markers)
+}
+
+/// Loads records into whatever places.
+pub fn load_places<M: Marker, P: DeserializeComponents<M>>(
+    alloc: Global,
+    places: &mut P,
+    entities: &mut EntitiesRes,
+    markers: &mut MaskedStorage<M>,
+    allocator: &mut M::Allocator,
+    list: Vec<EntityData<M, P::Data>>,
+) -> Result<(), LoadError>
+where
+    M::Allocator: MarkerAllocator<M>,
+    requires { (m n : M) → M.is_clone m n → m ≡ n }
+{
+    deserialize(alloc, places, entities, markers, allocator, list)
+}
+
+/// Loads records from a text into whatever places.
+pub fn load_places_from<M: Marker + JsonData, P: DeserializeComponents<M>>(
+    alloc: Global,
+    places: &mut P,
+    entities: &mut EntitiesRes,
+    markers: &mut MaskedStorage<M>,
+    allocator: &mut M::Allocator,
+    text: &str,
+) -> Result<(), LoadError>
+where
+    M::Allocator: MarkerAllocator<M>,
+    P::Data: JsonPlaces,
+    requires { (m n : M) → M.is_clone m n → m ≡ n }
+{
+    let list = records_of(alloc, text)?;
+    load_places(alloc, places, entities, markers, allocator, list)
+}
+
+/// The records of a text.
+pub fn records_of<M: JsonData + Drop, D: JsonPlaces + Drop>(
+    alloc: Global,
+    text: &str,
+) -> Result<Vec<EntityData<M, D>>, LoadError> {
+    from_json(alloc, text)
+}
+
+/// The text of records.
+pub fn text_of<M: JsonData, D: JsonPlaces>(
+    alloc: Global,
+    list: &[EntityData<M, D>],
+) -> Result<String, AllocError> {
+    to_json(alloc, list)
+}
+
+/// A view to read.
+pub fn view<'a, T: Component>(
+    entities: &'a EntitiesRes,
+    storage: &'a MaskedStorage<T>,
+) -> ReadStorage<'a, T> {
+    ReadStorage::new(entities, storage)
+}
+
 /// Saves those that have markers.
 pub fn save(world: &World) -> Result<Vec<Record>, SaveError> {
     let places = (
-        ReadStorage::new(&world.entities, &world.positions),
-        ReadStorage::new(&world.entities, &world.links),
+        view(&world.entities, &world.positions),
+        view(&world.entities, &world.links),
     );
-    let markers = ReadStorage::new(&world.entities, &world.markers);
-    serialize(world.alloc, &places, &markers)
+    let markers = view(&world.entities, &world.markers);
+    save_places(world.alloc, &places, &markers)
 }
 
 /// Saves them as a text.
 pub fn save_text(world: &World) -> Result<String, SaveError> {
     let places = (
-        ReadStorage::new(&world.entities, &world.positions),
-        ReadStorage::new(&world.entities, &world.links),
+        view(&world.entities, &world.positions),
+        view(&world.entities, &world.links),
     );
-    let markers = ReadStorage::new(&world.entities, &world.markers);
-    serialize_to_json(world.alloc, &places, &markers)
+    let markers = view(&world.entities, &world.markers);
+    save_places_as_text(world.alloc, &places, &markers)
 }
 
 /// Saves them and what they lead to.
 pub fn save_all(world: &mut World) -> Result<Vec<Record>, SaveError> {
     let places = (
-        ReadStorage::new(&world.entities, &world.positions),
-        ReadStorage::new(&world.entities, &world.links),
+        view(&world.entities, &world.positions),
+        view(&world.entities, &world.links),
     );
     let mut markers = WriteStorage::new(&world.entities, &mut world.markers);
-    serialize_recursive(world.alloc, &places, &mut world.allocator, &mut markers)
+    save_all_places(world.alloc, &places, &mut world.allocator, &mut markers)
 }
 
 /// Loads records.
 pub fn load(world: &mut World, list: Vec<Record>) -> Result<(), LoadError> {
-    deserialize(
+    load_places(
         world.alloc,
         &mut (&mut world.positions, &mut world.links),
         &mut world.entities,

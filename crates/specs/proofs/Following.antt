@@ -38,7 +38,7 @@ use Rattle.specs.specs.Leading.{index_at, replay, is_named}
 use Rattle.specs.specs.Following.{values, unread, IsListening, IsFollowed, Follows, Replays, given_by, given, Throughout, JobSpares, AllSpare, Spared, IsWatched, IsQuiet, AreQuiet, Tells}
 use Rattle.specs.specs.Marks.{Markers}
 use Rattle.specs.proofs.Leading.{leads_more, replay-append, or_false}
-use Rattle.specs.proofs.Telling.{unread_gone}
+use Rattle.storages.specs.Heard.{dropped_gone}
 use Rattle.specs.proofs.Advancing.{IsBelow, Keeps, stays, puts, takes, loses, empties, registers, drops, switches, reads}
 
 -- an entity lives or not
@@ -141,7 +141,7 @@ module _ {K V : Type 0} (slot : K) (n : ℕ) (here : K → Bool) (tells : Tells 
       dropped_is_gone : (k : K) (m : ℕ) (c : Column V) (channel : Channel) (t : Table K V) → t slot ≡ Some (with_channel c (without_reader m channel)) → m ≡ n → IsListening n (t slot) → ⊥
       dropped_is_gone k m c channel t is own listens =
           let l : IsListening n (Some (with_channel c (without_reader m channel))) = subst (IsListening n) is listens in
-          false≢true (subst (λ (o : Option (List ComponentEvent)). is_some o ≡ true) (subst (λ j. unread_of n (dropped j channel.readers) ≡ None) (sym own) (unread_gone n channel.readers)) l.1)
+          false≢true (subst (λ (o : Option (List ComponentEvent)). is_some o ≡ true) (subst (λ j. unread_of n (dropped j channel.readers) ≡ None) (sym own) (dropped_gone n channel.readers)) l.1)
   follows_step spares place allocates old (DropReader k m) reply new s w l after = absurd s
   follows_step spares place allocates old (Emit k on) Done new s w l after = (keeps_following {S = ℕ} spares place allocates old (Emit k on) Done new s (λ same. (subst (IsListening n) (subst (λ (t : K). new.table t ≡ Some (with_channel s.table.column (switched on s.table.column.channel))) same s.table.becomes.here) after).0) l).advances (living_below slot old w)
   follows_step spares place allocates old (Emit k on) reply new s w l after = absurd s

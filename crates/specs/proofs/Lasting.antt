@@ -82,8 +82,11 @@ module _ {S J K V : Type 0} (place : V → K) (allocates : K → Bool) (marks : 
       (λ pairs rest q. tt)
       stopped limit count counted old new jobs left s (each_unit jobs) w).0
 
-  gone_maintained : (e : Entity) (old new : WorldState S J K V) (limit : ℕ) (m : Maintained) → Maintains place marks does wants old limit m new → IsGone old.core.people e → IsGone new.core.people e
+  pub gone_maintained : (e : Entity) (old new : WorldState S J K V) (limit : ℕ) (m : Maintained) → Maintains place marks does wants old limit m new → IsGone old.core.people e → IsGone new.core.people e
   gone_maintained e old new limit m s w = gone_jobs e (merged old.core) new.core old.jobs new.jobs m.stopped limit m.ran m.refused s.jobs (gone_after_merge old.core.people e w)
+
+  pub gone_step : (old : WorldState S J K V) (c : Command S J K V) (r : Reply V) (new : WorldState S J K V) (e : Entity) → Step place allocates marks does wants old c r new → IsGone old.core.people e → IsGone new.core.people e
+  gone_step old c r new e s w = step place allocates marks does wants (λ (s : State K V). IsGone s.people e) (λ old c r new s w. keeps_gone place allocates old c r new e s w) (gone_maintained e) old c r new s w
 
   pub gone_run : (cs : List (Command S J K V)) (rs : List (Reply V)) (old new : WorldState S J K V) (e : Entity) → Run place allocates marks does wants old cs rs new → IsGone old.core.people e → IsGone new.core.people e
   gone_run cs rs old new e run w = lasts place allocates marks does wants (λ (s : State K V). IsGone s.people e) (λ old c r new s w. keeps_gone place allocates old c r new e s w) (gone_maintained e) cs rs old new run w
@@ -92,11 +95,14 @@ module _ {S J K V : Type 0} (place : V → K) (allocates : K → Bool) (marks : 
     own_living : (j : J) (old new : State K V) (more : List (Job S J K V)) → does j old more new → OnlyLiving old → OnlyLiving new
     own_living j old new more s w = grown old new (grows j old new more s) w (lives_on j old new more s w)
 
-    living_maintained : (old new : WorldState S J K V) (limit : ℕ) (m : Maintained) → Maintains place marks does wants old limit m new → OnlyLiving old.core → OnlyLiving new.core
-    living_maintained old new limit m s w =
+    pub living_jobs : (old new : State K V) (jobs left : List (Job S J K V)) (stopped : Bool) (limit count counted : ℕ) → RunsJobs place marks does wants stopped limit count counted old jobs new left → OnlyLiving old → OnlyLiving new
+    living_jobs old new jobs left stopped limit count counted s w =
         (carried place marks does wants OnlyLiving (λ _. Unit {0}) living_whatever_ids inserted_living (removed_living place)
         (λ j old new more q s w. (own_living j old new more s w, each_unit more)) (λ pairs rest q. tt)
-        m.stopped limit m.ran m.refused (merged old.core) new.core old.jobs new.jobs s.jobs (each_unit old.jobs) (merged_kept old.core w)).0
+        stopped limit count counted old new jobs left s (each_unit jobs) w).0
+
+    living_maintained : (old new : WorldState S J K V) (limit : ℕ) (m : Maintained) → Maintains place marks does wants old limit m new → OnlyLiving old.core → OnlyLiving new.core
+    living_maintained old new limit m s w = living_jobs (merged old.core) new.core old.jobs new.jobs m.stopped limit m.ran m.refused s.jobs (merged_kept old.core w)
 
     pub living_step : (old : WorldState S J K V) (c : Command S J K V) (r : Reply V) (new : WorldState S J K V) → Step place allocates marks does wants old c r new → OnlyLiving old.core → OnlyLiving new.core
     living_step = step place allocates marks does wants OnlyLiving (keeps_step place allocates) living_maintained

@@ -8,6 +8,7 @@ pub mod Gone
 pub mod Values
 pub mod Shown
 pub mod Marked
+pub mod Kept
 pub mod AllDie
 mod Telling
 pub mod Leading

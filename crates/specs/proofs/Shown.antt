@@ -19,6 +19,9 @@ use Rattle.specs.specs.Table.{Table, Becomes, Begins, Registers, Inserts, Gets, 
 use Rattle.specs.specs.declared.command.Refusal.{Refusal}
 use Rattle.specs.specs.declared.command.Refusal.TheVariants.{WrongGeneration as Wrong, Unregistered, IndexLimit, OutOfMemory, Untracked, UnknownReader}
 use Rattle.specs.specs.Readers.{Rechannels, HasChannel, ChannelIsRefused}
+use Rattle.specs.specs.ChannelCalls.{CallIsRefused}
+use Rattle.specs.specs.declared.channel_call.ChannelCall.{ChannelCall}
+use Rattle.specs.specs.declared.channel_call.ChannelCall.TheVariants.{Register, Read, End, Emit}
 use Rattle.entities.specs.Deaths.{has_index}
 use Rattle.std.proofs.lemmas.Bool.{false≢true}
 use Rattle.specs.specs.Field.{FieldInserts, FieldRemoves, FieldClears}
@@ -177,6 +180,12 @@ module _ {K L V W : Type 0} {slot : K → L} {value : V → W} {t t' : Table K V
   shown_channel_refused memory unknown k OutOfMemory h = has_channel k _ h
   shown_channel_refused memory unknown k Untracked h = has_channel k _ h
   shown_channel_refused memory unknown k UnknownReader h = has_channel k _ h
+
+  pub shown_call_refused : (call : ChannelCall) (k : K) (r : Refusal) → CallIsRefused call (t k) r → CallIsRefused call (u (slot k)) r
+  shown_call_refused Register k r = shown_channel_refused _ _ k r
+  shown_call_refused (Read reader) k r = shown_channel_refused _ _ k r
+  shown_call_refused (End n) k r = shown_channel_refused _ _ k r
+  shown_call_refused (Emit on) k r = shown_channel_refused _ _ k r
 
   pub shown_gets : (p : Population) (k : K) (e : Entity) (found : Option V) → Gets p t k e found → Gets p u (slot k) e (option_map value found)
   shown_gets p k e found g = record {

@@ -4,7 +4,9 @@ use Rattle.std.specs.Borrow.{RattleType, RestsIfErr, MutBor, Fml}
 use Rattle.entities.specs.declared.entity.Entity.{Entity}
 use Rattle.entities.specs.Census.{population}
 use Rattle.entities.specs.Population.{Population, MarkedIfAlive}
+use Rattle.specs.specs.Gone.{KeepsGone}
 use Rattle.specs.specs.Ids.{Ids}
+use Rattle.specs.specs.Reached.{KeepsLiving}
 use Rattle.specs.specs.Table.{Table, Inserts}
 use Rattle.specs.specs.State.{State, core_state, OnPeople, OnTable}
 use Rattle.specs.specs.declared.core_parts.Core.{Core}
@@ -29,9 +31,11 @@ module _ {S : Type 0} where
     pub people : MarkedIfAlive (population old.parts.entities) e (population new.parts.entities)
     pub storages : new.parts.storages ≡ old.parts.storages
 
--- only the population changed: the entity is marked, if it is alive
-abbrev pub MarksOne : {K V : Type 0} → Entity → State K V → State K V → Type 0
-MarksOne e old new = OnPeople (λ p p'. MarkedIfAlive p e p') old new
+-- only the population changed: the entity is marked, if it is alive; so each index with a value lives as before, and who was gone is gone
+pub record MarksOne {K V : Type 0} (e : Entity) (old new : State K V) : Type 0 where
+  pub marks : OnPeople (λ p p'. MarkedIfAlive p e p') old new
+  pub living : KeepsLiving old new
+  pub gone : KeepsGone old.people new.people
 
 -- without a builder the core ends as it was
 abbrev pub RestsUnborn : (S : RattleType) {E : Type 0} → MutBor (Core S.Denot) → Result (EntityBuilder S.Denot) E → Fml

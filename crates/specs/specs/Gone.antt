@@ -14,3 +14,7 @@ pub record IsGone (p : Population) (e : Entity) : Type 0 where
   pub given : WasGiven p e
   pub dead : IsAlive p e → ⊥
   pub unmerged : IsMerged p e → ⊥
+
+-- who was gone before is gone after
+abbrev pub KeepsGone : Population → Population → Type 0
+KeepsGone p q = (e : Entity) → IsGone p e → IsGone q e

@@ -1,5 +1,6 @@
 pub mod Column
 pub mod Readers
+pub mod ChannelCalls
 pub mod Maps
 pub mod Table
 pub mod Ids

@@ -31,7 +31,7 @@ abbrev pub Within : {K V : Type 0} → Table K V → (ℕ → Bool) → Type 0
 Within {K} {V} t living = (slot : K) (c : Column V) (i : ℕ) → t slot ≡ Some c → IsSome (c.values i) → living i ≡ true
 
 -- the one map that changes has its values within the set too
-within_becomes : {K V : Type 0} (old new : Table K V) (slot : K) (m : Column V) (living : ℕ → Bool) → Becomes old slot m new → Within old living → ((i : ℕ) → IsSome (m.values i) → living i ≡ true) → Within new living
+pub within_becomes : {K V : Type 0} (old new : Table K V) (slot : K) (m : Column V) (living : ℕ → Bool) → Becomes old slot m new → Within old living → ((i : ℕ) → IsSome (m.values i) → living i ≡ true) → Within new living
 within_becomes {K} old new slot m living b w here s m' i e has = elim (cases_Bool (living i)) [
   | inl t ↦ t
   | inr f ↦
@@ -39,7 +39,7 @@ within_becomes {K} old new slot m living b w here s m' i e has = elim (cases_Boo
       absurd (both_ways (living i) f (w s m' i (sym (b.others s apart) ∙ e) has))
 ]
 
-within_register : {K V : Type 0} (old new : Table K V) (slot : K) (living : ℕ → Bool) (o : Option (Column V)) → o ≡ old slot → MatchOption o (Begins old slot new) (λ _. new ≡ old) → Within old living → Within new living
+pub within_register : {K V : Type 0} (old new : Table K V) (slot : K) (living : ℕ → Bool) (o : Option (Column V)) → o ≡ old slot → MatchOption o (Begins old slot new) (λ _. new ≡ old) → Within old living → Within new living
 within_register old new slot living None e r w = within_becomes old new slot r.column living r.becomes w (λ i h. absurd (false≢true (subst (λ (n : Map _). IsSome (n i)) r.fresh.values h)))
 within_register old new slot living (Some m) e r w = subst (λ t. Within t living) (sym r) w
 
@@ -47,7 +47,7 @@ within_register old new slot living (Some m) e r w = subst (λ t. Within t livin
 rechannels_within : {K V : Type 0} (old new : Table K V) (slot : K) {says : Channel → Type 0} {change : Channel → Channel} (living : ℕ → Bool) → Rechannels old slot says change new → Within old living → Within new living
 rechannels_within old new slot living r w = within_becomes old new slot _ living r.becomes w (λ i. w slot r.column i r.registered)
 
-put_within : {V : Type 0} (m : Map V) (i : ℕ) (v : V) (living : ℕ → Bool) → living i ≡ true → ((j : ℕ) → IsSome (m j) → living j ≡ true) → (j : ℕ) → IsSome (put m i v j) → living j ≡ true
+pub put_within : {V : Type 0} (m : Map V) (i : ℕ) (v : V) (living : ℕ → Bool) → living i ≡ true → ((j : ℕ) → IsSome (m j) → living j ≡ true) → (j : ℕ) → IsSome (put m i v j) → living j ≡ true
 put_within m i v living alive w j = elim (cases_eq i j) [
   | inl s ↦ λ _. ap living (sym s) ∙ alive
   | inr d ↦ rw (ne_eqb i j d) (w j)
@@ -59,7 +59,7 @@ without_one_within m i living w j = elim (cases_eq i j) [
   | inr d ↦ rw (ne_eqb i j d) (w j)
 ]
 
-removes_within : {K V : Type 0} (p : Population) (old new : Table K V) (slot : K) (e : Entity) (found : Option V) (living : ℕ → Bool) → Removes p old slot e found new → Within old living → Within new living
+pub removes_within : {K V : Type 0} (p : Population) (old new : Table K V) (slot : K) (e : Entity) (found : Option V) (living : ℕ → Bool) → Removes p old slot e found new → Within old living → Within new living
 removes_within p old new slot e found living r w s m i is has = elim (cases_Bool (living i)) [
   | inl t ↦ t
   | inr f ↦
@@ -68,7 +68,7 @@ removes_within p old new slot e found living r w s m i is has = elim (cases_Bool
 ]
 
 -- what is kept of a map has no value at an index of the list
-kept_values : {V : Type 0} (es : List Entity) (o : Option (Column V)) (living : ℕ → Bool) → ((m : Column V) (i : ℕ) → o ≡ Some m → IsSome (m.values i) → living i ≡ true) → (m : Column V) (i : ℕ) → option_map (without_values es) o ≡ Some m → IsSome (m.values i) → (has_index es i ≡ false) × (living i ≡ true)
+pub kept_values : {V : Type 0} (es : List Entity) (o : Option (Column V)) (living : ℕ → Bool) → ((m : Column V) (i : ℕ) → o ≡ Some m → IsSome (m.values i) → living i ≡ true) → (m : Column V) (i : ℕ) → option_map (without_values es) o ≡ Some m → IsSome (m.values i) → (has_index es i ≡ false) × (living i ≡ true)
 kept_values es None living w m i e has = absurd (none-some m e)
 kept_values {V} es (Some n) living w m i e has =
     elim (has_index es i) as (λ b. is_some (cond b None (n.values i)) ≡ true → (b ≡ false) × (living i ≡ true)) [
@@ -103,22 +103,22 @@ birth_born p i given born was j h = elim (cases_eq j i) [
 ]
 
 -- who lives after a birth at once, and after a pending one
-lives_born : (p : Population) (i j : ℕ) → lives (born p i) j ≡ true → (j ≡ i) ⊎ (lives p j ≡ true)
+pub lives_born : (p : Population) (i j : ℕ) → lives (born p i) j ≡ true → (j ≡ i) ⊎ (lives p j ≡ true)
 lives_born p i j h = elim (cases_eq j i) [
   | inl same ↦ inl same
   | inr other ↦ inr (rw (ne_eqb j i other) at h)
 ]
 
-lives_born_pending : (p : Population) (i j : ℕ) → lives (born_pending p i) j ≡ true → (j ≡ i) ⊎ (lives p j ≡ true)
+pub lives_born_pending : (p : Population) (i j : ℕ) → lives (born_pending p i) j ≡ true → (j ≡ i) ⊎ (lives p j ≡ true)
 lives_born_pending p i j h = elim (cases_eq j i) [
   | inl same ↦ inl same
   | inr other ↦ inr (rw (ne_eqb j i other) at h)
 ]
 
-still_lives : (p : Population) (i j : ℕ) → lives p j ≡ true → lives (born p i) j ≡ true
+pub still_lives : (p : Population) (i j : ℕ) → lives p j ≡ true → lives (born p i) j ≡ true
 still_lives p i j h = elim (eqb j i) as (λ b. ((b || p.merged j) || p.pending j) ≡ true) [ true ↦ refl | false ↦ h ]
 
-still_lives_pending : (p : Population) (i j : ℕ) → lives p j ≡ true → lives (born_pending p i) j ≡ true
+pub still_lives_pending : (p : Population) (i j : ℕ) → lives p j ≡ true → lives (born_pending p i) j ≡ true
 still_lives_pending p i j h = elim (eqb j i) as (λ b. (p.merged j || (b || p.pending j)) ≡ true) [ true ↦ true_or (p.merged j) | false ↦ h ]
 
 -- who lives after a death lived before, and is not of the list
@@ -177,14 +177,14 @@ merged_lives p i = first (lives p i) (p.marked i)
 pub unchanged : {K V : Type 0} (old new : State K V) → new ≡ old → OnlyLiving old → OnlyLiving new
 unchanged old new same w = subst OnlyLiving (sym same) w
 
-table_only : {K V : Type 0} (old new : State K V) → new.people ≡ old.people → OnlyLiving old → Within new.table (lives old.people) → OnlyLiving new
+pub table_only : {K V : Type 0} (old new : State K V) → new.people ≡ old.people → OnlyLiving old → Within new.table (lives old.people) → OnlyLiving new
 table_only old new same w within = record {
   values = rw same within;
   born = rw same w.born;
   below = rw same w.below;
 }
 
-birth_kept : {K V : Type 0} (give : Population → ℕ → Population) (old new : State K V) (e : Entity) → ((p : Population) (i : ℕ) → (give p i).births ≡ one_birth p.births i)
+pub birth_kept : {K V : Type 0} (give : Population → ℕ → Population) (old new : State K V) (e : Entity) → ((p : Population) (i : ℕ) → (give p i).births ≡ one_birth p.births i)
     → ((p : Population) (i j : ℕ) → lives (give p i) j ≡ true → (j ≡ i) ⊎ (lives p j ≡ true)) → ((p : Population) (i j : ℕ) → lives p j ≡ true → lives (give p i) j ≡ true)
     → OnPeople (λ p p'. Births give p e p') old new → OnlyLiving old → OnlyLiving new
 birth_kept give old new e births was still s w = record {
@@ -215,7 +215,7 @@ maintains_kept old new people table w = record {
   below = rw people w.below;
 }
 
-mark_kept : {K V : Type 0} (old new : State K V) (e : Entity) → OnPeople (λ p p'. Marks p e p') old new → OnlyLiving old → OnlyLiving new
+pub mark_kept : {K V : Type 0} (old new : State K V) (e : Entity) → OnPeople (λ p p'. Marks p e p') old new → OnlyLiving old → OnlyLiving new
 mark_kept old new e s w = record {
   values = rw (s.table, s.people.marked) w.values;
   born = rw s.people.marked w.born;

@@ -20,3 +20,7 @@ pub record OnlyLiving {K V : Type 0} (s : State K V) : Type 0 where
   pub values : (slot : K) (c : Column V) (i : ℕ) → s.table slot ≡ Some c → IsSome (c.values i) → lives s.people i ≡ true
   pub born : (i : ℕ) → lives s.people i ≡ true → 0 < s.people.births i
   pub below : (i : ℕ) → 0 < s.people.births i → i < INDEX_LIMIT
+
+-- where that held before, it holds after
+abbrev pub KeepsLiving : {K V : Type 0} → State K V → State K V → Type 0
+KeepsLiving old new = OnlyLiving old → OnlyLiving new

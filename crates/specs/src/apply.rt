@@ -1,5 +1,7 @@
 //! What a world does at each command.
-ghost use Rattle.specs.specs.State.{core_state};
+ghost use Rattle.specs.specs.Gone.{KeepsGone};
+ghost use Rattle.specs.specs.Reached.{KeepsLiving};
+ghost use Rattle.specs.specs.State.{core_state, state_of};
 ghost use Rattle.specs.specs.Steps.{world_state, Step};
 ghost use Rattle.specs.specs.Refused.{BirthStep, CountStep};
 ghost use Rattle.specs.specs.declared.command.Command.TheVariants.{Register, Delete, DeleteAll, MarkDead, Insert, Get, Remove, Clear, Select, Queue, Maintain, Reader, Events, DropReader, Emit};
@@ -16,6 +18,14 @@ use storages::ReaderId;
 impl<S: Storages, J: WorldJob<S>> World<S, J> {
     /// Does one command.
     pub fn apply(&mut self, command: Command<S, J>) -> Reply<S::Value>
+        ensures step { Step S.place S.allocates S.marks J.does J.wants (world_state S.table S.ids self.old) command result (world_state S.table S.ids self.new) }
+        ensures living { KeepsLiving (state_of S.table S.ids self.old) (state_of S.table S.ids self.new) }
+        ensures gone { KeepsGone (state_of S.table S.ids self.old).people (state_of S.table S.ids self.new).people }
+    {
+        self.answer(command)
+    }
+
+    fn answer(&mut self, command: Command<S, J>) -> Reply<S::Value>
         ensures { Step S.place S.allocates S.marks J.does J.wants (world_state S.table S.ids self.old) command result (world_state S.table S.ids self.new) }
     {
         match command {

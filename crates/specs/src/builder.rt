@@ -3,7 +3,9 @@ ghost use Rattle.std.specs.Prelude.{◌≡◌, Some, IfOk, IfErr};
 ghost use Rattle.std.specs.Borrow.{sem};
 ghost use Rattle.specs.specs.Building.{lent_to, built, shown, RestsMarked, MaybePuts, PutsAlone};
 ghost use Rattle.specs.specs.Field.{FieldInsertIsRefused, field_column};
+ghost use Rattle.specs.specs.Gone.{KeepsGone};
 ghost use Rattle.specs.specs.Marking.{HasMarkerThen, GetsNoMarker};
+ghost use Rattle.specs.specs.Reached.{KeepsLiving};
 
 use crate::command::Refusal;
 use crate::core_parts::Core;
@@ -66,6 +68,8 @@ impl<'a, S: Storages> EntityBuilder<'a, S> {
         ensures same_reference { IfOk result (λ b. (lent_to b).ghost_name ≡ (lent_to self.entry).ghost_name) }
         ensures entity { IfOk result (λ b. built b ≡ built self.entry) }
         ensures ok { IfOk result (λ b. HasMarkerThen S.marks slot (built self.entry) (shown S.table S.ids self.entry) (shown S.table S.ids b)) }
+        ensures living { IfOk result (λ b. KeepsLiving (shown S.table S.ids self.entry) (shown S.table S.ids b)) }
+        ensures gone { IfOk result (λ b. KeepsGone (shown S.table S.ids self.entry).people (shown S.table S.ids b).people) }
         ensures refused { IfErr result (GetsNoMarker S.marks (shown S.table S.ids self.entry) slot (built self.entry)) }
     {
         let EntityBuilder { core, entity } = self;
@@ -83,6 +87,8 @@ impl<'a, S: Held> Builder<S> for EntityBuilder<'a, S> {
         ensures same_reference { IfOk result (λ b. (lent_to b).ghost_name ≡ (lent_to self.entry).ghost_name) }
         ensures entity { IfOk result (λ b. built b ≡ built self.entry) }
         ensures ok { IfOk result (λ b. PutsAlone S.place (built self.entry) (S.as_value component) (shown S.table S.ids self.entry) (shown S.table S.ids b)) }
+        ensures living { IfOk result (λ b. KeepsLiving (shown S.table S.ids self.entry) (shown S.table S.ids b)) }
+        ensures gone { IfOk result (λ b. KeepsGone (shown S.table S.ids self.entry).people (shown S.table S.ids b).people) }
         ensures refused { IfErr result (λ r. FieldInsertIsRefused (shown S.table S.ids self.entry).people (field_column (S.part (lent_to self.entry).now.parts.storages)) (built self.entry) r.0) }
         ensures back { IfErr result (λ r. r.1 ≡ component) }
     {
@@ -98,6 +104,8 @@ impl<'a, S: Held> Builder<S> for EntityBuilder<'a, S> {
         ensures same_reference { IfOk result (λ b. (lent_to b).ghost_name ≡ (lent_to self.entry).ghost_name) }
         ensures entity { IfOk result (λ b. built b ≡ built self.entry) }
         ensures ok { IfOk result (λ b. MaybePuts S.place S.as_value (built self.entry) component (shown S.table S.ids self.entry) (shown S.table S.ids b)) }
+        ensures living { IfOk result (λ b. KeepsLiving (shown S.table S.ids self.entry) (shown S.table S.ids b)) }
+        ensures gone { IfOk result (λ b. KeepsGone (shown S.table S.ids self.entry).people (shown S.table S.ids b).people) }
         ensures refused { IfErr result (λ r. FieldInsertIsRefused (shown S.table S.ids self.entry).people (field_column (S.part (lent_to self.entry).now.parts.storages)) (built self.entry) r.0) }
         ensures back { IfErr result (λ r. component ≡ Some r.1) }
     {

@@ -5,9 +5,9 @@ ghost use Rattle.std.specs.List.{All};
 ghost use Rattle.entities.specs.Census.{population};
 ghost use Rattle.entities.specs.Population.{no_one, IsMerged};
 ghost use Rattle.entities.specs.Merges.{the_marked};
-ghost use Rattle.specs.specs.Gone.{IsGone};
+ghost use Rattle.specs.specs.Gone.{IsGone, KeepsGone};
 ghost use Rattle.specs.specs.People.{NoneMarked};
-ghost use Rattle.specs.specs.Reached.{HasNoValue, IsNew, OnlyLiving};
+ghost use Rattle.specs.specs.Reached.{HasNoValue, IsNew, KeepsLiving, OnlyLiving};
 ghost use Rattle.specs.specs.State.{core_state, Deletes, merged};
 ghost use Rattle.specs.specs.Refused.{DeleteIsRefused};
 ghost use Rattle.specs.specs.Lending.{LendsParts};
@@ -120,19 +120,35 @@ impl<S: Held> Core<S> {
 
 impl<S: Storages> Core<S> {
     /// The death at once of an entity, with its components. Ports `WorldExt::delete_entity`.
-    #[tactic(auto, using(crate::proofs::Gone::gone_deleted_one))]
     pub fn delete_entity(&mut self, e: Entity) -> Result<(), DeleteError>
         ensures ok { OnOk result (Deletes (e ∷ []) (core_state S.table S.ids self.old) (core_state S.table S.ids self.new)) }
         ensures gone { OnOk result (IsGone (core_state S.table S.ids self.new).people e) }
+        ensures living { KeepsLiving (core_state S.table S.ids self.old) (core_state S.table S.ids self.new) }
+        ensures stays_gone { KeepsGone (core_state S.table S.ids self.old).people (core_state S.table S.ids self.new).people }
         ensures refused { IfErr result (DeleteIsRefused (core_state S.table S.ids self.old) (e ∷ [])) }
         ensures err { OnErr result (core_state S.table S.ids self.new ≡ core_state S.table S.ids self.old) }
     {
-        self.delete_entities(&[e])
+        self.delete_entities(&[e])?;
+        Ok(())
     }
 
     /// The death at once of a list of entities, with their components. The whole list is tested first. It takes time near linear in the
     /// list, and memory for events alone; the empty list is never refused. Ports `WorldExt::delete_entities`.
     pub fn delete_entities(&mut self, list: &[Entity]) -> Result<(), DeleteError>
+        ensures ok { OnOk result (Deletes list.now (core_state S.table S.ids self.old) (core_state S.table S.ids self.new)) }
+        ensures gone { OnOk result (All (IsGone (core_state S.table S.ids self.new).people) list.now) }
+        ensures living { KeepsLiving (core_state S.table S.ids self.old) (core_state S.table S.ids self.new) }
+        ensures stays_gone { KeepsGone (core_state S.table S.ids self.old).people (core_state S.table S.ids self.new).people }
+        ensures refused { IfErr result (DeleteIsRefused (core_state S.table S.ids self.old) list.now) }
+        ensures err { OnErr result (core_state S.table S.ids self.new ≡ core_state S.table S.ids self.old) }
+        ensures idle { list.now ≡ [] → IsOk result }
+    {
+        self.delete_all_of(list)?;
+        Ok(())
+    }
+
+    // `delete_entities`, without what holds of each state.
+    fn delete_all_of(&mut self, list: &[Entity]) -> Result<(), DeleteError>
         ensures ok { OnOk result (Deletes list.now (core_state S.table S.ids self.old) (core_state S.table S.ids self.new)) }
         ensures gone { OnOk result (All (IsGone (core_state S.table S.ids self.new).people) list.now) }
         ensures refused { IfErr result (DeleteIsRefused (core_state S.table S.ids self.old) list.now) }
@@ -156,6 +172,8 @@ impl<S: Storages> Core<S> {
         ensures dead { IfOk result (λ dead. dead.items ≡ the_marked (core_state S.table S.ids self.old).people) }
         ensures gone { IfOk result (λ dead. All (IsGone (core_state S.table S.ids self.new).people) dead.items) }
         ensures merged { OnOk result (core_state S.table S.ids self.new ≡ merged (core_state S.table S.ids self.old)) }
+        ensures living { KeepsLiving (core_state S.table S.ids self.old) (core_state S.table S.ids self.new) }
+        ensures stays_gone { KeepsGone (core_state S.table S.ids self.old).people (core_state S.table S.ids self.new).people }
         ensures idle { NoneMarked (core_state S.table S.ids self.old).people → IsOk result }
         ensures err { OnErr result (core_state S.table S.ids self.new ≡ core_state S.table S.ids self.old) }
     {

@@ -64,6 +64,9 @@ pub trait Has<T: Component, I>: Held + Field<MaskedStorage<T>, I> {
     ghost keeps_ids: { (s : Self) (w : masked.Slot T) → Self.ids (Self.with_part s w) ≡ Self.ids s };
 
     ghost places: { (t : T) → Self.place (as_value t) ≡ the_slot };
+
+    /// Components whose values are one are one.
+    ghost one_to_one: { (t u : T) → as_value t ≡ as_value u → t ≡ u };
 }
 
 /// The slot of a component type.

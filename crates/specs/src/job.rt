@@ -192,6 +192,15 @@ impl<S: Held, J: Drop> JobList<S, J> {
         }
     }
 
+    /// Takes the first job out, so that a list that was refused can be taken apart; none is of the empty list.
+    pub fn pop_front(&mut self) -> Option<Job<S, J>>
+        ensures taken { IfSome result (λ job. listed self.old ≡ job ∷ listed self.new) }
+        ensures none { IfNone result (listed self.old ≡ []) }
+        ensures same { IfNone result (listed self.new ≡ []) }
+    {
+        self.jobs.pop_front()
+    }
+
     /// Puts a job at the end. Where memory is refused, the job is handed back and the list is as before.
     pub fn push(&mut self, job: Job<S, J>) -> Result<(), (Job<S, J>, AllocError)>
         ensures ok { OnOk result (listed self.new ≡ listed self.old ++ job ∷ []) }

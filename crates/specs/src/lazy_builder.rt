@@ -1,19 +1,27 @@
 //! A builder of an entity whose components are queued.
-ghost use Rattle.std.specs.Prelude.{◌≡◌, [], ◌∷◌, ◌++◌, IfOk, IfErr, OnOk, OnErr};
+ghost use Rattle.std.specs.Prelude.{◌≡◌, [], ◌∷◌, ◌++◌, Some, IfOk, IfErr, OnOk, OnErr};
+ghost use Rattle.std.specs.Option.{option_map, option_to_list};
 ghost use Rattle.std.specs.Borrow.{sem};
 ghost use Rattle.entities.specs.Population.{born_pending};
+ghost use Rattle.specs.specs.Gone.{KeepsGone};
 ghost use Rattle.specs.specs.LazyBuilding.{lent_to, built, shown, waiting, RestsUnborn, RestsMarked, RestsMarkedAt, Marked};
 ghost use Rattle.specs.specs.People.{Births};
 ghost use Rattle.specs.specs.Queue.{queued};
+ghost use Rattle.specs.specs.Reached.{KeepsLiving};
 ghost use Rattle.specs.specs.Refused.{CreateIsRefused};
 ghost use Rattle.specs.specs.State.{core_state, OnPeople};
 ghost use Rattle.specs.specs.declared.job.Job.TheVariants.{Insert, Mark};
 
+use crate::builder::Builder;
+use crate::building::mark_if_alive;
+use crate::command::Refusal;
+use crate::has::Has;
 use crate::job::Job;
 use crate::slots::Held;
 use crate::world::WorldParts;
 use entities::{CreateError, Entity};
 use std::alloc::AllocError;
+use storages::{Component, UnprotectedStorage};
 
 /// A builder of an entity whose birth is pending; its components are queued. Dropped unbuilt, it marks the entity if it is alive. It borrows the
 /// world's parts, from which queue and entities come. Ports `specs::world::LazyBuilder`.
@@ -28,14 +36,39 @@ impl<S: Held, J: Drop> WorldParts<S, J> {
         ensures* rests { sem 𝓛 (RestsUnborn S.row J.row S.Slot.row S.Value.row self.entry result) }
         ensures same_reference { IfOk result (λ b. (lent_to b).ghost_name ≡ self.entry.ghost_name) }
         ensures ok { IfOk result (λ b. OnPeople (λ p p'. Births born_pending p (built b) p') (core_state S.table S.ids self.old.core) (shown S.table S.ids b)) }
+        ensures living { IfOk result (λ b. KeepsLiving (core_state S.table S.ids self.old.core) (shown S.table S.ids b)) }
+        ensures gone { IfOk result (λ b. KeepsGone (core_state S.table S.ids self.old.core).people (shown S.table S.ids b).people) }
         ensures queue { IfOk result (λ b. waiting b ≡ queued self.old.lazy) }
         ensures refused { IfErr result (CreateIsRefused (core_state S.table S.ids self.old.core).people) }
     {
-        let entity = self.core.parts.entities.create()?;
+        let entity = self.bear_lawfully()?;
         Ok(LazyBuilder {
             parts: self,
             entity,
         })
+    }
+
+    // A birth that is pending.
+    fn bear(&mut self) -> Result<Entity, CreateError>
+        ensures ok { IfOk result (λ e. OnPeople (λ p p'. Births born_pending p e p') (core_state S.table S.ids self.old.core) (core_state S.table S.ids self.new.core)) }
+        ensures queue { queued self.new.lazy ≡ queued self.old.lazy }
+        ensures refused { IfErr result (CreateIsRefused (core_state S.table S.ids self.old.core).people) }
+        ensures err { OnErr result (self.new ≡ self.old) }
+    {
+        self.core.parts.entities.create()
+    }
+
+    // `bear`, and what holds of each state still does.
+    fn bear_lawfully(&mut self) -> Result<Entity, CreateError>
+        ensures ok { IfOk result (λ e. OnPeople (λ p p'. Births born_pending p e p') (core_state S.table S.ids self.old.core) (core_state S.table S.ids self.new.core)) }
+        ensures living { OnOk result (KeepsLiving (core_state S.table S.ids self.old.core) (core_state S.table S.ids self.new.core)) }
+        ensures gone { OnOk result (KeepsGone (core_state S.table S.ids self.old.core).people (core_state S.table S.ids self.new.core).people) }
+        ensures queue { queued self.new.lazy ≡ queued self.old.lazy }
+        ensures refused { IfErr result (CreateIsRefused (core_state S.table S.ids self.old.core).people) }
+        ensures err { OnErr result (self.new ≡ self.old) }
+    {
+        let entity = self.bear()?;
+        Ok(entity)
     }
 
     // A job more for an entity that is being built, or none, and the entity is marked.
@@ -57,6 +90,51 @@ impl<S: Held, J: Drop> WorldParts<S, J> {
             entity,
         })
     }
+
+    // `LazyBuilder::with`, of the parts and the entity that it held.
+    fn build_component<T: Component + Drop, I>(
+        &mut self,
+        entity: Entity,
+        component: T,
+    ) -> Result<LazyBuilder<'_, S, J>, (Refusal, T)>
+    where
+        S: Has<T, I>,
+        ensures* rests { sem 𝓛 (RestsMarkedAt S.row J.row S.Slot.row S.Value.row S.table S.ids self.entry entity result) }
+        ensures same_reference { IfOk result (λ b. (lent_to b).ghost_name ≡ self.entry.ghost_name) }
+        ensures entity { IfOk result (λ b. built b ≡ entity) }
+        ensures core { IfOk result (λ b. shown S.table S.ids b ≡ core_state S.table S.ids self.old.core) }
+        ensures queue { IfOk result (λ b. waiting b ≡ queued self.old.lazy ++ Insert entity (S.as_value component) ∷ []) }
+        ensures refused { IfErr result (λ r. r.0 ≡ Refusal.OutOfMemory) }
+        ensures back { IfErr result (λ r. r.1 ≡ component) }
+    {
+        push_component(self, entity, component)?;
+        Ok(LazyBuilder {
+            parts: self,
+            entity,
+        })
+    }
+}
+
+// Queues a component of an entity, or marks the entity.
+fn push_component<T: Component + Drop, S: Has<T, I>, J: Drop, I>(
+    parts: &mut WorldParts<S, J>,
+    entity: Entity,
+    component: T,
+) -> Result<(), (Refusal, T)>
+    ensures core { OnOk result (core_state S.table S.ids parts.new.core ≡ core_state S.table S.ids parts.old.core) }
+    ensures queue { OnOk result (queued parts.new.lazy ≡ queued parts.old.lazy ++ Insert entity (S.as_value component) ∷ []) }
+    ensures err { OnErr result (Marked S.table S.ids entity parts.old parts.new) }
+    ensures refused { IfErr result (λ r. r.0 ≡ Refusal.OutOfMemory) }
+    ensures back { IfErr result (λ r. r.1 ≡ component) }
+{
+    match push_or_mark(parts, entity, Job::Insert(entity, S::value(component))) {
+        Ok(()) => Ok(()),
+        Err((Job::Insert(_, value), _)) => match S::component(value) {
+            Ok(component) => Err((Refusal::OutOfMemory, component)),
+            Err(_) => unreachable!(),
+        },
+        Err(_) => unreachable!(),
+    }
 }
 
 // Queues a job, or marks the entity that it is for.
@@ -73,7 +151,7 @@ fn push_or_mark<S: Held, J: Drop>(
     match parts.lazy.push(job) {
         Ok(()) => Ok(()),
         Err(refused) => {
-            let _ = parts.core.parts.entities.delete(entity);
+            mark_if_alive(&mut parts.core.parts.entities, entity);
             Err(refused)
         }
     }
@@ -86,7 +164,7 @@ impl<S: Held, J: Drop> Drop for LazyBuilder<'_, S, J> {
         ensures { Marked S.table S.ids (built self.entry) (lent_to self.entry).now self.exit.0.now }
     {
         let LazyBuilder { parts, entity } = self;
-        let _ = parts.core.parts.entities.delete(entity);
+        mark_if_alive(&mut parts.core.parts.entities, entity);
     }
 }
 
@@ -98,8 +176,8 @@ impl<'a, S: Held, J: Drop> LazyBuilder<'a, S, J> {
         self.entity
     }
 
-    /// Queues a component. A refused call drops the builder, and hands the component back.
-    pub fn with(self, value: S::Value) -> Result<Self, (Job<S, J>, AllocError)>
+    /// Queues a component that is a value of the world's. A refused call drops the builder, and hands the component back in its job.
+    pub fn with_value(self, value: S::Value) -> Result<Self, (Job<S, J>, AllocError)>
         ensures* rests { sem 𝓛 (RestsMarked S.row J.row S.Slot.row S.Value.row S.table S.ids self.entry result) }
         ensures same_reference { IfOk result (λ b. (lent_to b).ghost_name ≡ (lent_to self.entry).ghost_name) }
         ensures entity { IfOk result (λ b. built b ≡ built self.entry) }
@@ -123,9 +201,46 @@ impl<'a, S: Held, J: Drop> LazyBuilder<'a, S, J> {
         let LazyBuilder { parts, entity } = self;
         parts.build_with(entity, Job::Mark(slot, entity))
     }
+}
+
+impl<'a, S: Held, J: Drop> Builder<S> for LazyBuilder<'a, S, J> {
+    fn with<T: Component + Drop, I>(self, component: T) -> Result<Self, (Refusal, T)>
+    where
+        S: Has<T, I>,
+        T::Storage: UnprotectedStorage<T>,
+        ensures* rests { sem 𝓛 (RestsMarked S.row J.row S.Slot.row S.Value.row S.table S.ids self.entry result) }
+        ensures same_reference { IfOk result (λ b. (lent_to b).ghost_name ≡ (lent_to self.entry).ghost_name) }
+        ensures entity { IfOk result (λ b. built b ≡ built self.entry) }
+        ensures core { IfOk result (λ b. shown S.table S.ids b ≡ shown S.table S.ids self.entry) }
+        ensures queue { IfOk result (λ b. waiting b ≡ waiting self.entry ++ Insert (built self.entry) (S.as_value component) ∷ []) }
+        ensures refused { IfErr result (λ r. r.0 ≡ Refusal.OutOfMemory) }
+        ensures back { IfErr result (λ r. r.1 ≡ component) }
+    {
+        let LazyBuilder { parts, entity } = self;
+        parts.build_component(entity, component)
+    }
+
+    fn maybe_with<T: Component + Drop, I>(self, component: Option<T>) -> Result<Self, (Refusal, T)>
+    where
+        S: Has<T, I>,
+        T::Storage: UnprotectedStorage<T>,
+        ensures* rests { sem 𝓛 (RestsMarked S.row J.row S.Slot.row S.Value.row S.table S.ids self.entry result) }
+        ensures same_reference { IfOk result (λ b. (lent_to b).ghost_name ≡ (lent_to self.entry).ghost_name) }
+        ensures entity { IfOk result (λ b. built b ≡ built self.entry) }
+        ensures core { IfOk result (λ b. shown S.table S.ids b ≡ shown S.table S.ids self.entry) }
+        ensures queue { IfOk result (λ b. waiting b ≡ waiting self.entry ++ option_to_list (option_map (λ t. Insert (built self.entry) (S.as_value t)) component)) }
+        ensures refused { IfErr result (λ r. r.0 ≡ Refusal.OutOfMemory) }
+        ensures back { IfErr result (λ r. component ≡ Some r.1) }
+    {
+        let LazyBuilder { parts, entity } = self;
+        match component {
+            Some(component) => parts.build_component(entity, component),
+            None => Ok(LazyBuilder { parts, entity }),
+        }
+    }
 
     /// The entity, which then is as it is: nothing marks it.
-    pub fn build(self) -> Entity
+    fn build(self) -> Entity
         ensures entity { result ≡ built self.entry }
         ensures parts { self.exit.0.now ≡ (lent_to self.entry).now }
     {

@@ -7,9 +7,11 @@ ghost use Rattle.storages.specs.Meaning.{HasRoom};
 ghost use Rattle.specs.specs.Column.{Column, WantsNone, without_values};
 ghost use Rattle.specs.specs.Ids.{IdsAfter};
 ghost use Rattle.specs.specs.Marks.{Markers, GivesMarker, MarkerIsRefused};
+ghost use Rattle.specs.specs.ChannelCalls.{Calls, CallIsRefused};
 ghost use Rattle.specs.specs.Readers.{RegistersReader, RegisterReaderIsRefused, ReadsEvents, DropsReader, ReaderIsRefused, Switches, SwitchIsRefused};
 ghost use Rattle.specs.specs.Table.{Registers, Inserts, InsertIsRefused, Gets, GetIsRefused, Removes, RemoveIsRefused, Clears, ClearIsRefused, IsMask};
 
+use crate::channel_call::{ChannelCall, ChannelReply};
 use crate::command::Refusal;
 use entities::{EntitiesRes, Entity};
 use hibits::BitSet;
@@ -125,33 +127,72 @@ pub trait Storages: Held<Slot: Copy + Eq> {
         ensures err { OnErr result (Self.table self.new ≡ Self.table self.old) }
         ensures err_ids { OnErr result (Self.ids self.new ≡ Self.ids self.old) };
 
+    /// A call on the channel of a slot's events: `register_reader`, `read`, `drop_reader` and `set_event_emission` are each one.
+    fn call_channel(
+        &mut self,
+        slot: Self::Slot,
+        call: ChannelCall<'_>,
+    ) -> Result<ChannelReply, Refusal>
+        ensures ok { IfOk result (λ reply. Calls (Self.table self.old) slot call.entry reply (Self.table self.new)) }
+        ensures refused { IfErr result (CallIsRefused call.entry (Self.table self.old slot)) }
+        ensures err { OnErr result (Self.table self.new ≡ Self.table self.old) }
+        ensures ids { Self.ids self.new ≡ Self.ids self.old };
+
     /// Registers a reader of a slot's events, which has nothing to read yet.
-    fn register_reader(&mut self, slot: Self::Slot) -> Result<ReaderId, Refusal>
+    final fn register_reader(&mut self, slot: Self::Slot) -> Result<ReaderId, Refusal>
         ensures ok { IfOk result (λ n. RegistersReader (Self.table self.old) slot n (Self.table self.new)) }
         ensures refused { IfErr result (RegisterReaderIsRefused (Self.table self.old slot)) }
         ensures err { OnErr result (Self.table self.new ≡ Self.table self.old) }
-        ensures ids { Self.ids self.new ≡ Self.ids self.old };
+        ensures ids { Self.ids self.new ≡ Self.ids self.old }
+    {
+        match self.call_channel(slot, ChannelCall::Register)? {
+            ChannelReply::Reader(reader) => Ok(reader),
+            _ => unreachable!(),
+        }
+    }
 
     /// What a reader has not read of a slot's events, which it has read then. It takes no memory.
-    fn read(&mut self, slot: Self::Slot, reader: &ReaderId) -> Result<Vec<ComponentEvent>, Refusal>
+    final fn read(
+        &mut self,
+        slot: Self::Slot,
+        reader: &ReaderId,
+    ) -> Result<Vec<ComponentEvent>, Refusal>
         ensures ok { IfOk result (λ es. ReadsEvents (Self.table self.old) slot reader.now es.items (Self.table self.new)) }
         ensures refused { IfErr result (ReaderIsRefused reader.now (Self.table self.old slot)) }
         ensures err { OnErr result (Self.table self.new ≡ Self.table self.old) }
-        ensures ids { Self.ids self.new ≡ Self.ids self.old };
+        ensures ids { Self.ids self.new ≡ Self.ids self.old }
+    {
+        match self.call_channel(slot, ChannelCall::Read(reader))? {
+            ChannelReply::Events(events) => Ok(events),
+            _ => unreachable!(),
+        }
+    }
 
     /// Ends a reader of a slot's events. Its number is not used again.
-    fn drop_reader(&mut self, slot: Self::Slot, reader: ReaderId) -> Result<(), Refusal>
+    final fn drop_reader(&mut self, slot: Self::Slot, reader: ReaderId) -> Result<(), Refusal>
         ensures ok { OnOk result (DropsReader (Self.table self.old) slot reader (Self.table self.new)) }
         ensures refused { IfErr result (ReaderIsRefused reader (Self.table self.old slot)) }
         ensures err { OnErr result (Self.table self.new ≡ Self.table self.old) }
-        ensures ids { Self.ids self.new ≡ Self.ids self.old };
+        ensures ids { Self.ids self.new ≡ Self.ids self.old }
+    {
+        match self.call_channel(slot, ChannelCall::End(reader))? {
+            ChannelReply::Done => Ok(()),
+            _ => unreachable!(),
+        }
+    }
 
     /// Turns the events of a slot on or off.
-    fn set_event_emission(&mut self, slot: Self::Slot, on: bool) -> Result<(), Refusal>
+    final fn set_event_emission(&mut self, slot: Self::Slot, on: bool) -> Result<(), Refusal>
         ensures ok { OnOk result (Switches (Self.table self.old) slot on (Self.table self.new)) }
         ensures refused { IfErr result (SwitchIsRefused (Self.table self.old slot)) }
         ensures err { OnErr result (Self.table self.new ≡ Self.table self.old) }
-        ensures ids { Self.ids self.new ≡ Self.ids self.old };
+        ensures ids { Self.ids self.new ≡ Self.ids self.old }
+    {
+        match self.call_channel(slot, ChannelCall::Emit(on))? {
+            ChannelReply::Done => Ok(()),
+            _ => unreachable!(),
+        }
+    }
 
     /// Makes room for the events of a removal of the values of so many entities. It takes no memory where nobody hears of any slot, or for
     /// no entity. Nothing changes but the room.

@@ -2,6 +2,8 @@
 ghost use Rattle.std.specs.Prelude.{◌≡◌, ℕ, true, Some, None, IsSome, IfSome, IfOk, IsOk, OnOk, OnErr};
 ghost use Rattle.std.specs.Borrow.{sem};
 ghost use Rattle.storages.specs.ReadView as reading;
+ghost use Rattle.specs.specs.Gone.{KeepsGone};
+ghost use Rattle.specs.specs.Reached.{KeepsLiving};
 ghost use Rattle.specs.specs.Registering.{RegistersAs, column_with};
 ghost use Rattle.specs.specs.State.{core_state, OnTable};
 ghost use Rattle.specs.specs.Table.{Registers};
@@ -25,6 +27,7 @@ pub struct Unregistered;
 impl<S: Held> Core<S> {
     /// Makes an empty storage for a component type where none was, else changes nothing. Where the first value of the storage's kind takes no
     /// memory, as of each kind of `storages`, it is not refused. Ports `WorldExt::register`.
+    #[tactic(auto, using(crate::proofs::Kept::living_registered, crate::proofs::Kept::gone_same))]
     pub fn register<T: Component, I>(&mut self) -> Result<(), AllocError>
     where
         S: Has<T, I>,
@@ -32,6 +35,8 @@ impl<S: Held> Core<S> {
         ensures ok { OnOk result (OnTable (λ t t'. Registers t S.the_slot t') (core_state S.table S.ids self.old) (core_state S.table S.ids self.new)) }
         ensures succeeds { T.Storage.TakesNone → IsOk result }
         ensures memory { OnErr result ((core_state S.table S.ids self.old).table S.the_slot ≡ None) }
+        ensures living { KeepsLiving (core_state S.table S.ids self.old) (core_state S.table S.ids self.new) }
+        ensures gone { KeepsGone (core_state S.table S.ids self.old).people (core_state S.table S.ids self.new).people }
         ensures err { OnErr result (core_state S.table S.ids self.new ≡ core_state S.table S.ids self.old) }
     {
         by_type::register(&mut self.parts.storages, self.alloc)
@@ -39,11 +44,14 @@ impl<S: Held> Core<S> {
 
     /// Takes an empty storage for a component type where none was, else lets it go and changes nothing. The slot has the readers, the
     /// emission and the slice that the storage has. Ports `WorldExt::register_with_storage`.
+    #[tactic(auto, using(crate::proofs::Kept::living_begun, crate::proofs::Kept::gone_same))]
     pub fn register_with_storage<T: Component, I>(&mut self, storage: T::Storage)
     where
         S: Has<T, I>,
         requires { (q : ℕ) → (T.Storage.meaning storage).is_free q ≡ true }
         ensures registers { OnTable (λ t t'. RegistersAs t S.the_slot (column_with (T.Storage.meaning storage)) t') (core_state S.table S.ids self.old) (core_state S.table S.ids self.new) }
+        ensures living { KeepsLiving (core_state S.table S.ids self.old) (core_state S.table S.ids self.new) }
+        ensures gone { KeepsGone (core_state S.table S.ids self.old).people (core_state S.table S.ids self.new).people }
         ensures slice { S.part self.old.parts.storages ≡ None → IfSome (S.part self.new.parts.storages) (λ w. (w.extent ≡ (T.Storage.meaning storage).extent) × (w.order ≡ (T.Storage.meaning storage).order)) }
     {
         by_type::register_with(&mut self.parts.storages, self.alloc, storage);

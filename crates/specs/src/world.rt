@@ -2,13 +2,12 @@
 ghost use Rattle.std.specs.Prelude.{◌≡◌, ℕ, [], ◌++◌, IfOk, IsOk, OnErr, length};
 ghost use Rattle.std.specs.Borrow.{sem};
 ghost use Rattle.std.specs.List.{All};
-ghost use Rattle.entities.specs.declared.entity.Entity.{Entity as AnEntity};
 ghost use Rattle.entities.specs.Population.{no_one};
-ghost use Rattle.specs.specs.Gone.{IsGone};
+ghost use Rattle.specs.specs.Gone.{IsGone, KeepsGone};
 ghost use Rattle.specs.specs.Laws.{FollowsQuietly};
 ghost use Rattle.specs.specs.Lending.{LendsWorldParts};
 ghost use Rattle.specs.specs.People.{NoneMarked};
-ghost use Rattle.specs.specs.Reached.{HasNoValue, IsNew, OnlyLiving};
+ghost use Rattle.specs.specs.Reached.{HasNoValue, IsNew, KeepsLiving, OnlyLiving};
 ghost use Rattle.specs.specs.State.{state_of};
 ghost use Rattle.specs.specs.Steps.{world_state, Maintains, Run};
 
@@ -102,6 +101,8 @@ impl<S: Storages, J: WorldJob<S>> World<S, J> {
     pub fn maintain(&mut self, limit: u64) -> Result<Maintained, AllocError>
         ensures ok { IfOk result (λ m. Maintains S.place S.marks J.does J.wants (world_state S.table S.ids self.old) limit m (world_state S.table S.ids self.new)) }
         ensures gone { IfOk result (λ m. All (IsGone (state_of S.table S.ids self.new).people) m.deleted.items) }
+        ensures living { KeepsLiving (state_of S.table S.ids self.old) (state_of S.table S.ids self.new) }
+        ensures stays_gone { KeepsGone (state_of S.table S.ids self.old).people (state_of S.table S.ids self.new).people }
         ensures idle { NoneMarked (state_of S.table S.ids self.old).people → IsOk result }
         ensures err { OnErr result (world_state S.table S.ids self.new ≡ world_state S.table S.ids self.old) }
     {
@@ -128,8 +129,8 @@ impl<S: Storages, J: WorldJob<S>> World<S, J> {
         ensures idle { commands.items ≡ [] → IsOk result }
 
         // The laws of runs, as this run kept them.
-        ensures living { OnlyLiving (state_of S.table S.ids self.old) → OnlyLiving (state_of S.table S.ids self.new) }
-        ensures gone { (e : AnEntity) → IsGone (state_of S.table S.ids self.old).people e → IsGone (state_of S.table S.ids self.new).people e }
+        ensures living { KeepsLiving (state_of S.table S.ids self.old) (state_of S.table S.ids self.new) }
+        ensures gone { KeepsGone (state_of S.table S.ids self.old).people (state_of S.table S.ids self.new).people }
         ensures events { IfOk result (λ replies. FollowsQuietly J.spares S.Slot.eq (world_state S.table S.ids self.old) commands.items replies.items (world_state S.table S.ids self.new)) }
     {
         let mut replies = Vec::with_capacity(self.parts.core.alloc, commands.len())?;

@@ -8,6 +8,8 @@ ghost use Rattle.storages.specs.ReadView as reading;
 ghost use Rattle.storages.specs.Slot as masked;
 ghost use Rattle.specs.specs.Field.{FieldInserts, FieldGets, FieldRemoves, FieldClears, WriteIsRefused, Holds, column_of, field_column, field_room};
 ghost use Rattle.specs.specs.Column.{wants_memory};
+ghost use Rattle.specs.specs.Gone.{KeepsGone};
+ghost use Rattle.specs.specs.Reached.{KeepsLiving};
 ghost use Rattle.specs.specs.State.{OnTable, InsertsAlone, RemovesAlone};
 ghost use Rattle.specs.specs.Table.{Inserts, Gets, Removes, RemovalWantsMemory, Clears, ClearingWantsMemory};
 ghost use Rattle.specs.specs.Writing.{lent, storages_of, shown, LendsMasked, LendsHere, LendsValue, LendsComponent};
@@ -90,6 +92,8 @@ where
         ensures field { IfOk result (λ before. FieldInserts (shown S.table S.ids self.old).people (field_column (S.part (storages_of self.old))) e component before (field_column (S.part (storages_of self.new)))) }
         ensures refused { IfErr result (WriteIsRefused (shown S.table S.ids self.old).people (field_column (S.part (storages_of self.old))) e component) }
         ensures err { OnErr result (shown S.table S.ids self.new ≡ shown S.table S.ids self.old) }
+        ensures living { KeepsLiving (shown S.table S.ids self.old) (shown S.table S.ids self.new) }
+        ensures gone { KeepsGone (shown S.table S.ids self.old).people (shown S.table S.ids self.new).people }
         ensures succeeds { Holds (shown S.table S.ids self.old).people (field_column (S.part (storages_of self.old))) e → HasRoom (field_room (S.part (storages_of self.old))) 1 → IsOk result }
     {
         let Parts { entities, storages } = &mut self.core.parts;
@@ -114,6 +118,8 @@ where
         ensures field { IfOk result (λ found. FieldRemoves (shown S.table S.ids self.old).people (field_column (S.part (storages_of self.old))) e found (field_column (S.part (storages_of self.new)))) }
         ensures refused { OnErr result (RemovalWantsMemory (shown S.table S.ids self.old).people (field_column (S.part (storages_of self.old))) e) }
         ensures err { OnErr result (shown S.table S.ids self.new ≡ shown S.table S.ids self.old) }
+        ensures living { KeepsLiving (shown S.table S.ids self.old) (shown S.table S.ids self.new) }
+        ensures gone { KeepsGone (shown S.table S.ids self.old).people (shown S.table S.ids self.new).people }
         ensures succeeds { HasRoom (field_room (S.part (storages_of self.old))) 1 → IsOk result }
     {
         let Parts { entities, storages } = &mut self.core.parts;
@@ -125,6 +131,7 @@ where
     }
 
     /// Removes every component. It takes memory for events alone, and a refused call changes nothing. Ports `Storage::clear`.
+    #[tactic(auto, using(crate::proofs::Kept::living_cleared, crate::proofs::Kept::gone_same))]
     pub fn clear(&mut self) -> Result<(), AllocError>
         requires { IsSome (S.part (storages_of self.old)) }
         ensures same_reference { (lent self.new).ghost_name ≡ (lent self.old).ghost_name }
@@ -134,6 +141,8 @@ where
         ensures field { OnOk result (FieldClears (field_column (S.part (storages_of self.old))) (field_column (S.part (storages_of self.new)))) }
         ensures refused { OnErr result (ClearingWantsMemory (field_column (S.part (storages_of self.old)))) }
         ensures err { OnErr result (shown S.table S.ids self.new ≡ shown S.table S.ids self.old) }
+        ensures living { KeepsLiving (shown S.table S.ids self.old) (shown S.table S.ids self.new) }
+        ensures gone { KeepsGone (shown S.table S.ids self.old).people (shown S.table S.ids self.new).people }
         ensures succeeds { IfSome (S.part (storages_of self.old)) (λ w. HasRoom w.room (length (masked.indices_of w))) → IsOk result }
     {
         match by_type::clear(&mut self.core.parts.storages) {

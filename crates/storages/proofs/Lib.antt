@@ -8,4 +8,5 @@ pub mod SliceLends
 pub mod Indices
 pub mod Unread
 pub mod Readers
+pub mod Walked
 pub mod Telling

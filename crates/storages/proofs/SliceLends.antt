@@ -1,23 +1,21 @@
 -- On components that are lent as a slice.
-use Rattle.std.proofs.Common.{◌≡◌, ℕ, ◌<◌, Bool, true, false, nat_eq, cond, List, [], ◌∷◌, length, refl, ap, sym, ◌∙◌, zero, suc, arith, Some, None, is_some, IsTrue, ◌⊎◌, inl, inr}
+use Rattle.std.proofs.Common.{◌≡◌, ℕ, Bool, true, false, cond, List, length, refl, ap, sym, ◌∙◌, arith, None, is_some, IsTrue, ◌⊎◌, inl, inr}
 use Rattle.std.specs.Prelude.{Option}
 use Rattle.std.specs.Coded.{Coded-set, coded_ℕ, coded_option}
-use Rattle.std.specs.List.{slice_get, zip, refill}
-use Rattle.std.specs.Map.{lookup}
+use Rattle.std.specs.List.{refill}
 use Rattle.std.specs.FinMap as map
 use Rattle.std.specs.FinSet as set
 use Rattle.std.specs.Ordering.{nat_cmp}
 use Rattle.std.specs.Option.{is_none}
-use Rattle.std.proofs.lemmas.Bool.{false≢true}
 use Rattle.std.proofs.lemmas.Option.{slice_get_within}
 use Rattle.storages.specs.Dense.{IsConsistent, value_of, meaning_of}
 use Rattle.storages.specs.Meaning.{Meaning, Masks, Shows}
 use Rattle.storages.specs.Slot.{Slot, slot_of}
 use Rattle.storages.specs.Slices.{item_beside}
+use Rattle.storages.specs.SliceLaws.{at_place}
 use Rattle.storages.specs.SliceLends.{left_as, with_slice, Rewrites}
 use Rattle.storages.proofs.Slot.{in_keys, get-list, get-slot, get-present, absent_of_none, there_of_some, contains-slot, same_map}
-use Rattle.storages.proofs.Dense.{IsAt, found, one_place, value-present, value-absent, at_of_value, placed_some, none_not_some, some_inj}
-use Rattle.storages.proofs.Indices.{itself, same_id}
+use Rattle.storages.proofs.Dense.{IsAt, found, one_place, value-present, value-absent, at_of_value, placed_some, none_not_some}
 
 -- a dense table is consistent in one way
 pub IsConsistent-prop : (n : ℕ) (ids places : List ℕ) (a b : IsConsistent n ids places) → a ≡ b
@@ -26,23 +24,12 @@ IsConsistent-prop n ids places a b = λ j. record {
   placed = λ k i e. Coded-set (coded_option coded_ℕ) _ _ (a.placed k i e) (b.placed k i e) j;
 }
 
--- the value beside an index that stands at one place
-item-beside : {T : Type 0} (ids : List ℕ) (xs : List T) (k q : ℕ) → slice_get ids k ≡ Some q → ((j : ℕ) → slice_get ids j ≡ Some q → j ≡ k) → k < length xs → item_beside ids xs q ≡ slice_get xs k
-item-beside [] xs k q e one h = absurd (false≢true (ap is_some e))
-item-beside (i ∷ is) [] k q e one h = absurd (omega arith)
-item-beside (i ∷ is) (x ∷ xs) zero q e one h = ap (λ b. cond b (Some x) (lookup (nat_eq q) (zip is xs))) (ap (nat_eq q) (some_inj (Some i) i q refl e) ∙ itself q)
-item-beside (i ∷ is) (x ∷ xs) (suc k) q e one h = passed (nat_eq q i) refl ∙ item-beside is xs k q e (λ j f. let p = one (suc j) f in omega arith) (omega arith)
-  where
-    passed : (b : Bool) → nat_eq q i ≡ b → cond b (Some x) (lookup (nat_eq q) (zip is xs)) ≡ lookup (nat_eq q) (zip is xs)
-    passed true f = let p = one zero (ap Some (sym (same_id q i f))) in absurd (omega arith)
-    passed false f = refl
-
 module _ {T : Type 0} (n : ℕ) (ids places : List ℕ) (C : IsConsistent n ids places) where
   -- each value stands beside its index
   pub item-dense : (values : List T) → length values ≡ n → (q : ℕ) → IsTrue (is_some (value_of values ids places q)) → item_beside ids values q ≡ value_of values ids places q
   item-dense values len q h =
       let k = at_of_value n ids places C values len q h in
-      item-beside ids values k.0 q k.1 (λ j e. one_place n ids places C j k.0 q e k.1) (let a = slice_get_within ids k.0 q k.1 in let b = C.lengths in omega arith)
+      at_place ids values k.0 q k.1 (λ j e. one_place n ids places C j k.0 q e k.1) (let a = slice_get_within ids k.0 q k.1 in let b = C.lengths in omega arith)
       ∙ sym (value-present n ids places C values k.0 q k.1)
 
   module _ (values values' : List T) (len : length values ≡ n) (len' : length values' ≡ n) where

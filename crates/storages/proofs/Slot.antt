@@ -11,6 +11,7 @@ use Rattle.std.specs.FinSet as set
 use Rattle.storages.specs.declared.event.ComponentEvent.{ComponentEvent}
 use Rattle.storages.specs.declared.event.ComponentEvent.TheVariants.{Inserted, Modified, Removed}
 use Rattle.storages.specs.Channel.{emitted, emitted_removals}
+use Rattle.storages.specs.Heard.{Tells, tells_one, tells_two, tells_removals}
 use Rattle.storages.specs.Meaning.{Meaning, HasRoom, Masks, Puts, Frees, Keeps, Empties, Writes, Refuses, SamePresence, extent_after}
 use Rattle.storages.specs.Finds.{get-insert, get-remove}
 use Rattle.storages.specs.Lending.{SlotWrites, SlotRefuses}
@@ -123,6 +124,7 @@ module _ {T : Type 0} where
     extent = p.touches.extent;
     order = p.touches.order;
     channel = p.touches.channel;
+    told = tells_one e m.channel m'.channel p.touches.channel;
     needs_room = p.touches.needs_room;
     room = p.touches.room;
     needs_inner = p.touches.needs_inner;
@@ -149,6 +151,7 @@ module _ {T : Type 0} where
     extent = p.touches.extent;
     order = p.touches.order;
     channel = p.touches.channel;
+    told = tells_one (Removed id) m.channel m'.channel p.touches.channel;
     needs_room = p.touches.needs_room;
     room = p.touches.room;
     needs_inner = p.touches.needs_inner;
@@ -164,6 +167,7 @@ module _ {T : Type 0} where
     map = same_map _ _ (λ q. get-slot set.empty m' q ∙ ap (λ b. cond b (m'.at q) None) (set.contains-empty nat_cmp q) ∙ sym (map.get-empty nat_cmp q));
     extent = p.extent;
     channel = p.channel ∙ ap (λ ids. emitted_removals ids m.channel) (indices-slot s m k);
+    told = tells_removals (indices_of (slot_of s m)) m.channel m'.channel (p.channel ∙ ap (λ ids. emitted_removals ids m.channel) (indices-slot s m k));
     needs_room = p.needs_room;
     room = λ n h. p.room n (as_many m.room n h);
     needs_inner = p.needs_inner;
@@ -253,6 +257,7 @@ module _ {T : Type 0} where
     map = c.map ∙ ap (λ (m : map.FinMap nat_cmp T). map.insert m id y) b.map ∙ put_twice s₂.map id x y ∙ ap (λ (m : map.FinMap nat_cmp T). map.insert m id y) a.map;
     extent = c.extent ∙ b.extent ∙ ap (extent_after (Inserted id)) a.extent;
     channel = c.channel ∙ ap (λ k. emitted (Modified id) k) b.channel ∙ ap (λ k. emitted (Modified id) (emitted (Inserted id) k)) a.channel;
+    told = tells_two (Inserted id) (Modified id) s₁.channel s₄.channel (c.channel ∙ ap (λ k. emitted (Modified id) k) b.channel ∙ ap (λ k. emitted (Modified id) (emitted (Inserted id) k)) a.channel);
     needs_room = c.needs_room ∙ b.needs_room ∙ a.needs_room;
     room = λ n h. c.room n (b.room (n + 1) (a.room (n + 1 + 1) h));
     needs_inner = c.needs_inner ∙ b.needs_inner ∙ a.needs_inner;
@@ -265,6 +270,7 @@ module _ {T : Type 0} where
     extent = b.extent ∙ sym (ap (λ c. cond c s.extent (extent_after (Inserted id) s.extent)) h);
     order = λ some. b.order;
     channel = b.channel ∙ sym (ap (λ c. emitted (Modified id) (cond c s.channel (emitted (Inserted id) s.channel))) h);
+    told = subst (λ c. Tells s.channel (cond c (Modified id ∷ []) (Inserted id ∷ Modified id ∷ [])) t.channel) (sym h) b.told;
     needs_room = b.needs_room;
     room = λ n r. b.room n (subst (λ c. HasRoom s.room (cond c (n + 1) (n + 1 + 1))) h r);
     needs_inner = b.needs_inner;
@@ -277,6 +283,7 @@ module _ {T : Type 0} where
     extent = b.extent ∙ sym (ap (λ c. cond c s.extent (extent_after (Inserted id) s.extent)) h);
     order = λ some. absurd (false≢true (sym h ∙ some));
     channel = b.channel ∙ sym (ap (λ c. emitted (Modified id) (cond c s.channel (emitted (Inserted id) s.channel))) h);
+    told = subst (λ c. Tells s.channel (cond c (Modified id ∷ []) (Inserted id ∷ Modified id ∷ [])) t.channel) (sym h) b.told;
     needs_room = b.needs_room;
     room = λ n r. b.room n (subst (λ c. HasRoom s.room (cond c (n + 1) (n + 1 + 1))) h r);
     needs_inner = b.needs_inner;

@@ -1,5 +1,5 @@
 -- The removal of the components of a list of entities.
-use Rattle.std.specs.Prelude.{◌≡◌, ◌+◌, ℕ, Bool, List, [], ◌∷◌, None, cond, not, ◌&&◌, ◌==◌, is_some, length}
+use Rattle.std.specs.Prelude.{◌≡◌, ◌+◌, ℕ, Bool, true, false, refl, List, [], ◌∷◌, Option, None, cond, not, ◌&&◌, ◌==◌, is_some, length}
 use Rattle.std.specs.FinMap as map
 use Rattle.entities.specs.declared.entity.Entity.{Entity}
 use Rattle.entities.specs.Population.{index_of}
@@ -32,3 +32,8 @@ pub record Loses {T : Type 0} (s s' : Slot T) (es : List Entity) : Type 0 where
   pub room : (n : ℕ) → HasRoom s.room (length (lost_of es s) + n) → HasRoom s'.room n
   pub needs_inner : is_some s'.inner_room ≡ is_some s.inner_room
   pub inner_room : (n : ℕ) → HasRoom s.inner_room (length (lost_of es s) + n) → HasRoom s'.inner_room n
+
+-- whether there is a value, unless it was lost
+pub unless_lost : {T : Type 0} (gone : Bool) (o : Option T) → is_some (cond gone None o) ≡ cond gone false (is_some o)
+unless_lost true o = refl
+unless_lost false o = refl

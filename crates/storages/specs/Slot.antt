@@ -9,6 +9,7 @@ use Rattle.storages.specs.contracts.event.ComponentEvent as event
 use Rattle.storages.specs.declared.event.ComponentEvent.{ComponentEvent}
 use Rattle.storages.specs.declared.event.ComponentEvent.TheVariants.{Inserted, Modified, Removed}
 use Rattle.storages.specs.Channel.{Channel, emitted, emitted_removals}
+use Rattle.storages.specs.Heard.{Tells, removals}
 use Rattle.storages.specs.Meaning.{Meaning, HasRoom, OrderAfter, extent_after, extent_cleared}
 
 -- the component at each index that has one, the length of a slice that has each component at the place of its index,
@@ -82,6 +83,7 @@ module _ {T : Type 0} where
     pub extent : s'.extent ≡ extent_after e s.extent
     pub order : OrderAfter e s.order s'.order
     pub channel : s'.channel ≡ emitted e s.channel
+    pub told : Tells s.channel (e ∷ []) s'.channel
     pub needs_room : is_some s'.room ≡ is_some s.room
     pub room : (n : ℕ) → HasRoom s.room (n + 1) → HasRoom s'.room n
     pub needs_inner : is_some s'.inner_room ≡ is_some s.inner_room
@@ -100,6 +102,7 @@ module _ {T : Type 0} where
     pub map : s'.map ≡ map.insert s.map id x
     pub extent : s'.extent ≡ extent_after (Inserted id) s.extent
     pub channel : s'.channel ≡ emitted (Modified id) (emitted (Inserted id) s.channel)
+    pub told : Tells s.channel (Inserted id ∷ Modified id ∷ []) s'.channel
     pub needs_room : is_some s'.room ≡ is_some s.room
     pub room : (n : ℕ) → HasRoom s.room (n + 1 + 1) → HasRoom s'.room n
     pub needs_inner : is_some s'.inner_room ≡ is_some s.inner_room
@@ -114,6 +117,7 @@ module _ {T : Type 0} where
     pub extent : s'.extent ≡ cond (map.contains_key s.map id) s.extent (extent_after (Inserted id) s.extent)
     pub order : IsSome (map.get s.map id) → s'.order ≡ s.order
     pub channel : s'.channel ≡ emitted (Modified id) (cond (map.contains_key s.map id) s.channel (emitted (Inserted id) s.channel))
+    pub told : Tells s.channel (cond (map.contains_key s.map id) (Modified id ∷ []) (Inserted id ∷ Modified id ∷ [])) s'.channel
     pub needs_room : is_some s'.room ≡ is_some s.room
     pub room : (n : ℕ) → HasRoom s.room (and_events_at s id n) → HasRoom s'.room n
     pub needs_inner : is_some s'.inner_room ≡ is_some s.inner_room
@@ -125,6 +129,7 @@ module _ {T : Type 0} where
     pub map : s'.map ≡ map.empty
     pub extent : s'.extent ≡ extent_cleared s.extent
     pub channel : s'.channel ≡ emitted_removals (indices_of s) s.channel
+    pub told : Tells s.channel (removals (indices_of s)) s'.channel
     pub needs_room : is_some s'.room ≡ is_some s.room
     pub room : (n : ℕ) → HasRoom s.room (length (indices_of s) + n) → HasRoom s'.room n
     pub needs_inner : is_some s'.inner_room ≡ is_some s.inner_room

@@ -4,6 +4,7 @@ ghost use Rattle.std.specs.Borrow.{sem};
 ghost use Rattle.std.specs.FinMap as map;
 ghost use Rattle.entities.specs.Lending.{lent_to_builder, entity_built, KeptRests};
 ghost use Rattle.entities.specs.Population.{index_of};
+ghost use Rattle.entities.specs.declared.entity.Entity.{Entity};
 ghost use Rattle.storages.specs.Meaning.{HasRoom};
 ghost use Rattle.storages.specs.Slot.{IsSame, Puts};
 
@@ -14,6 +15,9 @@ use std::alloc::AllocError;
 
 /// Puts a component at the entity that a builder builds.
 pub trait WithComponent: Sized {
+    // The entity that is being built.
+    ghost built: { Self → Entity };
+
     /// The builder again, once the component is at its entity. Where memory is refused the storage is as before, the
     /// builder is dropped, which marks its entity, and the component is handed back.
     ///
@@ -24,10 +28,17 @@ pub trait WithComponent: Sized {
         component: T,
     ) -> Result<Self, (AllocError, T)>
     where
-        T::Storage: UnprotectedStorage<T>;
+        T::Storage: UnprotectedStorage<T>,
+        ensures entity { IfOk result (λ b. built b ≡ built self) }
+        ensures ok { OnOk result (Puts masked.old masked.new (index_of (built self)) component (map.contains_key masked.old.map (index_of (built self)))) }
+        ensures err { OnErr result (IsSame masked.old masked.new) }
+        ensures refused { IfErr result (λ e. e.1 ≡ component) }
+        ensures succeeds { IsSome (map.get masked.old.map (index_of (built self))) → HasRoom masked.old.room 1 → IsOk result };
 }
 
 impl<'a> WithComponent for EntityResBuilder<'a> {
+    ghost built = { λ b. entity_built b };
+
     fn with<T: Component + Drop>(
         self,
         masked: &mut MaskedStorage<T>,

@@ -177,9 +177,8 @@ fn reserve_all<E>(readers: &mut [Reader<E>], n: usize) -> Result<(), AllocError>
     ensures ok { OnOk result (HasRoom (least_room readers.new) n) }
     ensures succeeds { HasRoom (least_room readers.old) n → IsOk result }
 {
-    if let Some((first, rest)) = readers.split_first_mut() {
-        first.unread.reserve(n)?;
-        reserve_all(rest, n)?;
+    for reader in readers.iter_mut() {
+        reader.unread.reserve(n)?;
     }
     Ok(())
 }
@@ -191,12 +190,11 @@ fn write_all<E: Copy>(readers: &mut [Reader<E>], event: E)
     ensures needs_room { is_some (least_room readers.new) ≡ is_some (least_room readers.old) }
     ensures room { (n : ℕ) → HasRoom (least_room readers.old) (n + 1) → HasRoom (least_room readers.new) n }
 {
-    if let Some((first, rest)) = readers.split_first_mut() {
-        match first.unread.push(event) {
+    for reader in readers.iter_mut() {
+        match reader.unread.push(event) {
             Ok(()) => {}
             Err(_) => unreachable!(),
         }
-        write_all(rest, event);
     }
 }
 
@@ -207,11 +205,10 @@ fn take_unread<E>(readers: &mut [Reader<E>], number: u64, alloc: Global) -> Opti
     ensures unknown { result ≡ None → readers.new ≡ readers.old }
     ensures needs_room { is_some (least_room readers.new) ≡ is_some (least_room readers.old) }
 {
-    if let Some((first, rest)) = readers.split_first_mut() {
-        if first.number == number {
-            return Some(mem::replace(&mut first.unread, Vec::new(alloc)));
+    for reader in readers.iter_mut() {
+        if reader.number == number {
+            return Some(mem::replace(&mut reader.unread, Vec::new(alloc)));
         }
-        return take_unread(rest, number, alloc);
     }
     None
 }
@@ -223,14 +220,10 @@ fn place_of<E>(readers: &[Reader<E>], number: u64) -> Option<usize>
     ensures room { IfSome result (λ k. (n : ℕ) → HasRoom (least_room readers.now) n → HasRoom (least_room (remove readers.now k)) n) }
     ensures dropped { IfSome result (λ k. first_dropped number (map shown readers.now) ≡ map shown (remove readers.now k)) }
 {
-    if let Some((first, rest)) = readers.split_first() {
-        if first.number == number {
-            return Some(0);
+    for (place, reader) in readers.iter().enumerate() {
+        if reader.number == number {
+            return Some(place);
         }
-        return match place_of(rest, number) {
-            Some(place) => Some(place + 1),
-            None => None,
-        };
     }
     None
 }

@@ -3,7 +3,7 @@ ghost use Rattle.std.specs.Prelude.{◌≡◌, Some, None, true, false, IfOk, If
 ghost use Rattle.std.specs.Borrow.{sem};
 ghost use Rattle.std.specs.FinMap as map;
 ghost use Rattle.storages.specs.Meaning.{HasRoom};
-ghost use Rattle.storages.specs.Slot.{IsSame, Puts, Takes};
+ghost use Rattle.storages.specs.Slot.{IsSame, Puts, Takes, Inserts};
 ghost use Rattle.storages.specs.Limit.{IsIndex};
 
 use crate::masked::{MaskedStorage, Replaced};
@@ -191,17 +191,23 @@ where
         masked.insert_mut(id, value)
     }
 
-    // Puts a component there, and gives the storage back.
+    // `insert`, which gives the storage back, with the component written as it was put there.
     #[inline]
     fn replace(self, value: T) -> Result<Replaced<'a, T>, (AllocError, T)>
         ensures* rests { sem 𝓛 (rests_vacant T.row T.Storage.row self.entry result) }
         ensures same_reference { IfOk result (λ r. (storage_of r).ghost_name ≡ vacant_name self.entry) }
         ensures before { IfOk result (λ r. before_of r ≡ None) }
-        ensures ok { IfOk result (λ r. Puts (vacant_slot self.entry) (storage_of r).now (vacant_id self.entry) value false) }
+        ensures ok { IfOk result (λ r. Inserts (vacant_slot self.entry) (storage_of r).now (vacant_id self.entry) value) }
         ensures value_returned { IfErr result (λ e. e.1 ≡ value) }
     {
         let VacantEntry { masked, id } = self;
-        masked.replaced(id, value)
+        match masked.insert_mut(id, value) {
+            Ok(_place) => Ok(Replaced {
+                before: None,
+                masked,
+            }),
+            Err(e) => Err(e),
+        }
     }
 
     // `insert`, with an error that hands the component back as an option.
@@ -232,7 +238,7 @@ impl<'a, T: Component> StorageEntry<'a, T>
 where
     T::Storage: UnprotectedStorage<T>,
 {
-    ghost use Rattle.storages.specs.Entry.{entry_ref, entry_id, is_occupied, lends_entry, rests_entry};
+    ghost use Rattle.storages.specs.Entry.{entry_ref, entry_id, is_occupied, Fills, lends_entry, rests_entry};
     ghost use Rattle.storages.specs.Replaced.{storage_of, before_of};
 
     /// The component, or this one if there is none, to write to. Where memory is refused nothing has changed, and the
@@ -272,14 +278,15 @@ where
         }
     }
 
-    /// Puts a component there, and answers the one that was there, with the storage. Where memory is refused nothing has
-    /// changed, and the component is handed back.
+    /// Puts a component there, and answers the one that was there, with the storage. A tracked storage emits a
+    /// modification, after an insertion if there was none, as it does at `VacantEntry::insert`. Where memory is refused
+    /// nothing has changed, and the component is handed back.
     #[inline]
     pub fn replace(self, value: T) -> Result<Replaced<'a, T>, (AllocError, T)>
         ensures* rests { sem 𝓛 (rests_entry T.row T.Storage.row self.entry result) }
         ensures same_reference { IfOk result (λ r. (storage_of r).ghost_name ≡ (entry_ref self.entry).ghost_name) }
         ensures before { IfOk result (λ r. before_of r ≡ map.get (entry_ref self.entry).now.map (entry_id self.entry)) }
-        ensures ok { IfOk result (λ r. Puts (entry_ref self.entry).now (storage_of r).now (entry_id self.entry) value (is_occupied self.entry)) }
+        ensures ok { IfOk result (λ r. Fills T.row T.Storage.row self.entry (storage_of r).now value) }
         ensures value_returned { IfErr result (λ e. e.1 ≡ value) }
         ensures succeeds { is_occupied self.entry ≡ true → HasRoom (entry_ref self.entry).now.room 1 → IsOk result }
     {

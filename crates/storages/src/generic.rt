@@ -24,8 +24,14 @@ pub trait GenericReadStorage {
     /// The type of the components.
     type Component: Component;
 
+    // The entities and the storage.
+    ghost sight: { Self → Sight Self.Component };
+
     // The component of an entity that is alive.
     ghost found: { Self → Entity → Option Self.Component };
+
+    // An entity that is alive finds what the storage has at its index, and any other finds nothing.
+    ghost found_in_sight: { (v : Self) (e : Entity) → found v e ≡ found_in (sight v).entities (sight v).slot e };
 
     /// The component of an entity that is alive.
     fn get(&self, entity: Entity) -> Option<&Self::Component>
@@ -38,9 +44,13 @@ where
 {
     type Component = T;
 
-    ghost use Rattle.storages.specs.ReadView.{found as found_by};
+    ghost use Rattle.storages.specs.ReadView.{slot, entities_of, found as found_by};
+
+    ghost sight = { λ v. record { entities = entities_of v; slot = slot v } };
 
     ghost found = { λ v e. found_by v e };
+
+    ghost found_in_sight = { λ v e. refl };
 
     #[inline]
     fn get(&self, entity: Entity) -> Option<&T> {
@@ -54,9 +64,13 @@ where
 {
     type Component = T;
 
-    ghost use Rattle.storages.specs.WriteView.{found as found_by};
+    ghost use Rattle.storages.specs.WriteView.{slot, entities_of, found as found_by};
+
+    ghost sight = { λ v. record { entities = entities_of v; slot = slot v } };
 
     ghost found = { λ v e. found_by v e };
+
+    ghost found_in_sight = { λ v e. refl };
 
     #[inline]
     fn get(&self, entity: Entity) -> Option<&T> {
@@ -67,7 +81,11 @@ where
 impl<S: GenericReadStorage> GenericReadStorage for &S {
     type Component = S::Component;
 
+    ghost sight = { λ v. S.sight v.now };
+
     ghost found = { λ v e. S.found v.now e };
+
+    ghost found_in_sight = { λ v e. S.found_in_sight v.now e };
 
     #[inline]
     fn get(&self, entity: Entity) -> Option<&S::Component> {

@@ -1,6 +1,7 @@
 //! Storages that may tell of each change: the calls on a channel, where there is one.
-ghost use Rattle.std.specs.Prelude.{◌≡◌, ℕ, true, false, is_some, OnOk, OnErr, IfOk, MatchResult, None, Some};
+ghost use Rattle.std.specs.Prelude.{◌≡◌, ℕ, [], true, false, is_some, OnOk, OnErr, IfOk, MatchResult, None, Some};
 ghost use Rattle.storages.specs.Unread.{unread_of};
+ghost use Rattle.storages.specs.Heard.{OthersKeep};
 ghost use Rattle.storages.specs.Tracking.{Rechannels, with_reader, after_read, without_reader, switched};
 ghost use Rattle.storages.specs.Meaning.{Keeps, HasRoom};
 
@@ -210,33 +211,42 @@ where
     }
 
     /// A new reader of a tracked storage, which has nothing to read yet.
+    #[tactic(auto, using(crate::specs::Heard::registered_unread, crate::specs::Heard::registered_others))]
     pub fn new_reader(&mut self) -> Result<ReaderId, AllocError>
         requires { self.old.channel.tracked ≡ true }
         ensures number { IfOk result (λ id. id ≡ self.old.channel.registered) }
         ensures fresh { unread_of self.old.channel.registered self.old.channel.readers ≡ None }
         ensures ok { OnOk result (Turns self.old self.new (with_reader self.old.channel)) }
+        ensures begins { IfOk result (λ id. unread_of id self.new.channel.readers ≡ Some []) }
+        ensures others { IfOk result (λ id. OthersKeep id self.old.channel self.new.channel) }
         ensures err { OnErr result (IsSame self.old self.new) }
     {
         self.inner.new_reader()
     }
 
     /// What a reader of a tracked storage has not read, which it has read then.
+    #[tactic(auto, using(crate::specs::Heard::emptied_unread, crate::specs::Heard::emptied_others))]
     pub fn read_events(&mut self, id: &ReaderId) -> Result<Vec<ComponentEvent>, UnknownReader>
         requires { self.old.channel.tracked ≡ true }
         ensures events { MatchResult result (λ v. unread_of id.now self.old.channel.readers ≡ Some v.items) (λ _. unread_of id.now self.old.channel.readers ≡ None) }
         ensures turned { Turns self.old self.new (after_read id.now self.old.channel) }
+        ensures nothing { OnOk result (unread_of id.now self.new.channel.readers ≡ Some []) }
+        ensures others { OthersKeep id.now self.old.channel self.new.channel }
         ensures unknown { OnErr result (IsSame self.old self.new) }
     {
         self.inner.read_events(id)
     }
 
     /// Ends a reader of a tracked storage. Its number is not used again.
+    #[tactic(auto, using(crate::specs::Heard::dropped_gone, crate::specs::Heard::dropped_others))]
     pub fn end_reader(&mut self, id: ReaderId) -> Result<(), UnknownReader>
         requires { self.old.channel.tracked ≡ true }
         ensures ok { OnOk result (is_some (unread_of id self.old.channel.readers) ≡ true) }
         ensures err { OnErr result (unread_of id self.old.channel.readers ≡ None) }
         ensures room { (n : ℕ) → HasRoom self.old.room n → HasRoom self.new.room n }
         ensures turned { Turns self.old self.new (without_reader id self.old.channel) }
+        ensures gone { unread_of id self.new.channel.readers ≡ None }
+        ensures others { OthersKeep id self.old.channel self.new.channel }
         ensures unknown { OnErr result (IsSame self.old self.new) }
     {
         self.inner.end_reader(id)

@@ -18,6 +18,12 @@ pub trait SliceAccess<T>: UnprotectedStorage<T> {
     // What the slice is of the map that the storage is, and of the length and the order in its state.
     ghost IsSlice: { (ℕ → Option T) → Option ℕ → List ℕ → List Self.Element → Type 0 };
 
+    // What a slice has at the place of an index, where the list is the order in the state.
+    ghost item_at: { List ℕ → List Self.Element → ℕ → Option T };
+
+    // A slice has what the map has.
+    ghost has_all: { (at : ℕ → Option T) (extent : Option ℕ) (order : List ℕ) (xs : List Self.Element) → IsSlice at extent order xs → (q : ℕ) → IsTrue (is_some (at q)) → item_at order xs q ≡ at q };
+
     /// The components as a slice.
     fn as_slice(&self) -> &[Self::Element]
         ensures { (at : ℕ → Option T) → Shows (Self.meaning self.now) at → IsSlice at (Self.meaning self.now).extent (Self.meaning self.now).order result.now };
@@ -25,9 +31,6 @@ pub trait SliceAccess<T>: UnprotectedStorage<T> {
 
 /// A storage whose components can be written to as a slice. specs has no such call.
 pub trait SliceAccessMut<T>: SliceAccess<T, Element = T> {
-    // What a slice has at the place of an index, where the list is the order in the state.
-    ghost item_at: { List ℕ → List T → ℕ → Option T };
-
     // The state with other values in its slice.
     ghost with_items: { Self → List T → Self };
 
@@ -36,8 +39,8 @@ pub trait SliceAccessMut<T>: SliceAccess<T, Element = T> {
     fn as_mut_slice(&mut self) -> &mut [T]
         ensures* writes_back { sem 𝓛 (lends_items Self.row T.row with_items self.entry result) }
         ensures value { (at : ℕ → Option T) → Shows (Self.meaning self.old) at → Self.IsSlice at (Self.meaning self.old).extent (Self.meaning self.old).order result.now }
-        ensures places { (q : ℕ) → IsTrue (is_some ((Self.meaning self.old).at q)) → item_at (Self.meaning self.old).order result.now q ≡ (Self.meaning self.old).at q }
-        ensures rewrites { (xs : List T) → Rewrites item_at (Self.meaning self.old) (Self.meaning (with_items self.old xs)) (left_as result.now xs) };
+        ensures places { (q : ℕ) → IsTrue (is_some ((Self.meaning self.old).at q)) → Self.item_at (Self.meaning self.old).order result.now q ≡ (Self.meaning self.old).at q }
+        ensures rewrites { (xs : List T) → Rewrites Self.item_at (Self.meaning self.old) (Self.meaning (with_items self.old xs)) (left_as result.now xs) };
 }
 
 impl<T: Component> MaskedStorage<T>

@@ -1,7 +1,8 @@
 //! Storages that tell of each change, and their channels.
-ghost use Rattle.std.specs.Prelude.{◌≡◌, ◌+◌, ℕ, IsOk, false, true, is_some, OnOk, OnErr, IfOk, IfSome, MatchResult, None, Some};
+ghost use Rattle.std.specs.Prelude.{◌≡◌, ◌+◌, ℕ, [], IsOk, false, true, is_some, OnOk, OnErr, IfOk, IfSome, MatchResult, None, Some};
 ghost use Rattle.std.specs.Borrow.{sem};
-ghost use Rattle.storages.specs.Unread.{unread_of, is_read};
+ghost use Rattle.storages.specs.Unread.{unread_of, with_event, is_read};
+ghost use Rattle.storages.specs.Heard.{OthersKeep};
 ghost use Rattle.storages.specs.Tracking.{Rechannels, with_reader, after_read, without_reader, switched, written_by_hand};
 ghost use Rattle.storages.specs.Meaning.{Keeps, HasRoom};
 ghost use Rattle.storages.specs.Lent.{emitting, lends_channel, lends_slot_channel};
@@ -72,10 +73,13 @@ where
     ghost use Rattle.storages.specs.Tracking.{Turns};
 
     /// A new reader, which has nothing to read yet.
+    #[tactic(auto, using(crate::specs::Heard::registered_unread, crate::specs::Heard::registered_others))]
     pub fn register_reader(&mut self) -> Result<ReaderId, AllocError>
         ensures number { IfOk result (λ id. id ≡ self.old.channel.registered) }
         ensures fresh { unread_of self.old.channel.registered self.old.channel.readers ≡ None }
         ensures ok { OnOk result (Turns self.old self.new (with_reader self.old.channel)) }
+        ensures begins { IfOk result (λ id. unread_of id self.new.channel.readers ≡ Some []) }
+        ensures others { IfOk result (λ id. OthersKeep id self.old.channel self.new.channel) }
         ensures err { OnErr result (IsSame self.old self.new) }
     {
         self.inner.register_reader()
@@ -83,20 +87,26 @@ where
 
     /// What a reader has not read, which it has read then.
     #[inline(always)]
+    #[tactic(auto, using(crate::specs::Heard::emptied_unread, crate::specs::Heard::emptied_others))]
     pub fn read(&mut self, id: &ReaderId) -> Result<Vec<ComponentEvent>, UnknownReader>
         ensures events { MatchResult result (λ v. unread_of id.now self.old.channel.readers ≡ Some v.items) (λ _. unread_of id.now self.old.channel.readers ≡ None) }
         ensures turned { Turns self.old self.new (after_read id.now self.old.channel) }
+        ensures nothing { OnOk result (unread_of id.now self.new.channel.readers ≡ Some []) }
+        ensures others { OthersKeep id.now self.old.channel self.new.channel }
         ensures unknown { OnErr result (IsSame self.old self.new) }
     {
         self.inner.read(id)
     }
 
     /// Ends a reader. Its number is not used again.
+    #[tactic(auto, using(crate::specs::Heard::dropped_gone, crate::specs::Heard::dropped_others))]
     pub fn drop_reader(&mut self, id: ReaderId) -> Result<(), UnknownReader>
         ensures ok { OnOk result (is_some (unread_of id self.old.channel.readers) ≡ true) }
         ensures err { OnErr result (unread_of id self.old.channel.readers ≡ None) }
         ensures room { (n : ℕ) → HasRoom self.old.room n → HasRoom self.new.room n }
         ensures turned { Turns self.old self.new (without_reader id self.old.channel) }
+        ensures gone { unread_of id self.new.channel.readers ≡ None }
+        ensures others { OthersKeep id self.old.channel self.new.channel }
         ensures unknown { OnErr result (IsSame self.old self.new) }
     {
         self.inner.drop_reader(id)
@@ -127,9 +137,10 @@ where
     }
 
     /// Writes an event by hand, also while emission is off.
-    #[tactic(auto, using(crate::proofs::Telling::flag_needs, crate::proofs::Telling::flag_rest, crate::proofs::Telling::flag_ready, crate::proofs::Telling::flag_unheard))]
+    #[tactic(auto, using(crate::proofs::Telling::flag_needs, crate::proofs::Telling::flag_rest, crate::proofs::Telling::flag_ready, crate::proofs::Telling::flag_unheard, crate::specs::Heard::written_unread))]
     pub fn flag(&mut self, event: ComponentEvent) -> Result<(), AllocError>
         ensures ok { OnOk result (Turns self.old self.new (written_by_hand event self.old.channel)) }
+        ensures told { OnOk result ((n : ℕ) → unread_of n self.new.channel.readers ≡ with_event event (unread_of n self.old.channel.readers)) }
         ensures needs_room { is_some self.new.room ≡ is_some self.old.room }
         ensures room { OnOk result ((n : ℕ) → HasRoom self.old.room (n + 1) → HasRoom self.new.room n) }
         ensures err { OnErr result (IsSame self.old self.new) }

@@ -1,6 +1,7 @@
 //! The channels of storages beside the entities.
-ghost use Rattle.std.specs.Prelude.{◌≡◌, ◌+◌, ℕ, IsOk, false, true, is_some, OnOk, OnErr, IfOk, MatchResult, None, Some};
-ghost use Rattle.storages.specs.Unread.{unread_of, is_read};
+ghost use Rattle.std.specs.Prelude.{◌≡◌, ◌+◌, ℕ, [], IsOk, false, true, is_some, OnOk, OnErr, IfOk, MatchResult, None, Some};
+ghost use Rattle.storages.specs.Unread.{unread_of, with_event, is_read};
+ghost use Rattle.storages.specs.Heard.{OthersKeep};
 ghost use Rattle.storages.specs.Tracking.{Turns, with_reader, after_read, without_reader, switched, written_by_hand};
 ghost use Rattle.storages.specs.Slot.{IsSame};
 ghost use Rattle.storages.specs.Meaning.{HasRoom};
@@ -50,6 +51,8 @@ where
         ensures number { IfOk result (λ id. id ≡ (slot self.old).channel.registered) }
         ensures fresh { unread_of (slot self.old).channel.registered (slot self.old).channel.readers ≡ None }
         ensures ok { OnOk result (Turns (slot self.old) (slot self.new) (with_reader (slot self.old).channel)) }
+        ensures begins { IfOk result (λ id. unread_of id (slot self.new).channel.readers ≡ Some []) }
+        ensures others { IfOk result (λ id. OthersKeep id (slot self.old).channel (slot self.new).channel) }
         ensures err { OnErr result (IsSame (slot self.old) (slot self.new)) }
         ensures entities { entities_of self.new ≡ entities_of self.old }
         ensures same_reference { storage_name self.new ≡ storage_name self.old }
@@ -63,6 +66,8 @@ where
     pub fn read(&mut self, id: &ReaderId) -> Result<Vec<ComponentEvent>, UnknownReader>
         ensures events { MatchResult result (λ v. unread_of id.now (slot self.old).channel.readers ≡ Some v.items) (λ _. unread_of id.now (slot self.old).channel.readers ≡ None) }
         ensures turned { Turns (slot self.old) (slot self.new) (after_read id.now (slot self.old).channel) }
+        ensures nothing { OnOk result (unread_of id.now (slot self.new).channel.readers ≡ Some []) }
+        ensures others { OthersKeep id.now (slot self.old).channel (slot self.new).channel }
         ensures unknown { OnErr result (IsSame (slot self.old) (slot self.new)) }
         ensures entities { entities_of self.new ≡ entities_of self.old }
         ensures same_reference { storage_name self.new ≡ storage_name self.old }
@@ -76,6 +81,8 @@ where
         ensures err { OnErr result (unread_of id (slot self.old).channel.readers ≡ None) }
         ensures room { (n : ℕ) → HasRoom (slot self.old).room n → HasRoom (slot self.new).room n }
         ensures turned { Turns (slot self.old) (slot self.new) (without_reader id (slot self.old).channel) }
+        ensures gone { unread_of id (slot self.new).channel.readers ≡ None }
+        ensures others { OthersKeep id (slot self.old).channel (slot self.new).channel }
         ensures unknown { OnErr result (IsSame (slot self.old) (slot self.new)) }
         ensures entities { entities_of self.new ≡ entities_of self.old }
         ensures same_reference { storage_name self.new ≡ storage_name self.old }
@@ -86,6 +93,7 @@ where
     /// Writes an event by hand, also while emission is off. Where memory is refused no reader has got it. Ports `Storage::flag`.
     pub fn flag(&mut self, event: ComponentEvent) -> Result<(), AllocError>
         ensures ok { OnOk result (Turns (slot self.old) (slot self.new) (written_by_hand event (slot self.old).channel)) }
+        ensures told { OnOk result ((n : ℕ) → unread_of n (slot self.new).channel.readers ≡ with_event event (unread_of n (slot self.old).channel.readers)) }
         ensures needs_room { is_some (slot self.new).room ≡ is_some (slot self.old).room }
         ensures room { OnOk result ((n : ℕ) → HasRoom (slot self.old).room (n + 1) → HasRoom (slot self.new).room n) }
         ensures err { OnErr result (IsSame (slot self.old) (slot self.new)) }

@@ -2,7 +2,7 @@
 use crate::asserts::{equal, holds};
 use crate::kinds::fill;
 use crate::numbers::{InFlagged, Number};
-use crate::shelf::{Sorted, Told};
+use crate::shelf::{Entries, Sorted, Told};
 use crate::stories::{OF_EACH_KIND, in_flagged, in_flagged_dense};
 use crate::world::{new_world, populate};
 use entities::Entity;
@@ -109,6 +109,39 @@ fn told_by_hand<R: Abort, S: Told>(rt: &R, shelf: &mut S) {
     holds!(rt; reads(shelf, 0, &[Modified(9)]));
 }
 
+// What an entry puts where there was nothing is told as inserted and as modified, and what it replaces as modified.
+fn replacements_are_told<R: Abort, S: Told + Entries>(rt: &R, shelf: &mut S, list: &[Entity]) {
+    assert_eq!(rt; list.len(), 1);
+    equal!(rt; shelf.listen(), Some(0));
+    equal!(rt; shelf.replace(list[0], 1), Some(None));
+    holds!(rt; reads(shelf, 0, &[Inserted(0), Modified(0)]));
+    equal!(rt; shelf.replace(list[0], 2), Some(Some(1)));
+    holds!(rt; reads(shelf, 0, &[Modified(0)]));
+}
+
+// An event needs room while it is emitted and somebody reads.
+fn room_is_needed<R: Abort, S: Told>(rt: &R, shelf: &mut S) {
+    holds!(rt; !shelf.wants_room());
+    equal!(rt; shelf.listen(), Some(0));
+    holds!(rt; shelf.wants_room());
+    shelf.emit(false);
+    holds!(rt; !shelf.wants_room());
+    shelf.emit(true);
+    holds!(rt; shelf.wants_room());
+    holds!(rt; shelf.end(0));
+    holds!(rt; !shelf.wants_room());
+}
+
+// What is written in the channel that is lent is told, also while emission is off.
+fn channel_is_lent<R: Abort, S: Told>(rt: &R, shelf: &mut S) {
+    equal!(rt; shelf.listen(), Some(0));
+    holds!(rt; shelf.write_in_channel(Removed(3)));
+    shelf.emit(false);
+    holds!(rt; shelf.write_in_channel(Modified(4)));
+    holds!(rt; !shelf.emits());
+    holds!(rt; reads(shelf, 0, &[Removed(3), Modified(4)]));
+}
+
 // No index of any kind of event.
 fn nothing_sorted(alloc: Global) -> Sorted {
     Sorted {
@@ -204,10 +237,13 @@ enum Story {
     LateReader,
     ByHand,
     Rounds,
+    Replaced,
+    Room,
+    Channel,
 }
 
 // Tells a story of a shelf and its entities.
-fn tell<R: Abort, S: Told>(
+fn tell<R: Abort, S: Told + Entries>(
     rt: &R,
     story: Story,
     alloc: Global,
@@ -220,6 +256,9 @@ fn tell<R: Abort, S: Told>(
         Story::LateReader => nothing_is_kept(rt, shelf, list),
         Story::ByHand => told_by_hand(rt, shelf),
         Story::Rounds => rounds_are_told(rt, alloc, shelf, list)?,
+        Story::Replaced => replacements_are_told(rt, shelf, list),
+        Story::Room => room_is_needed(rt, shelf),
+        Story::Channel => channel_is_lent(rt, shelf),
     }
     Ok(())
 }
@@ -262,6 +301,21 @@ fn a_channel_keeps_nothing_for_nobody(rt: HostRuntime) -> Result<(), Fail> {
 #[test]
 fn an_event_by_hand_is_told_while_emission_is_off(rt: HostRuntime) -> Result<(), Fail> {
     told(&rt, rt.alloc(), 1, Story::ByHand)
+}
+
+#[test]
+fn a_replacement_at_a_vacant_entry_is_told_twice(rt: HostRuntime) -> Result<(), Fail> {
+    told(&rt, rt.alloc(), 1, Story::Replaced)
+}
+
+#[test]
+fn an_event_needs_room_while_somebody_is_told(rt: HostRuntime) -> Result<(), Fail> {
+    told(&rt, rt.alloc(), 0, Story::Room)
+}
+
+#[test]
+fn what_is_written_in_a_lent_channel_is_told(rt: HostRuntime) -> Result<(), Fail> {
+    told(&rt, rt.alloc(), 0, Story::Channel)
 }
 
 #[test]

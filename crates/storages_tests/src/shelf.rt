@@ -161,6 +161,12 @@ pub trait Told: Shelf {
 
     /// Puts a number at an entity by its vacant entry.
     fn put_by_entry(&mut self, e: Entity, number: u32) -> bool;
+
+    /// Whether an event can be refused.
+    fn wants_room(&self) -> bool;
+
+    /// Writes an event in the channel that is lent.
+    fn write_in_channel(&mut self, event: ComponentEvent) -> bool;
 }
 
 /// A storage whose slice has a number at each place.

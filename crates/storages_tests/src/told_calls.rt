@@ -48,6 +48,17 @@ where
             Err(_) => false,
         }
     }
+
+    fn wants_room(&self) -> bool {
+        self.masked.needs_room()
+    }
+
+    fn write_in_channel(&mut self, event: ComponentEvent) -> bool {
+        match self.masked.channel_mut() {
+            Some(channel) => channel.single_write(event).is_ok(),
+            None => false,
+        }
+    }
 }
 
 /// Whether these are the numbers.

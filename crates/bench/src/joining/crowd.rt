@@ -1,7 +1,7 @@
 //! Entities with a position, a velocity and some with a number.
 
 use crate::fresh::Fresh;
-use crate::joining::spots::{Sparse, Spot, Spotted};
+use crate::joining::spots::{Numbered, Spot, Spotted};
 use crate::moving::{give, number_of};
 use crate::random::mix;
 use anyhow::Result;
@@ -10,8 +10,7 @@ use std::alloc::Global;
 use storages::MaskedStorage;
 
 /// Entities, with storages.
-#[derive(Drop)]
-pub struct Crowd<P: Spotted, V: Spotted> {
+pub struct Crowd<P: Spotted, V: Spotted, N: Numbered> {
     /// The entities.
     pub entities: EntitiesRes,
     /// Where each is.
@@ -19,10 +18,21 @@ pub struct Crowd<P: Spotted, V: Spotted> {
     /// How fast each goes.
     pub velocities: MaskedStorage<V>,
     /// A number, on some.
-    pub sparse: MaskedStorage<Sparse>,
+    pub sparse: MaskedStorage<N>,
 }
 
-impl<P: Spotted, V: Spotted> Fresh for Crowd<P, V> {
+impl<P: Spotted, V: Spotted, N: Numbered> Drop for Crowd<P, V, N> {
+    fn drop(self) {
+        let Crowd {
+            entities: _entities,
+            positions: _positions,
+            velocities: _velocities,
+            sparse: _sparse,
+        } = self;
+    }
+}
+
+impl<P: Spotted, V: Spotted, N: Numbered> Fresh for Crowd<P, V, N> {
     fn fresh(alloc: Global) -> Result<Self> {
         let ((positions, velocities), sparse) = Fresh::fresh(alloc)?;
         Ok(Crowd {
@@ -34,7 +44,7 @@ impl<P: Spotted, V: Spotted> Fresh for Crowd<P, V> {
     }
 }
 
-impl<P: Spotted, V: Spotted> Crowd<P, V> {
+impl<P: Spotted, V: Spotted, N: Numbered> Crowd<P, V, N> {
     /// An entity of its own, with a position and a velocity.
     fn bear(&mut self, number: u32) -> Result<Entity> {
         let entity = self.entities.alloc_mut().allocate()?;
@@ -50,7 +60,7 @@ impl<P: Spotted, V: Spotted> Crowd<P, V> {
         for number in 0..count {
             let entity = self.bear(number)?;
             if step != 0 && number % step == 0 {
-                let value = Sparse(u64::from(entity.id()));
+                let value = N::of(u64::from(entity.id()));
                 give(&self.entities, &mut self.sparse, entity, value)?;
             }
         }
@@ -75,7 +85,7 @@ impl<P: Spotted, V: Spotted> Crowd<P, V> {
         let mut sum = 0;
         for id in 0..count {
             if let Some(sparse) = self.sparse.get(id) {
-                sum = mix(sum, sparse.0);
+                sum = mix(sum, sparse.number());
             }
         }
         sum

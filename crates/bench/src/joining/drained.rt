@@ -1,7 +1,7 @@
 //! A dense storage, drained beside the entities.
 
 use crate::joining::crowd::Crowd;
-use crate::joining::spots::{DensePosition, DenseVelocity, bits_of};
+use crate::joining::spots::{DensePosition, DenseVelocity, Sparse, Spotted, bits_of};
 use crate::random::mix;
 use crate::workload::{Plan, Workload, report};
 use anyhow::Result;
@@ -18,19 +18,19 @@ struct Drains {
     count: u32,
 }
 
-fn drain_all(entities: &EntitiesRes, positions: &mut MaskedStorage<DensePosition>) -> Result<u64> {
+fn drain_all<P: Spotted>(entities: &EntitiesRes, positions: &mut MaskedStorage<P>) -> Result<u64> {
     let mut sum: u64 = 0;
     let mut cursor = Drain::new(positions, entities);
     while let Some(id) = cursor.next() {
         if let Some(position) = cursor.item()? {
-            sum = mix(sum, mix(u64::from(id), bits_of(position.0.x)));
+            sum = mix(sum, mix(u64::from(id), bits_of(position.point().x)));
         }
     }
     Ok(sum)
 }
 
 impl Workload for Drains {
-    type State = Crowd<DensePosition, DenseVelocity>;
+    type State = Crowd<DensePosition, DenseVelocity, Sparse>;
 
     fn operations(&self) -> u64 {
         u64::from(self.count)

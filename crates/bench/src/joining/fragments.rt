@@ -1,10 +1,11 @@
 //! Data on all entities, joined with eight storages in turn, each of which has one entity in eight.
 
 use crate::fresh::Fresh;
+use crate::joining::spots::Numbered;
 use crate::random::mix;
+use crate::walk::for_each;
 use crate::workload::{Plan, Workload, report};
 use anyhow::{Result, bail};
-use joins::JoinMut;
 use std::alloc::Global;
 use std::io::Print;
 use std::time::Clock;
@@ -26,11 +27,51 @@ impl Component for Fragment {
     type Storage = DenseVecStorage<Self>;
 }
 
+impl Numbered for Data {
+    fn of(number: u64) -> Self {
+        Data(number)
+    }
+
+    #[inline(always)]
+    fn number(&self) -> u64 {
+        self.0
+    }
+
+    #[inline(always)]
+    fn set(&mut self, number: u64) {
+        self.0 = number;
+    }
+}
+
+impl Numbered for Fragment {
+    fn of(number: u64) -> Self {
+        Fragment(number)
+    }
+
+    #[inline(always)]
+    fn number(&self) -> u64 {
+        self.0
+    }
+
+    #[inline(always)]
+    fn set(&mut self, number: u64) {
+        self.0 = number;
+    }
+}
+
 /// The data, and the eight storages.
-#[derive(Drop)]
 struct Fragmented {
     data: MaskedStorage<Data>,
     fragments: Vec<MaskedStorage<Fragment>>,
+}
+
+impl Drop for Fragmented {
+    fn drop(self) {
+        let Fragmented {
+            data: _data,
+            fragments: _fragments,
+        } = self;
+    }
 }
 
 /// All are joined with each of the eight.
@@ -50,9 +91,9 @@ impl Fresh for Fragmented {
 }
 
 // Puts data at each index.
-fn put_data(data: &mut MaskedStorage<Data>, count: u32) -> Result<()> {
+fn put_data<D: Numbered>(data: &mut MaskedStorage<D>, count: u32) -> Result<()> {
     for id in 0..count {
-        if id < 16_777_216 && data.put(id, Data(u64::from(id))).is_err() {
+        if id < 16_777_216 && data.put(id, D::of(u64::from(id))).is_err() {
             bail!("no data was put");
         }
     }
@@ -60,9 +101,13 @@ fn put_data(data: &mut MaskedStorage<Data>, count: u32) -> Result<()> {
 }
 
 // Puts fragments at each eighth index, from one on.
-fn put_fragments(fragments: &mut MaskedStorage<Fragment>, first: u32, count: u32) -> Result<()> {
+fn put_fragments<F: Numbered>(
+    fragments: &mut MaskedStorage<F>,
+    first: u32,
+    count: u32,
+) -> Result<()> {
     for id in 0..count {
-        let fragment = Fragment(u64::from(id) % 13);
+        let fragment = F::of(u64::from(id) % 13);
         if id % 8 == first && id < 16_777_216 && fragments.put(id, fragment).is_err() {
             bail!("no fragment was put");
         }
@@ -70,17 +115,24 @@ fn put_fragments(fragments: &mut MaskedStorage<Fragment>, first: u32, count: u32
     Ok(())
 }
 
+// Changes data by a fragment and a number.
+#[inline(always)]
+fn change<D: Numbered, F: Numbered>(data: &mut D, fragment: &F, number: u64) {
+    let added = fragment.number().wrapping_add(number);
+    data.set(data.number().wrapping_mul(3).wrapping_add(added));
+}
+
 // Changes the data beside the fragments of a storage.
-fn join_with(data: &mut MaskedStorage<Data>, fragments: &MaskedStorage<Fragment>, number: u64) {
-    let mut cursor = data.join_mut(fragments);
-    while let Some(_id) = cursor.next() {
-        if let Some(fragment) = cursor.beside() {
-            if let Ok(data) = cursor.item() {
-                let added = fragment.0.wrapping_add(number);
-                data.0 = data.0.wrapping_mul(3).wrapping_add(added);
-            }
-        }
-    }
+fn join_with<D: Numbered, F: Numbered>(
+    data: &mut MaskedStorage<D>,
+    fragments: &MaskedStorage<F>,
+    number: u64,
+) {
+    for_each(
+        data,
+        fragments,
+        |data: &mut D, fragment: &F| change(data, fragment, number),
+    );
 }
 
 // A checksum of the data below `count`.

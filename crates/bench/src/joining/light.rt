@@ -3,12 +3,12 @@
 use crate::fresh::Fresh;
 use crate::joining::crowd::Crowd;
 use crate::joining::looking::read_sum;
-use crate::joining::spots::{VecPosition, VecVelocity, bits_of};
+use crate::joining::spots::{Sparse, Spotted, VecPosition, VecVelocity, bits_of};
+use crate::parallel::update;
 use crate::random::mix;
+use crate::walk::for_each;
 use crate::workload::{Best, Plan};
 use anyhow::Result;
-use joins::JoinMut;
-use joins_parallel::par_update;
 use std::alloc::{Alloc, Global};
 use std::io::Print;
 use std::thread::Threads;
@@ -26,32 +26,33 @@ fn move_in_threads(
         spot.add(&velocity.0);
         Some(VecPosition(spot))
     };
-    par_update(rt, positions, velocities, moved)?;
+    update(rt, positions, velocities, moved)?;
     Ok(read_sum(positions))
 }
 
+/// Moves a position on, and answers how far to the right it is.
+#[inline(always)]
+fn moved<P: Spotted, V: Spotted>(position: &mut P, velocity: &V) -> u64 {
+    position.point_mut().add(&velocity.point());
+    bits_of(position.point().x)
+}
+
 /// Moves each by a cursor.
-fn move_by_cursor(
-    positions: &mut MaskedStorage<VecPosition>,
-    velocities: &MaskedStorage<VecVelocity>,
+fn move_by_cursor<P: Spotted, V: Spotted>(
+    positions: &mut MaskedStorage<P>,
+    velocities: &MaskedStorage<V>,
 ) -> u64 {
     let mut sum: u64 = 0;
-    let mut cursor = positions.join_mut(velocities);
-    while let Some(_id) = cursor.next() {
-        if let Some(velocity) = cursor.beside() {
-            if let Ok(position) = cursor.item() {
-                position.0.add(&velocity.0);
-                sum = sum.wrapping_add(bits_of(position.0.x));
-            }
-        }
-    }
+    for_each(positions, velocities, |position: &mut P, velocity: &V| {
+        sum = sum.wrapping_add(moved(position, velocity));
+    });
     sum
 }
 
 /// Moves all, so often, and sums what each time makes.
 fn move_all(
     rt: &(impl Threads + Alloc<A = Global> + Sync),
-    state: &mut Crowd<VecPosition, VecVelocity>,
+    state: &mut Crowd<VecPosition, VecVelocity, Sparse>,
     passes: u64,
     in_threads: bool,
 ) -> Result<u64> {
@@ -108,7 +109,7 @@ fn report(
 /// One run over a crowd that is filled first: how long all took to move, and a checksum.
 fn timed(
     rt: &(impl Threads + Alloc<A = Global> + Sync + Clock),
-    state: &mut Crowd<VecPosition, VecVelocity>,
+    state: &mut Crowd<VecPosition, VecVelocity, Sparse>,
     plan: &Plan,
     in_threads: bool,
 ) -> Result<(u64, u64)> {

@@ -4,8 +4,8 @@ ghost use Rattle.std.specs.Prelude.{◌<◌};
 use crate::joining::crowd::Crowd;
 use crate::joining::looking::{EntitySum, Entries, ReadSum, Restricted};
 use crate::joining::spots::{
-    DefaultPosition, DefaultVelocity, DensePosition, DenseVelocity, Spotted, VecPosition,
-    VecVelocity,
+    DefaultPosition, DefaultVelocity, DensePosition, DenseVelocity, Numbered, Sparse, Spotted,
+    VecPosition, VecVelocity,
 };
 use crate::joining::writing::{Joined3, MaybeSparse, Moved, NotSparse, SparseOnes};
 use crate::joining::{drained, fragments};
@@ -25,8 +25,11 @@ pub trait Pass {
     /// How fast each goes.
     type Velocity: Spotted;
 
+    /// What some have.
+    type Number: Numbered;
+
     /// What it does.
-    fn pass(world: &mut Crowd<Self::Position, Self::Velocity>) -> u64;
+    fn pass(world: &mut Crowd<Self::Position, Self::Velocity, Self::Number>) -> u64;
 }
 
 /// How a pass is measured: every `step`th entity has a number, `joined` entities are passed each time, and there is a pass before that is
@@ -49,7 +52,7 @@ struct Passes<W> {
 }
 
 impl<W: Pass> Workload for Passes<W> {
-    type State = Crowd<W::Position, W::Velocity>;
+    type State = Crowd<W::Position, W::Velocity, W::Number>;
 
     fn operations(&self) -> u64 {
         u64::from(self.shape.joined).saturating_mul(self.shape.passes)
@@ -146,65 +149,63 @@ fn thirds(plan: &Plan, joined: u32) -> Shape {
     }
 }
 
-/// Reports on storages of vectors of several kinds.
-fn run_kinds<R: Clock + Print>(to: &Reporter<'_, R>) -> Result<()> {
-    let (all, one) = (full(to.plan), sparse(to.plan));
+/// Reports on all that move, of a kind.
+fn run_moved<R: Clock + Print, P: Spotted, V: Spotted, N: Numbered>(
+    to: &Reporter<'_, R>,
+    name: &str,
+) -> Result<()> {
+    to.pass(name, full(to.plan), PhantomData::<Moved<P, V, N>>)
+}
+
+/// Reports on one in 64, of a kind.
+fn run_sparse<R: Clock + Print, P: Spotted, V: Spotted, N: Numbered>(
+    to: &Reporter<'_, R>,
+    name: &str,
+) -> Result<()> {
+    to.pass(name, sparse(to.plan), PhantomData::<SparseOnes<P, V, N>>)
+}
+
+/// Reports on three storages, of a kind.
+fn run_three<R: Clock + Print, P: Spotted, V: Spotted, N: Numbered>(
+    to: &Reporter<'_, R>,
+    name: &str,
+) -> Result<()> {
     let some = thirds(to.plan, every(to.plan.count, 3));
-    to.pass(
-        "b_join_vec",
-        all,
-        PhantomData::<Moved<VecPosition, VecVelocity>>,
-    )?;
-    to.pass(
-        "b_join_vec+default",
-        all,
-        PhantomData::<Moved<DefaultPosition, DefaultVelocity>>,
-    )?;
-    to.pass(
-        "c_join_sparse64+default",
-        one,
-        PhantomData::<SparseOnes<DefaultPosition, DefaultVelocity>>,
-    )?;
-    to.pass(
-        "o_join3+default",
-        some,
-        PhantomData::<Joined3<DefaultPosition, DefaultVelocity>>,
-    )?;
-    to.pass(
-        "b_join_dense",
-        all,
-        PhantomData::<Moved<DensePosition, DenseVelocity>>,
-    )?;
-    to.pass(
-        "c_join_sparse64",
-        one,
-        PhantomData::<SparseOnes<VecPosition, VecVelocity>>,
-    )
+    to.pass(name, some, PhantomData::<Joined3<P, V, N>>)
+}
+
+/// Reports on points without tags.
+fn run_default<R: Clock + Print, P: Spotted, V: Spotted, N: Numbered>(
+    to: &Reporter<'_, R>,
+) -> Result<()> {
+    run_moved::<R, P, V, N>(to, "b_join_vec+default")?;
+    run_sparse::<R, P, V, N>(to, "c_join_sparse64+default")?;
+    run_three::<R, P, V, N>(to, "o_join3+default")
 }
 
 /// Reports on the ways to join one kind.
-fn run_ways<R: Clock + Print>(to: &Reporter<'_, R>) -> Result<()> {
+fn run_ways<R: Clock + Print, P: Spotted, V: Spotted, N: Numbered>(
+    to: &Reporter<'_, R>,
+) -> Result<()> {
     let numbered = every(to.plan.count, 3);
     let all = thirds(to.plan, to.plan.count);
-    let some = thirds(to.plan, numbered);
     let others = thirds(to.plan, to.plan.count.saturating_sub(numbered));
-    to.pass("o_read_sum", all, PhantomData::<ReadSum>)?;
-    to.pass("o_join_entities", all, PhantomData::<EntitySum>)?;
-    to.pass("o_join_not", others, PhantomData::<NotSparse>)?;
-    to.pass(
-        "o_join3",
-        some,
-        PhantomData::<Joined3<VecPosition, VecVelocity>>,
-    )?;
-    to.pass("o_join_maybe", all, PhantomData::<MaybeSparse>)?;
-    to.pass("o_join_entries", all, PhantomData::<Entries>)?;
-    to.pass("o_join_restricted", all, PhantomData::<Restricted>)
+    run_sparse::<R, P, V, N>(to, "c_join_sparse64")?;
+    to.pass("o_read_sum", all, PhantomData::<ReadSum<P, V, N>>)?;
+    to.pass("o_join_entities", all, PhantomData::<EntitySum<P, V, N>>)?;
+    to.pass("o_join_not", others, PhantomData::<NotSparse<P, V, N>>)?;
+    run_three::<R, P, V, N>(to, "o_join3")?;
+    to.pass("o_join_maybe", all, PhantomData::<MaybeSparse<P, V, N>>)?;
+    to.pass("o_join_entries", all, PhantomData::<Entries<P, V, N>>)?;
+    to.pass("o_join_restricted", all, PhantomData::<Restricted<P, V, N>>)
 }
 
-/// Reports on each pass.
+/// Reports on each pass. The kinds are known here alone: a call that names them is slow to prove.
 fn run_all<R: Clock + Print>(to: &Reporter<'_, R>) -> Result<()> {
-    run_kinds(to)?;
-    run_ways(to)
+    run_moved::<R, VecPosition, VecVelocity, Sparse>(to, "b_join_vec")?;
+    run_default::<R, DefaultPosition, DefaultVelocity, Sparse>(to)?;
+    run_moved::<R, DensePosition, DenseVelocity, Sparse>(to, "b_join_dense")?;
+    run_ways::<R, VecPosition, VecVelocity, Sparse>(to)
 }
 
 /// Reports on each.

@@ -48,6 +48,18 @@ impl Spot {
         self.z = self.z + v.z;
     }
 
+    /// Moves it to the right.
+    #[inline(always)]
+    pub fn go_right(&mut self, by: f32) {
+        self.x = self.x + by;
+    }
+
+    /// Moves it up by one.
+    #[inline(always)]
+    pub fn go_up(&mut self) {
+        self.y = self.y + 1.0;
+    }
+
     /// A checksum of the three.
     pub fn bits(&self) -> u64 {
         mix(mix(bits_of(self.x), bits_of(self.y)), bits_of(self.z))
@@ -64,6 +76,18 @@ pub trait Spotted: Component<Storage: UnprotectedStorage<Self>> + Drop {
 
     /// The point, to change it.
     fn point_mut(&mut self) -> &mut Spot;
+}
+
+/// A component that is a number.
+pub trait Numbered: Component<Storage: UnprotectedStorage<Self>> + Drop {
+    /// The component of a number.
+    fn of(number: u64) -> Self;
+
+    /// The number.
+    fn number(&self) -> u64;
+
+    /// Another number.
+    fn set(&mut self, number: u64);
 }
 
 /// A position in a `VecStorage`.
@@ -106,15 +130,33 @@ impl Component for Sparse {
     type Storage = DenseVecStorage<Self>;
 }
 
+impl Numbered for Sparse {
+    fn of(number: u64) -> Self {
+        Sparse(number)
+    }
+
+    #[inline(always)]
+    fn number(&self) -> u64 {
+        self.0
+    }
+
+    #[inline(always)]
+    fn set(&mut self, number: u64) {
+        self.0 = number;
+    }
+}
+
 impl Spotted for VecPosition {
     fn of(point: Spot) -> Self {
         VecPosition(point)
     }
 
+    #[inline(always)]
     fn point(&self) -> Spot {
         self.0
     }
 
+    #[inline(always)]
     fn point_mut(&mut self) -> &mut Spot {
         &mut self.0
     }
@@ -125,10 +167,12 @@ impl Spotted for VecVelocity {
         VecVelocity(point)
     }
 
+    #[inline(always)]
     fn point(&self) -> Spot {
         self.0
     }
 
+    #[inline(always)]
     fn point_mut(&mut self) -> &mut Spot {
         &mut self.0
     }
@@ -139,10 +183,12 @@ impl Spotted for DensePosition {
         DensePosition(point)
     }
 
+    #[inline(always)]
     fn point(&self) -> Spot {
         self.0
     }
 
+    #[inline(always)]
     fn point_mut(&mut self) -> &mut Spot {
         &mut self.0
     }
@@ -153,10 +199,12 @@ impl Spotted for DenseVelocity {
         DenseVelocity(point)
     }
 
+    #[inline(always)]
     fn point(&self) -> Spot {
         self.0
     }
 
+    #[inline(always)]
     fn point_mut(&mut self) -> &mut Spot {
         &mut self.0
     }
@@ -175,10 +223,12 @@ impl Spotted for DefaultPosition {
         DefaultPosition(point)
     }
 
+    #[inline(always)]
     fn point(&self) -> Spot {
         self.0
     }
 
+    #[inline(always)]
     fn point_mut(&mut self) -> &mut Spot {
         &mut self.0
     }
@@ -197,10 +247,12 @@ impl Spotted for DefaultVelocity {
         DefaultVelocity(point)
     }
 
+    #[inline(always)]
     fn point(&self) -> Spot {
         self.0
     }
 
+    #[inline(always)]
     fn point_mut(&mut self) -> &mut Spot {
         &mut self.0
     }

@@ -68,7 +68,7 @@ peeked_pass board old mid new e b was a next s t = ⊎_elim
     (λ (o : IsOld board old mid e). peeked_old board old new e b was (subst (λ (p : Pass). IsNext p new (Peek e.0 b ∷ [])) o.2 next) (t ∙ s) o.1)
     (found board old mid e a)
 
-among_left : (s : Step) (xs ys : List Step) → Among s xs → Among s (xs ++ ys)
+pub among_left : (s : Step) (xs ys : List Step) → Among s xs → Among s (xs ++ ys)
 unfolding Among
 among_left s [] ys h = absurd h
 among_left s (x ∷ xs) ys h = ⊎_elim (λ (here : x ≡ s). inl here) (λ (later : Among s xs). inr (among_left s xs ys later)) h

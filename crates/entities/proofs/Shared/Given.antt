@@ -28,6 +28,7 @@ use Rattle.entities.specs.Census.{Census}
 use Rattle.entities.specs.Phase.Calls.{IsOpen, IsClosed, AliveSteps, MarkSteps, PendingSteps}
 use Rattle.entities.specs.Phase.Given.{given_of, marks_of, marks_of_step, IsBlank, Gains, AreGivenOnce, AreTakenUp}
 use Rattle.entities.proofs.Shared.Ends.{each_back, pass_lines}
+use Rattle.entities.proofs.Shared.Calls.{among_left}
 use Rattle.entities.proofs.Shared.Passes.{all_from_each}
 use Rattle.entities.proofs.Shared.Reserve.{slice_get_within, slice_get_is, reserve_apart}
 use Rattle.entities.proofs.Shared.Tickets.{apart, not_below}
@@ -38,10 +39,14 @@ unfolding given_of marks_of
 gains o old new added next = record {
   given = ap (flat_map (given_to o.reserve)) next.steps ∙ flat_map-append (given_to o.reserve) (steps_of_pass old) added;
   marks = ap (flat_map marks_of_step) next.steps ∙ flat_map-append marks_of_step (steps_of_pass old) added;
+  seen = λ e saw. elim saw [
+    | inl s ↦ inl (s.0, s.1, s.2, subst (Among s.1) (sym next.steps) (among_left s.1 (steps_of_pass old) added s.3), s.4)
+    | inr s ↦ inr s
+  ];
 }
 
 pub gains_none : (o : Phase) (pass : Pass) → Gains o pass pass [] []
-gains_none o pass = record { given = sym (append-nil (given_of o pass)); marks = sym (append-nil (marks_of pass)) }
+gains_none o pass = record { given = sym (append-nil (given_of o pass)); marks = sym (append-nil (marks_of pass)); seen = λ e saw. saw }
 
 pub gains_draw : (o : Phase) (old new : Pass) (t : ℕ) (e : Entity) → IsNext old new (Draw t ∷ []) → slice_get o.reserve t ≡ Some e → Gains o old new (e ∷ []) []
 gains_draw o old new t e next at = subst (λ (x : Option Entity). Gains o old new (option_to_list x ++ []) []) at (gains o old new (Draw t ∷ []) next)
@@ -116,12 +121,12 @@ marked_steps all (Look n ∷ ss) f = marked_steps all ss (λ i h. f i (inr h))
 marked_steps all (Mark i ∷ ss) f = (f i (inl refl), marked_steps all ss (λ i h. f i (inr h)))
 marked_steps all (Peek i b ∷ ss) f = marked_steps all ss (λ i h. f i (inr h))
 
-pass_marked : (pass : Pass) → Each (λ i. Among (Mark i) (steps_of_pass pass)) (marks_of pass)
+pub pass_marked : (pass : Pass) → Each (λ i. Among (Mark i) (steps_of_pass pass)) (marks_of pass)
 unfolding marks_of
 pass_marked pass = marked_steps (steps_of_pass pass) (steps_of_pass pass) (λ i h. h)
 
 -- a pass sees alive what it was given
-each_last : (P : Step → Type 0) (ss : List Step) (s : Step) → Each P ss → Among s ss → P s
+pub each_last : (P : Step → Type 0) (ss : List Step) (s : Step) → Each P ss → Among s ss → P s
 unfolding Among
 each_last P [] s h a = absurd a
 each_last P (x ∷ xs) s h a = ⊎_elim (λ (here : x ≡ s). subst P here h.0) (λ (later : Among s xs). each_last P xs s h.1 later) a

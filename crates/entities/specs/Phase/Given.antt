@@ -1,5 +1,5 @@
--- What the passes of a phase were given, and what they marked.
-use Rattle.std.specs.Prelude.{◌≡◌, ◌≢◌, ◌⊎◌, ℕ, ◌<◌, true, List, [], ◌∷◌, ◌++◌, flat_map, length, slice_index_or}
+-- What the passes of a phase were given, what they marked, and whom they saw alive.
+use Rattle.std.specs.Prelude.{◌≡◌, ◌≢◌, ◌⊎◌, ℕ, ◌<◌, ◌≤◌, true, List, [], ◌∷◌, ◌++◌, flat_map, length, Some, slice_get, slice_index_or}
 use Rattle.std.specs.List.{All, AllPairs, Any}
 use Rattle.entities.specs.declared.entity.Entity.{Entity}
 use Rattle.entities.specs.declared.phase.pass.Pass.{Pass}
@@ -26,15 +26,29 @@ marks_of_step (Peek i b) = []
 unfoldable pub marks_of : Pass → List ℕ
 marks_of pass = flat_map marks_of_step (steps_of_pass pass)
 
+-- a step that shows that the entity at this place of the reserve was given out
+abbrev pub ShowsGiven : ℕ → Step → Type 0
+ShowsGiven place (Draw n) = place ≤ n
+ShowsGiven place (Look n) = place < n
+ShowsGiven place (Mark i) = ⊥
+ShowsGiven place (Peek i b) = ⊥
+
+-- The pass saw the entity alive: it is of the reserve, and a step of the pass shows that it was given out; or it is not, and lived at the opening
+abbrev pub SawAlive : Phase → Pass → Entity → Type 0
+SawAlive o pass e =
+    ((place : ℕ) × (s : Step) × (slice_get o.reserve place ≡ Some e) × Among s (steps_of_pass pass) × ShowsGiven place s)
+    ⊎ (((k : ℕ) → slice_get o.reserve k ≢ Some e) × IsAlive o.opening e)
+
 -- nothing was given to the pass, and it marked nothing
 pub record IsBlank (o : Phase) (pass : Pass) : Type 0 where
   pub given : given_of o pass ≡ []
   pub marks : marks_of pass ≡ []
 
--- the pass was given these entities more, and marked these indices more
+-- the pass was given these entities more, and marked these indices more; whom it saw alive it saw
 pub record Gains (o : Phase) (old new : Pass) (entities : List Entity) (indices : List ℕ) : Type 0 where
   pub given : given_of o new ≡ given_of o old ++ entities
   pub marks : marks_of new ≡ marks_of old ++ indices
+  pub seen : (e : Entity) → SawAlive o old e → SawAlive o new e
 
 -- none of the one list is of an index of the other
 abbrev pub AreUnlike : List Entity → List Entity → Type 0

@@ -8,7 +8,7 @@ ghost use Rattle.std.specs.List.{All, Contains};
 ghost use Rattle.entities.specs.Phase.Board.{IsPassOf, IsNext, record_of, is_spent};
 ghost use Rattle.entities.specs.Phase.Opened.{entities_of, board_of, phase_opened};
 ghost use Rattle.entities.specs.Phase.Calls.{IsOpen, SpentSteps, AliveSteps, MarkSteps, PendingSteps, IsClosed};
-ghost use Rattle.entities.specs.Phase.Given.{Gains, AreGivenOnce, AreTakenUp, AreAllTheirs, given_of};
+ghost use Rattle.entities.specs.Phase.Given.{Gains, AreGivenOnce, AreTakenUp, AreAllTheirs, SawAlive, given_of, marks_of};
 
 use crate::entities_res::EntitiesRes;
 use crate::entity::{DELETE, Entity, WrongGeneration};
@@ -60,6 +60,8 @@ impl<'a> Opened<'a, Board> {
         ensures pass { IsPassOf (board_of self.now) pass.new }
         ensures given { IfOk result (λ e. (t : ℕ) × IsNext pass.old pass.new (Draw t ∷ []) × (slice_get (phase_opened self.now).reserve t ≡ Some e)) }
         ensures gains { IfOk result (λ e. Gains (phase_opened self.now) pass.old pass.new (e ∷ []) []) }
+        ensures own { IfOk result (λ e. Contains (given_of (phase_opened self.now) pass.new) e) }
+        ensures seen { IfOk result (λ e. SawAlive (phase_opened self.now) pass.new e) }
         ensures nothing { IfErr result (λ _. Gains (phase_opened self.now) pass.old pass.new [] []) }
         ensures unspent { IfOk result (λ _. (is_spent pass.old ≡ false) × (is_spent pass.new ≡ false)) }
         ensures spent { IfErr result (λ _. SpentSteps (board_of self.now) pass.old pass.new) }
@@ -85,6 +87,8 @@ impl<'a> Opened<'a, Board> {
         ensures steps { AliveSteps (board_of self.now) pass.old pass.new entity result }
         ensures nothing { Gains (phase_opened self.now) pass.old pass.new [] [] }
         ensures own { Contains (given_of (phase_opened self.now) pass.old) entity → result ≡ true }
+        ensures seen { result ≡ true → SawAlive (phase_opened self.now) pass.new entity }
+        ensures stays { SawAlive (phase_opened self.now) pass.old entity → result ≡ true }
     {
         match self.board.plan.place_of(entity) {
             Some(place) => (place as u64) < self.board.look(pass),
@@ -105,6 +109,9 @@ impl<'a> Opened<'a, Board> {
         ensures gains { IfOk result (λ _. Gains (phase_opened self.now) pass.old pass.new [] (index_of entity ∷ [])) }
         ensures nothing { IfErr result (λ _. Gains (phase_opened self.now) pass.old pass.new [] []) }
         ensures own { IfErr result (λ _. Contains (given_of (phase_opened self.now) pass.old) entity → ⊥) }
+        ensures own_mark { IfOk result (λ _. Contains (marks_of pass.new) (index_of entity)) }
+        ensures seen { IfOk result (λ _. SawAlive (phase_opened self.now) pass.new entity) }
+        ensures stays { IfErr result (λ _. SawAlive (phase_opened self.now) pass.old entity → ⊥) }
         ensures refused { IfErr result (λ w. AliveSteps (board_of self.now) pass.old pass.new entity false × (w.entity ≡ entity)) }
         ensures actual { IfErr result (λ w. number_of w.actual_gen ≡ generation_reported (population (entities_of self.now)) (index_of entity)) }
         ensures action { IfErr result (λ w. w.action.now ≡ DELETE.now) }
@@ -125,6 +132,8 @@ impl<'a> Opened<'a, Board> {
         ensures spent { is_spent pass.new ≡ is_spent pass.old }
         ensures steps { PendingSteps (board_of self.now) pass.old pass.new entity result }
         ensures nothing { Gains (phase_opened self.now) pass.old pass.new [] [] }
+        ensures own { Contains (marks_of pass.old) (index_of entity) → SawAlive (phase_opened self.now) pass.old entity → result ≡ true }
+        ensures seen { result ≡ true → SawAlive (phase_opened self.now) pass.new entity }
     {
         if !self.is_alive(pass, entity) {
             return false;

@@ -115,6 +115,10 @@ impl<T: Default + Drop> SliceAccess<T> for DefaultVecStorage<T> {
 
     ghost IsSlice = { λ at extent _ xs. IsFullSlice at extent xs };
 
+    ghost item_at = { λ _ xs q. slice_get xs q };
+
+    ghost has_all = { λ at extent _ xs s q h. s.each q h };
+
     #[inline]
     fn as_slice(&self) -> &[T] {
         &self.items
@@ -123,8 +127,6 @@ impl<T: Default + Drop> SliceAccess<T> for DefaultVecStorage<T> {
 
 impl<T: Default + Drop> SliceAccessMut<T> for DefaultVecStorage<T> {
     ghost use Rattle.std.specs.Vec.{with_items as with_values};
-
-    ghost item_at = { λ _ xs q. slice_get xs q };
 
     ghost with_items = { λ s xs. record s { items = with_values s.items xs } };
 

@@ -43,12 +43,12 @@ impl<T> TryDefault for DenseVecStorage<T> {
 }
 
 impl<T> DenseVecStorage<T> {
-    ghost use Rattle.storages.specs.Dense.{meaning_of};
+    ghost use Rattle.storages.specs.DenseValues.{dense_meaning};
     ghost use Rattle.storages.specs.Meaning.{IsNew};
 
     /// A storage without values, which takes no memory.
     pub fn new(alloc: Global) -> Self
-        ensures { IsNew (meaning_of result.values.items result.ids.items result.places.items) }
+        ensures { IsNew (dense_meaning result) }
     {
         DenseVecStorage {
             values: Vec::new(alloc),
@@ -59,9 +59,9 @@ impl<T> DenseVecStorage<T> {
 }
 
 impl<T: Drop> Kind<T> for DenseVecStorage<T> {
-    ghost use Rattle.storages.specs.Dense.{meaning_of};
+    ghost use Rattle.storages.specs.DenseValues.{dense_meaning};
 
-    ghost meaning = { λ s. meaning_of s.values.items s.ids.items s.places.items };
+    ghost meaning = { λ s. dense_meaning s };
 }
 
 impl<T: Drop> UnprotectedStorage<T> for DenseVecStorage<T> {
@@ -143,11 +143,16 @@ impl<T: Drop> UnprotectedStorage<T> for DenseVecStorage<T> {
 }
 
 impl<T: Drop> SliceAccess<T> for DenseVecStorage<T> {
-    ghost use Rattle.storages.specs.Slices.{Arranges};
+    ghost use Rattle.storages.specs.Slices.{Arranges, item_beside};
+    ghost use Rattle.storages.specs.SliceLaws.{arrangement_has};
 
     type Element = T;
 
     ghost IsSlice = { λ at _ order xs. Arranges at order xs };
+
+    ghost item_at = { λ order xs q. item_beside order xs q };
+
+    ghost has_all = { λ at _ order xs s q h. arrangement_has at order xs s q h };
 
     #[inline(always)]
     fn as_slice(&self) -> &[T] {
@@ -157,9 +162,6 @@ impl<T: Drop> SliceAccess<T> for DenseVecStorage<T> {
 
 impl<T: Drop> SliceAccessMut<T> for DenseVecStorage<T> {
     ghost use Rattle.std.specs.Vec.{with_items as with_values};
-    ghost use Rattle.storages.specs.Slices.{item_beside};
-
-    ghost item_at = { λ order xs q. item_beside order xs q };
 
     ghost with_items = { λ s xs. record s { values = with_values s.values xs; consistent = s.consistent } };
 

@@ -103,10 +103,15 @@ impl<T: Drop> UnprotectedStorage<T> for VecStorage<T> {
 
 impl<T: Drop> SliceAccess<T> for VecStorage<T> {
     ghost use Rattle.storages.specs.Slices.{IsOptionSlice};
+    ghost use Rattle.storages.specs.SliceLaws.{option_slice_has};
 
     type Element = Option<T>;
 
     ghost IsSlice = { λ at extent _ xs. IsOptionSlice at extent xs };
+
+    ghost item_at = { λ _ xs q. value_at xs q };
+
+    ghost has_all = { λ at extent _ xs s q h. option_slice_has at extent xs s q h };
 
     #[inline(always)]
     fn as_slice(&self) -> &[Option<T>] {

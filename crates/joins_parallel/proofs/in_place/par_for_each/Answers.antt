@@ -1,10 +1,19 @@
-use Rattle.std.proofs.Common.{rules, ◌≡◌, ◌∙◌, sym, ap}
+use Rattle.std.proofs.Common.{rules, ◌∙◌, sym, ap}
 use Rattle.std.specs.Prelude.{◌&&◌, IsOk}
 use Rattle.hibits.specs.Left.{left}
 use Rattle.hibits.specs.Sets.{has_part_zero}
-use Rattle.joins_parallel.proofs.InPlace.{stays, only_changes, is_changed, both_of, not_both}
-use Rattle.joins_parallel.proofs.Replacing.{both_right}
+use Rattle.joins_parallel.proofs.InPlace.{stays, only_changes, is_changed, is_component, both_of, not_both}
+use Rattle.joins_parallel.proofs.Replacing.{both_left, both_right}
 use Rattle.joins_parallel.proofs.in_place.par_for_each.Goals as goal
+
+pub change_each-requires-clause-called : goal.change_each-requires-clause-called
+change_each-requires-clause-called g c κs within i x z lt is e w =
+    let tie = c.in_ok-members.ensures.members i (c.in_ok-members.ensures.below i is) ∙ (λ t. (has_part_zero c.mask.result.now.members i ∙ c.mask.ensures i) t && c.open-mask.ensures.mask i t) in
+    let both = sym tie ∙ is in
+    c.requires.called i x z
+    (is_component _ c.args.storage.now c.as_mut_slice-slice.result.now g.met.T.Storage.Placed.by_index c.as_mut_slice-slice.ensures.places i x.now (both_left _ _ both) e)
+    (both_right _ _ both)
+    (c.open-mask.ensures.gives i z (g.met.J.RepeatableJoin.same _ i z w))
 
 pub change_each-requires-clause-ready : goal.change_each-requires-clause-ready
 change_each-requires-clause-ready g c κs within i is =

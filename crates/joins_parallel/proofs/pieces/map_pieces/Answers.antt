@@ -10,7 +10,8 @@ use Rattle.joins_parallel.proofs.pieces.map_pieces.Goals as goal
 pub collect-requires-clause-ready : goal.collect-requires-clause-ready
 collect-requires-clause-ready g c κs within =
     let each = chunks_of-each (λ i. g.V.Lookup.can_look c.args.values.now i ≡ true) (max c.max-size.result 1) c.args.list.now c.requires.ready in
-    rw (c.map.ensures.base, c.map.ensures.f, c.par_chunks.ensures.slice, c.par_chunks.ensures.size) (λ k d lt x e. ((rw e (each k d lt), c.requires.called), λ y p. tt))
+    let called = chunks_of-each (λ i. (x : g.row.T.Denot) → g.V.Lookup.finds c.args.values.now i x → goal.F-pre g c.args.f.now x) (max c.max-size.result 1) c.args.list.now c.requires.called in
+    rw (c.map.ensures.base, c.map.ensures.f, c.par_chunks.ensures.slice, c.par_chunks.ensures.size) (λ k d lt x e. ((rw e (each k d lt), rw e (called k d lt)), λ y p. tt))
 
 pub returns-clause-made : goal.returns-clause-made
 returns-clause-made g c =

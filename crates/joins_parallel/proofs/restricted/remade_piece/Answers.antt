@@ -1,4 +1,4 @@
-use Rattle.std.proofs.Common.{◌≡◌, ℕ, refl}
+use Rattle.std.proofs.Common.{◌≡◌, ℕ}
 use Rattle.joins.specs.Indexed.{Indexed}
 use Rattle.joins_parallel.proofs.Cuts.{zip_more}
 use Rattle.joins_parallel.proofs.restricted.remade_piece.Goals as goal

@@ -13,7 +13,8 @@ pub collect-requires-clause-ready : goal.collect-requires-clause-ready
 collect-requires-clause-ready g c κs within =
     let here = chunks_of-each (λ i. map.contains_key c.args.storage.now.map i ≡ true) (max c.max-size.result 1) c.args.list.now c.requires.present in
     let each = chunks_of-each (λ i. g.V.Lookup.can_look c.args.values.now i ≡ true) (max c.max-size.result 1) c.args.list.now c.requires.ready in
-    rw (c.map.ensures.base, c.map.ensures.f, c.par_chunks.ensures.slice, c.par_chunks.ensures.size) (λ k d lt x e. ((rw e (here k d lt), rw e (each k d lt), c.requires.called), λ y p. tt))
+    let called = chunks_of-each (λ i. (x : Bor g.row.T.Denot) (z : g.row.I.Denot) → map.get c.args.storage.now.map i ≡ Some x.now → g.V.Lookup.finds c.args.values.now i z → goal.F-pre g c.args.f.now x z) (max c.max-size.result 1) c.args.list.now c.requires.called in
+    rw (c.map.ensures.base, c.map.ensures.f, c.par_chunks.ensures.slice, c.par_chunks.ensures.size) (λ k d lt x e. ((rw e (here k d lt), rw e (each k d lt), rw e (called k d lt)), λ y p. tt))
 
 pub returns-clause-made : goal.returns-clause-made
 returns-clause-made g c =

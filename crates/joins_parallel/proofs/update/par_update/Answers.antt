@@ -10,6 +10,11 @@ use Rattle.joins_parallel.proofs.Each.{update_each, update_others}
 use Rattle.joins_parallel.proofs.Replacing.{each_left, each_right, zip_lengths, after_room, room_for_none}
 use Rattle.joins_parallel.proofs.update.par_update.Goals as goal
 
+pub made_of-requires-clause-called : goal.made_of-requires-clause-called
+made_of-requires-clause-called g c κs within k d lt x z is w =
+    let e = c.deref.ensures.value ∙ c.in_ok-list.ensures.items ∙ ap (λ p. left p 0) (λ t i. (has_part_zero c.mask.result.now.members i ∙ c.mask.ensures i) t && c.open-mask.ensures.mask i t) in
+    c.requires.called _ x z is (each_right (λ i. map.contains_key c.args.storage.now.map i) (g.J.Join.has c.args.join) c.deref.result.now e k d lt) (c.open-mask.ensures.gives _ z (g.met.J.RepeatableJoin.same _ _ z w))
+
 pub made_of-requires-clause-present : goal.made_of-requires-clause-present
 made_of-requires-clause-present g c κs within =
     each_left (λ i. map.contains_key c.args.storage.now.map i) (g.J.Join.has c.args.join) c.deref.result.now (c.deref.ensures.value ∙ c.in_ok-list.ensures.items ∙ ap (λ p. left p 0) (λ t i. (has_part_zero c.mask.result.now.members i ∙ c.mask.ensures i) t && c.open-mask.ensures.mask i t))

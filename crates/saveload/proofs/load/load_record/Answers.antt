@@ -79,7 +79,7 @@ returns-clause-refused g c =
     let alive : is_alive (population c.name_all.new.entities) c.in_ok-entity.entity ≡ true = alive_true (population c.name_all.new.entities) c.in_ok-entity.entity (all_alive eq _ mid after life.0 all c.in_ok-entity.entity life.1) in
     let f = named g.M.Marker.id_of (mapping c.name_all.new.allocator) in
     if_err c.deserialize_entity.result
-    (λ row e why. inr (inr (record { entity = c.in_ok-entity.entity; mid = mid; own = own; mentioned = all; row = row; why = why })))
+    (λ e row why. inr (inr (record { entity = c.in_ok-entity.entity; mid = mid; own = own; mentioned = all; row = row; why = why })))
     (err_given g.P.DeserializeComponents.Partly g.P.DeserializeComponents.conversion _ c.args.saved.components c.in_ok-entity.entity (g.P.DeserializeComponents.rows c.args.masked.now) (g.P.DeserializeComponents.rows c.deserialize_entity.new.self) c.deserialize_entity.result (c.deserialize_entity.ensures.stopped alive) f
     (λ m r h p. let answered : r ≡ mapping c.name_all.new.allocator (g.M.Marker.id_of m) = search rules in answered
     ∙ named_entity eq g.met.M.Marker.same_ids _ mid after all (g.M.Marker.id_of m) (has_map g.M.Marker.id_of _ m h)))

@@ -9,12 +9,7 @@ returns-in-Ok-clause-told g c =
     let told : IsTold (slot c.new.result) (slot c.insert.new.self) = put_told (entities_of c.new.result) (slot c.new.result) (slot c.insert.new.self) c.args.entity c.args.value c.in-Ok.ensures.alive c.in-Ok.ensures.ok in
     search rules
 
-pub returns-in-Err-WrongGeneration-clause-told : goal.returns-in-Err-WrongGeneration-clause-told
-returns-in-Err-WrongGeneration-clause-told g c =
-    let told : IsTold (slot c.new.result) (slot c.insert.new.self) = same_told (slot c.new.result) (slot c.insert.new.self) c.in-Err-WrongGeneration.ensures.err in
-    search rules
-
 pub returns-clause-told : goal.returns-clause-told
 returns-clause-told g c =
-    let told : IsTold (slot c.new.result) (slot c.insert.new.self) = same_told (slot c.new.result) (slot c.insert.new.self) c.in-Err-OutOfMemory.ensures.err in
+    let told : IsTold (slot c.new.result) (slot c.insert.new.self) = same_told (slot c.new.result) (slot c.insert.new.self) c.in-Err.ensures.err in
     search rules

@@ -9,7 +9,7 @@ use Rattle.saveload.proofs.load.store_place.Goals as goal
 pub returns-in_ok-put_at-in-Some-clause-stored : goal.returns-in_ok-put_at-in-Some-clause-stored
 returns-in_ok-put_at-in-Some-clause-stored g c = rw c.in-Some.is (λ alive f gives.
     let v : c.in_ok-value-in-Some.value ≡ g.T.ConvertSaveload.conversion.loaded f c.in-Some.saved = c.in_ok-value-in-Some.ensures.exact f (λ m r h p. gives m r h p) in
-    column-insert c.args.masked.now c.put_at.new.masked (index_of c.args.entity) c.in_ok-value-in-Some.value (c.in_ok-put_at-in-Some.ensures.alive alive)
+    column-insert c.args.masked.now c.put_at.new.masked (index_of c.args.entity) c.in_ok-value-in-Some.value c.in_ok-put_at-in-Some.ensures.ok
     ∙ ap (λ x. row_put (column c.args.masked.now) (index_of c.args.entity) (Some x)) v)
 
 pub returns-in_err-value-in-Some-clause-refused : goal.returns-in_err-value-in-Some-clause-refused
@@ -23,3 +23,6 @@ returns-in_ok-take_out-in-None-clause-stored g c = rw c.in-None.is (λ alive f g
 
 pub returns-in_err-value-in-Some-clause-told : goal.returns-in_err-value-in-Some-clause-told
 returns-in_err-value-in-Some-clause-told g c = start
+
+pub returns-then-not-is_alive-clause-told : goal.returns-then-not-is_alive-clause-told
+returns-then-not-is_alive-clause-told g c = start

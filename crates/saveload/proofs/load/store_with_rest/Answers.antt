@@ -12,6 +12,7 @@ pub returns-in_err-store_place-clause-stopped : goal.returns-in_err-store_place-
 returns-in_err-store_place-clause-stopped g c alive =
     some_first (place g.A.ConvertSaveload.conversion) g.R.DeserializeComponents.conversion _ _ c.args.entity (column c.args.first.now) (column c.store_place.new.masked) (g.R.DeserializeComponents.rows c.args.rest.now)
     g.R.DeserializeComponents.Partly c.in_err-store_place.ensures.err c.from_residual.result
+    (λ f gives. let same : c.from_residual.result ≡ Err c.in_err-store_place.field-0.0 = search rules in rw same (c.in_err-store_place.ensures.refused f gives))
 
 pub returns-in_err-store_place-clause-refused : goal.returns-in_err-store_place-clause-refused
 returns-in_err-store_place-clause-refused g c f gives =

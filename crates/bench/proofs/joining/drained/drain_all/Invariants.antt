@@ -4,7 +4,7 @@ use Rattle.joins.specs.Draining.{storage_name, rest}
 use Rattle.bench.proofs.joining.drained.drain_all.Given as goal
 
 abbrev pub invariant-loop-id : goal.invariant-loop-id
-invariant-loop-id l = storage_name l.cursor ≡ storage_name l.initial.cursor
+invariant-loop-id g l = storage_name l.cursor ≡ storage_name l.initial.cursor
 
 abbrev pub decreases-loop-id : goal.decreases-loop-id
-decreases-loop-id l = length (rest l.cursor)
+decreases-loop-id g l = length (rest l.cursor)

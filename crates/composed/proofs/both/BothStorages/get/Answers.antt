@@ -1,4 +1,4 @@
-use Rattle.composed.proofs.Parts.{in_first, in_rest}
+use Rattle.composed.proofs.Sides.{in_first, in_rest}
 use Rattle.specs.proofs.Shown.{shown_gets}
 use Rattle.composed.proofs.both.BothStorages.get.Goals as goal
 

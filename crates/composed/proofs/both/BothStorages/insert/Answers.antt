@@ -1,5 +1,5 @@
 use Rattle.std.proofs.Common.{refl}
-use Rattle.composed.proofs.Parts.{in_first, in_rest}
+use Rattle.composed.proofs.Sides.{in_first, in_rest}
 use Rattle.specs.proofs.Shown.{shown_inserts}
 use Rattle.composed.proofs.both.BothStorages.insert.Goals as goal
 

@@ -1,4 +1,4 @@
-use Rattle.composed.proofs.Parts.{in_first, in_rest}
+use Rattle.composed.proofs.Sides.{in_first, in_rest}
 use Rattle.specs.proofs.Shown.{on_ok, shown_registers}
 use Rattle.composed.proofs.both.BothStorages.register.Goals as goal
 

@@ -1,5 +1,5 @@
 use Rattle.entities.specs.Census.{population}
-use Rattle.composed.proofs.Parts.{gives_sole}
+use Rattle.composed.proofs.Sides.{gives_sole}
 use Rattle.specs.proofs.Shown.{if_ok}
 use Rattle.composed.proofs.marking.MarkingStorages.mark.Goals as goal
 

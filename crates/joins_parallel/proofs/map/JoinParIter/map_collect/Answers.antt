@@ -1,7 +1,13 @@
 use Rattle.std.proofs.Common.{ap, sym, ◌∙◌}
 use Rattle.rayon.proofs.ListFacts.{IfOk-then, AllZip-weaken}
 use Rattle.hibits.specs.Left.{left, left-each}
+use Rattle.joins_parallel.proofs.Replacing.{each_of}
 use Rattle.joins_parallel.proofs.map.JoinParIter.map_collect.Goals as goal
+
+pub map_pieces-requires-clause-called : goal.map_pieces-requires-clause-called
+map_pieces-requires-clause-called g c κs out k d lt x w =
+    let e = c.deref.ensures.value ∙ c.in_ok-list.ensures.items ∙ ap (λ p. left p 0) (λ t i. c.open-mask.ensures.mask i t) in
+    c.requires.called _ x (each_of (g.J.Join.has c.args.self.join) c.deref.result.now e k d lt) (c.open-mask.ensures.gives _ x (g.met.J.RepeatableJoin.same _ _ x w))
 
 pub map_pieces-requires-clause-ready : goal.map_pieces-requires-clause-ready
 map_pieces-requires-clause-ready g c κs out k d lt =

@@ -2,7 +2,6 @@ use Rattle.std.proofs.Common.{rules, ◌≡◌, refl}
 use Rattle.std.specs.Prelude.{Err}
 use Rattle.saveload.specs.Loads.{column}
 use Rattle.saveload.proofs.Putting.{put_one, same_one, put_same}
-use Rattle.saveload.proofs.Rows.{on_err}
 use Rattle.entities.specs.Population.{index_of}
 use Rattle.saveload.proofs.loading.Tuple1RefMutMaskedStorageDeserializeComponents.deserialize_entity.Goals as goal
 
@@ -13,9 +12,10 @@ returns-clause-rows g c alive f gives =
 
 pub returns-in_err-store_place-clause-stopped : goal.returns-in_err-store_place-clause-stopped
 returns-in_err-store_place-clause-stopped g c alive =
-    on_err c.from_residual.result (λ f gives. record {
+    let same : c.from_residual.result ≡ Err c.in_err-store_place.field-0.0 = search rules in
+    rw same (λ f gives. record {
       mid = _;
-      part = refl;
+      part = (c.in_err-store_place.ensures.refused f (λ m r h p. gives m r h p), refl);
       rows = put_one (column c.args.self.now.0.now) (column c.store_place.new.masked) (index_of c.args.entity) _
           (put_same (column c.args.self.now.0.now) (column c.store_place.new.masked) (index_of c.args.entity) c.in_err-store_place.ensures.err);
     })

@@ -5,7 +5,6 @@ use Rattle.saveload.specs.Loads.{column}
 use Rattle.saveload.specs.Told.IsTold.{start}
 use Rattle.saveload.proofs.Lists.{storing_left, storing_right}
 use Rattle.saveload.proofs.Putting.{put_two, same_two, put_same}
-use Rattle.saveload.proofs.Rows.{on_err}
 use Rattle.entities.specs.Population.{index_of}
 use Rattle.saveload.proofs.loading.Tuple2RefMutMaskedStorageRefMutMaskedStorageDeserializeComponents.deserialize_entity.Goals as goal
 
@@ -19,9 +18,12 @@ returns-clause-rows g c alive f gives =
 
 pub returns-in_err-store_place-clause-stopped : goal.returns-in_err-store_place-clause-stopped
 returns-in_err-store_place-clause-stopped g c alive =
-    on_err c.from_residual.result (λ f gives. record {
+    let d0 = (place g.A.ConvertSaveload.conversion).mentions c.args.saved.0 in
+    let d1 = (place g.B.ConvertSaveload.conversion).mentions c.args.saved.1 in
+    let same : c.from_residual.result ≡ Err c.in_err-store_place.field-0.0 = search rules in
+    rw same (λ f gives. record {
       mid = _;
-      part = inl refl;
+      part = inl (c.in_err-store_place.ensures.refused f (λ m r h p. gives m r (has_left d0 d1 m h) p), refl);
       rows = put_two (column c.args.self.now.0.now) (column c.store_place.new.masked) (column c.args.self.now.1.now) (column c.args.self.now.1.now) (index_of c.args.entity) _ _
           (put_same (column c.args.self.now.0.now) (column c.store_place.new.masked) (index_of c.args.entity) c.in_err-store_place.ensures.err)
           (put_same (column c.args.self.now.1.now) (column c.args.self.now.1.now) (index_of c.args.entity) refl);
@@ -42,9 +44,10 @@ pub returns-in_err-store_place-2-clause-stopped : goal.returns-in_err-store_plac
 returns-in_err-store_place-2-clause-stopped g c alive =
     let d0 = (place g.A.ConvertSaveload.conversion).mentions c.args.saved.0 in
     let d1 = (place g.B.ConvertSaveload.conversion).mentions c.args.saved.1 in
-    on_err c.from_residual-in_err-store_place-2.result (λ f gives. record {
+    let same : c.from_residual-in_err-store_place-2.result ≡ Err c.in_err-store_place-2.field-0.0 = search rules in
+    rw same (λ f gives. record {
       mid = _;
-      part = inr (refl, refl);
+      part = inr (refl, (c.in_err-store_place-2.ensures.refused f (λ m r h p. gives m r (has_right d0 d1 m h) p), refl));
       rows = put_two (column c.args.self.now.0.now) (column c.store_place.new.masked) (column c.args.self.now.1.now) (column c.store_place-2.new.masked) (index_of c.args.entity) _ _
           (c.in_ok-store_place.ensures.stored alive f (λ m r h p. gives m r (has_left d0 d1 m h) p))
           (put_same (column c.args.self.now.1.now) (column c.store_place-2.new.masked) (index_of c.args.entity) c.in_err-store_place-2.ensures.err);

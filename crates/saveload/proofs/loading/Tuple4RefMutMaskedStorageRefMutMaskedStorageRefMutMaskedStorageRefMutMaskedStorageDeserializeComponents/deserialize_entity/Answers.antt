@@ -16,7 +16,7 @@ returns-clause-rows g c alive =
 pub returns-clause-stopped : goal.returns-clause-stopped
 returns-clause-stopped g c alive =
     some_along four four (both (place g.A.ConvertSaveload.conversion) (three_places g.B.ConvertSaveload.conversion g.C.ConvertSaveload.conversion g.D.ConvertSaveload.conversion))
-    _ c.args.saved c.args.entity _ _ (PartlyPair PartlyThree) c.store_with_rest.result (c.store_with_rest.ensures.stopped alive)
+    _ c.args.saved c.args.entity _ _ (PartlyPair (place g.A.ConvertSaveload.conversion).unloaded (PartlyThree (place g.B.ConvertSaveload.conversion).unloaded (place g.C.ConvertSaveload.conversion).unloaded (place g.D.ConvertSaveload.conversion).unloaded)) c.store_with_rest.result (c.store_with_rest.ensures.stopped alive)
 
 pub returns-clause-refused : goal.returns-clause-refused
 returns-clause-refused g c = c.store_with_rest.ensures.refused

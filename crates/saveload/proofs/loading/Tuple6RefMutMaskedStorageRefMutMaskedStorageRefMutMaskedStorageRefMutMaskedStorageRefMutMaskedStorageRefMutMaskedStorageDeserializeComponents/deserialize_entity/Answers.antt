@@ -16,7 +16,7 @@ returns-clause-rows g c alive =
 pub returns-clause-stopped : goal.returns-clause-stopped
 returns-clause-stopped g c alive =
     some_along six six (both (place g.A.ConvertSaveload.conversion) (five_places g.B.ConvertSaveload.conversion g.C.ConvertSaveload.conversion g.D.ConvertSaveload.conversion g.E.ConvertSaveload.conversion g.G.ConvertSaveload.conversion))
-    _ c.args.saved c.args.entity _ _ (PartlyPair PartlyFive) c.store_with_rest.result (c.store_with_rest.ensures.stopped alive)
+    _ c.args.saved c.args.entity _ _ (PartlyPair (place g.A.ConvertSaveload.conversion).unloaded (PartlyFive (place g.B.ConvertSaveload.conversion).unloaded (place g.C.ConvertSaveload.conversion).unloaded (place g.D.ConvertSaveload.conversion).unloaded (place g.E.ConvertSaveload.conversion).unloaded (place g.G.ConvertSaveload.conversion).unloaded)) c.store_with_rest.result (c.store_with_rest.ensures.stopped alive)
 
 pub returns-clause-refused : goal.returns-clause-refused
 returns-clause-refused g c = c.store_with_rest.ensures.refused

@@ -15,3 +15,8 @@ returns-clause-saved g c n answers =
     let rest = four_places g.B.Component.ConvertSaveload.conversion g.C.Component.ConvertSaveload.conversion g.D.Component.ConvertSaveload.conversion g.E.Component.ConvertSaveload.conversion in
     saved_along five five (both (place g.A.Component.ConvertSaveload.conversion) rest) n _ (c.in_ok-first.first, (c.in_ok-first.second, c.in_ok-first.third, c.in_ok-first.fourth, c.in_ok-first.fifth))
     (c.in_ok-first.ensures.saved n answers)
+
+pub returns-in_err-first-clause-turn : goal.returns-in_err-first-clause-turn
+returns-in_err-first-clause-turn g c =
+    let same : c.from_residual.result ≡ Err c.in_err-first.field-0.0 = search rules in
+    rw same c.in_err-first.ensures.turn

@@ -9,6 +9,7 @@ use Rattle.specs.specs.Column.{without_values}
 use Rattle.specs.specs.People.{the_living}
 use Rattle.specs.proofs.AllDie.{all_may_die, not_refused, nobody_listed, nobody_left}
 use Rattle.specs.proofs.Gone.{gone_deleted}
+use Rattle.specs.proofs.Kept.{living_dead, gone_dead}
 use Rattle.specs.proofs.core_parts.Core.delete_all.Goals as goal
 
 pub returns-in_err-reserve_drop-clause-idle : goal.returns-in_err-reserve_drop-clause-idle
@@ -45,3 +46,9 @@ returns-clause-gone g c =
     let p = population c.args.self.now.parts.entities in
     let es : c.as_slice.result.now ≡ the_living p = c.as_slice.ensures.value ∙ c.in_ok-list.ensures.all in
     gone_deleted p (population c.kill.new.self) (the_living p) (record { may = all_may_die p; dead = rw (es, c.alloc_mut.ensures.value) at c.in-Ok.ensures.dead })
+
+pub returns-clause-living : goal.returns-clause-living
+returns-clause-living g c = living_dead _ _ _ (returns-clause-ok g c)
+
+pub returns-clause-stays_gone : goal.returns-clause-stays_gone
+returns-clause-stays_gone g c = gone_dead _ _ _ (returns-clause-ok g c)

@@ -1,5 +1,8 @@
-use Rattle.specs.proofs.Gone.{gone_deleted}
+use Rattle.specs.proofs.Kept.{living_dead, gone_dead}
 use Rattle.specs.proofs.core_parts.Core.delete_entities.Goals as goal
 
-pub returns-in-Ok-clause-gone : goal.returns-in-Ok-clause-gone
-returns-in-Ok-clause-gone g c = gone_deleted _ _ c.args.list.now (record { may = c.in-Ok.ensures.may; dead = c.in-Ok.ensures.dead })
+pub returns-clause-living : goal.returns-clause-living
+returns-clause-living g c = living_dead _ _ c.args.list.now c.in_ok-delete_all_of.ensures.ok
+
+pub returns-clause-stays_gone : goal.returns-clause-stays_gone
+returns-clause-stays_gone g c = gone_dead _ _ c.args.list.now c.in_ok-delete_all_of.ensures.ok

@@ -10,6 +10,7 @@ use Rattle.specs.specs.Table.{Table}
 use Rattle.storages.specs.Meaning.{HasRoom}
 use Rattle.specs.proofs.Counting.{none_left, count_marked}
 use Rattle.specs.proofs.Gone.{gone_merged}
+use Rattle.specs.proofs.Kept.{living_merged, gone_merging}
 use Rattle.specs.proofs.core_parts.Core.merge.Goals as goal
 
 pub returns-in_err-reserve_drop-clause-idle : goal.returns-in_err-reserve_drop-clause-idle
@@ -38,3 +39,9 @@ returns-clause-merged g c =
     fun_ext (λ s. c.drop_all.ensures.values s ∙ ap (λ es. option_map (without_values es) (g.S.Held.table c.reserve_drop.new.self s)) dead ∙ ap (λ (t : Table _ _). option_map (without_values (the_marked p)) (t s)) c.in_ok-reserve_drop.ensures.same) in
     let ids = c.drop_all.ensures.ids ∙ c.reserve_drop.ensures.ids in
     rw (people, table, ids) refl
+
+pub returns-clause-living : goal.returns-clause-living
+returns-clause-living g c = living_merged _ _ (returns-clause-merged g c)
+
+pub returns-clause-stays_gone : goal.returns-clause-stays_gone
+returns-clause-stays_gone g c = gone_merging _ _ (returns-clause-merged g c)

@@ -1,4 +1,4 @@
-use Rattle.storages.proofs.Unread.{written_unread}
+use Rattle.storages.specs.Heard.{written_unread}
 use Rattle.storages.proofs.channel.EventChannel.single_write.Goals as goal
 
 pub returns-clause-told : goal.returns-clause-told

@@ -3,6 +3,8 @@ use Rattle.std.proofs.lemmas.Option.{slice_get-get_or}
 use Rattle.entities.proofs.Shared.Passes.{drew, next_spent}
 use Rattle.entities.specs.Phase.Plan.{phase_of}
 use Rattle.entities.proofs.Shared.Given.{gains_none, gains_draw, gains_miss}
+use Rattle.entities.proofs.Shared.Seen.{saw_given}
+use Rattle.entities.specs.Phase.Laws.{newly_given}
 use Rattle.entities.proofs.phase.shared.Opened+Board.create.Goals as goal
 
 pub returns-then-ticket-len-clause-pass : goal.returns-then-ticket-len-clause-pass
@@ -16,6 +18,12 @@ returns-clause-pass c = drew c.args.self.now.board c.args.pass.now _ c.draw-tick
 
 pub returns-then-ticket-len-clause-gains : goal.returns-then-ticket-len-clause-gains
 returns-then-ticket-len-clause-gains c = let given = returns-then-ticket-len-clause-given c in gains_draw (phase_of c.args.self.now.board.plan) c.args.pass.now c.draw-ticket.new.pass given.0 _ given.1 given.2
+
+pub returns-then-ticket-len-clause-own : goal.returns-then-ticket-len-clause-own
+returns-then-ticket-len-clause-own c = newly_given (phase_of c.args.self.now.board.plan) c.args.pass.now c.draw-ticket.new.pass _ _ (returns-then-ticket-len-clause-gains c)
+
+pub returns-then-ticket-len-clause-seen : goal.returns-then-ticket-len-clause-seen
+returns-then-ticket-len-clause-seen c = let given = returns-then-ticket-len-clause-given c in saw_given (phase_of c.args.self.now.board.plan) c.args.pass.now c.draw-ticket.new.pass given.0 _ given.1 given.2
 
 pub returns-then-pass-clause-nothing : goal.returns-then-pass-clause-nothing
 returns-then-pass-clause-nothing c = gains_none (phase_of c.args.self.now.board.plan) c.args.pass.now

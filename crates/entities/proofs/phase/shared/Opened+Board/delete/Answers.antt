@@ -2,6 +2,9 @@ use Rattle.std.proofs.Common.{refl, subst, Bool}
 use Rattle.entities.specs.Phase.Calls.{AliveSteps}
 use Rattle.entities.proofs.Shared.Calls.{index_within, mark_after, marked_pass, marked_steps}
 use Rattle.entities.proofs.Shared.Given.{alive_gains, mark_gains}
+use Rattle.entities.proofs.Shared.Seen.{saw_marked}
+use Rattle.entities.specs.Phase.Laws.{newly_marked}
+use Rattle.entities.specs.Phase.Plan.{phase_of}
 use Rattle.entities.proofs.phase.shared.Opened+Board.delete.Goals as goal
 
 pub mark_as-requires-clause-calls : goal.mark_as-requires-clause-calls
@@ -26,3 +29,9 @@ returns-clause-marked c =
 
 pub returns-clause-gains : goal.returns-clause-gains
 returns-clause-gains c = mark_gains c.args.self.now.board c.args.pass.now c.mark_as.new.pass c.args.entity (returns-clause-marked c)
+
+pub returns-clause-own_mark : goal.returns-clause-own_mark
+returns-clause-own_mark c = newly_marked (phase_of c.args.self.now.board.plan) c.args.pass.now c.mark_as.new.pass _ _ (returns-clause-gains c)
+
+pub returns-clause-seen : goal.returns-clause-seen
+returns-clause-seen c = saw_marked c.args.self.now.board c.args.pass.now c.mark_as.new.pass c.args.entity (returns-clause-marked c)

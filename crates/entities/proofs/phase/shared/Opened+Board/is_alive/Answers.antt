@@ -6,6 +6,7 @@ use Rattle.entities.proofs.Shared.Passes.{looked_at}
 use Rattle.entities.proofs.Shared.Calls.{population_but}
 use Rattle.entities.specs.Phase.Plan.{phase_of}
 use Rattle.entities.proofs.Shared.Given.{gains, own_alive}
+use Rattle.entities.proofs.Shared.Seen.{saw_alive, stays_alive}
 use Rattle.entities.proofs.phase.shared.Opened+Board.is_alive.Goals as goal
 
 pub returns-in-Some-clause-pass : goal.returns-in-Some-clause-pass
@@ -26,3 +27,17 @@ pub returns-in-Some-clause-own : goal.returns-in-Some-clause-own
 returns-in-Some-clause-own c =
     own_alive c.args.self.now.board c.args.self.now.entities.now c.args.pass.now c.look.new.pass c.args.entity _ c.requires.open
     (inl (c.in-Some.place, c.look.result, c.in-Some.ensures, c.look.ensures.step, c.look.ensures.seen, refl))
+
+pub returns-in-Some-clause-seen : goal.returns-in-Some-clause-seen
+returns-in-Some-clause-seen c = saw_alive c.args.self.now.board c.args.pass.now c.look.new.pass c.args.entity _ (inl (c.in-Some.place, c.look.result, c.in-Some.ensures, c.look.ensures.step, c.look.ensures.seen, refl))
+
+pub returns-in-Some-clause-stays : goal.returns-in-Some-clause-stays
+returns-in-Some-clause-stays c =
+    stays_alive c.args.self.now.board c.args.self.now.entities.now c.args.pass.now c.look.new.pass c.args.entity _ c.requires.open
+    (inl (c.in-Some.place, c.look.result, c.in-Some.ensures, c.look.ensures.step, c.look.ensures.seen, refl))
+
+pub returns-in-None-clause-seen : goal.returns-in-None-clause-seen
+returns-in-None-clause-seen c = saw_alive c.args.self.now.board c.args.pass.now c.args.pass.now c.args.entity c.is_alive.result (returns-in-None-clause-steps c)
+
+pub returns-in-None-clause-stays : goal.returns-in-None-clause-stays
+returns-in-None-clause-stays c = stays_alive c.args.self.now.board c.args.self.now.entities.now c.args.pass.now c.args.pass.now c.args.entity c.is_alive.result c.requires.open (returns-in-None-clause-steps c)

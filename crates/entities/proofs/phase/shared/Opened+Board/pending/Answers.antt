@@ -3,6 +3,7 @@ use Rattle.entities.specs.Population.{Population}
 use Rattle.entities.specs.Phase.Calls.{AliveSteps}
 use Rattle.entities.proofs.Shared.Calls.{index_within, peek_after, peeked_pass, peeked_steps, population_but}
 use Rattle.entities.proofs.Shared.Given.{pending_gains}
+use Rattle.entities.proofs.Shared.Seen.{own_pending, saw_pending}
 use Rattle.entities.proofs.phase.shared.Opened+Board.pending.Goals as goal
 
 pub peek_as-found-requires-clause-calls : goal.peek_as-found-requires-clause-calls
@@ -47,3 +48,15 @@ returns-then-found-clause-nothing c = pending_gains c.args.self.now.board c.args
 
 pub returns-else-found-clause-nothing : goal.returns-else-found-clause-nothing
 returns-else-found-clause-nothing c = pending_gains c.args.self.now.board c.args.pass.now c.peek_as-found.new.pass c.args.entity _ (returns-else-found-clause-steps c)
+
+pub returns-then-found-clause-own : goal.returns-then-found-clause-own
+returns-then-found-clause-own c = own_pending c.args.self.now.board c.args.self.now.entities.now c.args.pass.now c.peek_as-found.new.pass c.args.entity _ c.requires.open (returns-then-found-clause-steps c)
+
+pub returns-then-found-clause-seen : goal.returns-then-found-clause-seen
+returns-then-found-clause-seen c = saw_pending c.args.self.now.board c.args.pass.now c.peek_as-found.new.pass c.args.entity _ (returns-then-found-clause-steps c)
+
+pub returns-else-found-clause-own : goal.returns-else-found-clause-own
+returns-else-found-clause-own c = own_pending c.args.self.now.board c.args.self.now.entities.now c.args.pass.now c.peek_as-found.new.pass c.args.entity _ c.requires.open (returns-else-found-clause-steps c)
+
+pub returns-else-found-clause-seen : goal.returns-else-found-clause-seen
+returns-else-found-clause-seen c = saw_pending c.args.self.now.board c.args.pass.now c.peek_as-found.new.pass c.args.entity _ (returns-else-found-clause-steps c)

@@ -1,0 +1,94 @@
+//! Single calls, one after another, and then a run: what holds of each state lasts through all of them.
+ghost use Rattle.std.specs.Prelude.{◌≡◌, true, IfSome};
+ghost use Rattle.specs.specs.Following.{AreQuiet, AllSpare, IsFollowed, Follows, given};
+ghost use Rattle.specs.specs.Gone.{KeepsGone};
+ghost use Rattle.specs.specs.Reached.{KeepsLiving, OnlyLiving};
+ghost use Rattle.specs.specs.State.{core_state, state_of};
+ghost use Rattle.specs.specs.Steps.{world_state};
+
+use specs::{
+    Builder, Command, Component, Core, Entity, Has, ReaderId, Reply, Storages, UnprotectedStorage,
+    World, WorldJob,
+};
+
+/// An entity is built with a component, and a list of others lose theirs: each component belongs to a living entity still, and who was gone
+/// is gone, whatever was refused.
+pub fn built_and_dropped<T: Component + Drop, I, S: Storages + Has<T, I>>(
+    core: &mut Core<S>,
+    component: T,
+    list: &[Entity],
+) -> Option<Entity>
+where
+    T::Storage: UnprotectedStorage<T>,
+    ensures living { KeepsLiving (core_state S.table S.ids core.old) (core_state S.table S.ids core.new) }
+    ensures gone { KeepsGone (core_state S.table S.ids core.old).people (core_state S.table S.ids core.new).people }
+{
+    let Ok(builder) = core.create_entity() else {
+        return None;
+    };
+    let Ok(builder) = builder.with(component) else {
+        return None;
+    };
+    let e = builder.build();
+    if core.delete_components(list).is_err() {
+        return None;
+    }
+    Some(e)
+}
+
+/// What a run of commands that leave a reader be gives the reader leads from the values before to those after.
+pub fn followed<S: Storages, J: WorldJob<S>>(
+    world: &mut World<S, J>,
+    slot: S::Slot,
+    reader: ReaderId,
+    commands: Vec<Command<S, J>>,
+) -> Option<Vec<Reply<S::Value>>>
+    requires living { OnlyLiving (state_of S.table S.ids world.old) }
+    requires quiet { AreQuiet J.spares slot reader commands.items }
+    requires spared { AllSpare J.spares slot reader (world_state S.table S.ids world.old).jobs }
+    requires followed { IsFollowed slot reader (state_of S.table S.ids world.old) }
+    ensures { IfSome result (λ replies. Follows slot reader (state_of S.table S.ids world.old) (state_of S.table S.ids world.new) (given (λ s. S.Slot.eq s slot) reader commands.items replies.items)) }
+{
+    match world.run(commands) {
+        Ok(replies) => Some(replies),
+        Err(_) => None,
+    }
+}
+
+/// A world in which that may be asked: calls that are no commands came before.
+pub fn lives_after_calls<T: Component + Drop, I, S: Storages + Has<T, I>, J: WorldJob<S>>(
+    world: &mut World<S, J>,
+    component: T,
+    list: &[Entity],
+)
+where
+    T::Storage: UnprotectedStorage<T>,
+    requires { OnlyLiving (state_of S.table S.ids world.old) }
+    ensures { OnlyLiving (state_of S.table S.ids world.new) }
+{
+    let _ = built_and_dropped(&mut **world, component, list);
+    let _ = world.maintain(10);
+    let _ = world.apply(Command::CreatePending);
+}
+
+/// Somebody is born, and nobody comes back by it.
+fn born<S: Storages>(core: &mut Core<S>)
+    ensures { KeepsGone (core_state S.table S.ids core.old).people (core_state S.table S.ids core.new).people }
+{
+    if let Ok(builder) = core.create_entity() {
+        let _ = builder.build();
+    }
+}
+
+/// An entity that died is dead after each other call.
+pub fn dead_for_good<S: Storages, J: WorldJob<S>>(world: &mut World<S, J>, e: Entity) -> bool
+    ensures { result ≡ true → ⊥ }
+{
+    if world.delete_entity(e).is_err() {
+        return false;
+    }
+    let _ = world.apply(Command::Create);
+    born(&mut **world);
+    let _ = world.maintain(10);
+    world.is_alive(e)
+}

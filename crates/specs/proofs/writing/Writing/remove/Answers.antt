@@ -1,0 +1,6 @@
+use Rattle.std.proofs.Common.{refl}
+use Rattle.specs.proofs.Kept.{living_removed}
+use Rattle.specs.proofs.writing.Writing.remove.Goals as goal
+
+pub returns-in-Ok-clause-living : goal.returns-in-Ok-clause-living
+returns-in-Ok-clause-living g c = living_removed _ _ _ _ _ c.in-Ok.ensures.ok refl

@@ -1,0 +1,14 @@
+-- What a dense vector storage has.
+use Rattle.std.specs.Prelude.{ℕ, Option}
+use Rattle.storages.specs.declared.kinds.dense_vec_storage.DenseVecStorage.{DenseVecStorage}
+use Rattle.storages.specs.Dense.{meaning_of}
+use Rattle.storages.specs.Meaning.{Meaning}
+
+module _ {T : Type 0} where
+  -- what it means
+  abbrev pub dense_meaning : DenseVecStorage T → Meaning T
+  dense_meaning s = meaning_of s.values.items s.ids.items s.places.items
+
+  -- what it has at an index
+  abbrev pub dense_value : DenseVecStorage T → ℕ → Option T
+  dense_value s = (dense_meaning s).at

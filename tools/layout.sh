@@ -1,0 +1,17 @@
+#!/usr/bin/env bash
+# Whether each crate's sources are in the layout of `rt fmt`: `rt ci` asks for it too, but only once it comes to the crate, which may be after half an hour.
+# It formats a copy, and names the files that differ. Run at the top of the repository.
+set -euo pipefail
+
+laid=$(mktemp -d)
+trap 'rm -rf "$laid"' EXIT
+cp crates.txt "$laid"
+for crate in crates/*; do
+  mkdir -p "$laid/$crate"
+  cp -r "$crate/src" "$laid/$crate/src"
+  (cd "$laid/$crate" && rt fmt >/dev/null)
+  diff -rq "$crate/src" "$laid/$crate/src" || {
+    echo "$crate: run rt fmt there"
+    exit 1
+  }
+done
