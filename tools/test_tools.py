@@ -56,7 +56,7 @@ class Tree(unittest.TestCase):
         self.assertEqual(ran.returncode, 0, ran.stdout)
 
 
-GATE_TOOLS = ("test_tools.py", "api.py", "chart.py", "listings.py", "wrong_bodies.py", "keep_libraries.py")
+GATE_TOOLS = ("test_tools.py", "citations.py", "api.py", "chart.py", "listings.py", "wrong_bodies.py", "keep_libraries.py")
 
 
 class Gate(Tree):
@@ -355,6 +355,24 @@ class Promises(Tree):
         for clause in ("", "Unit", "⊤", "Unit {0}", "λ x. Unit {0}", "a ≡ a"):
             self.assertTrue(is_nothing(clause), clause)
         self.assertFalse(is_empty("MatchOption result (Unit {0}) (λ x. x ≡ e)"))
+
+
+class Citations(Tree):
+    """tools/citations.py."""
+
+    def check(self, line):
+        self.take("tools/citations.py")
+        self.write("crates/low/proofs/Sums.antt", "pub sum_is : 1 ≡ 1\nsum_is = refl\n")
+        self.write("crates/high/specs/Words.antt", f"use Rattle.std.proofs.Common.{{refl}}\n{line}\n")
+        return self.run_in("python3", "tools/citations.py")
+
+    def test_words_and_own_proofs(self):
+        for line in ("use Rattle.low.specs.Sums.{sum_is}", "use Rattle.high.proofs.Sums.{sum_is}", "use Rattle.low.proofs.board.Board.TheSendSync as board", "use Rattle.json.proofs.Sums.{sum_is}"):
+            self.accepts(self.check(line))
+
+    def test_the_proofs_of_another(self):
+        for line in ("use Rattle.low.proofs.Sums.{sum_is}", "use Rattle.low.proofs.Sums as sums", "use Rattle.low.proofs.TheSendSync.Sums.{sum_is}"):
+            self.refuses(self.check(line), "crates/high/specs/Words.antt:2: cites the proofs of low")
 
 
 class Listings(Tree):

@@ -8,8 +8,7 @@ use Rattle.specs.specs.declared.command.Reply.TheVariants.{Value}
 use Rattle.specs.specs.declared.job.Job.{Job}
 use Rattle.specs.specs.Evolving.{Evolves, ValuesLive}
 use Rattle.specs.specs.Following.{IsFollowed, IsListening, Advances, JobSpares, AllSpare, Spared, Tells}
-use Rattle.specs.specs.Lawful.{still_grows, still_lives, still_tells, born_lives}
-use Rattle.specs.proofs.Lawful.{inserted_tells}
+use Rattle.specs.specs.Lawful.{still_grows, still_lives, still_tells, born_lives, inserted_tells}
 use Rattle.specs.specs.Living.{keeps_step}
 use Rattle.specs.specs.People.{Births}
 use Rattle.specs.specs.Reached.{OnlyLiving}

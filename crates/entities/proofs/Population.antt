@@ -1,4 +1,3 @@
-pub mod Newborn
 pub mod Steps
 pub mod Lowers
 pub mod Merging

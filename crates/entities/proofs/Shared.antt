@@ -10,4 +10,3 @@ pub mod Tickets
 pub mod Given
 pub mod Seen
 pub mod Theirs
-pub mod Shares

@@ -11,3 +11,5 @@ pub mod Lending
 pub mod Creates
 pub mod Upcoming
 pub mod Phase
+pub mod Living
+pub mod Sharing

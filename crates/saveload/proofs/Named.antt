@@ -11,8 +11,7 @@ use Rattle.saveload.specs.Naming.{Naming, Names, NamesAll}
 use Rattle.saveload.specs.declared.entity_data.EntityData.{EntityData}
 use Rattle.saveload.specs.Loads.{entity_of, Loading, LoadsRecord, Loads}
 use Rattle.entities.specs.Census.{Census, population}
-use Rattle.entities.proofs.Kept.Sets.{lives_is}
-use Rattle.entities.proofs.Kept.Stack.{alive_at}
+use Rattle.entities.specs.Living.{living_is_born}
 
 abbrev pub IsExact : {I : Type 0} → (I → I → Bool) → Type 0
 IsExact {I} eq = (a b : I) → IsTrue (eq a b) ↔ (a ≡ b)
@@ -97,10 +96,7 @@ has_map f (y ∷ ys) x (inr h) = inr (has_map f ys x h)
 
 -- whoever lives was born
 pub living_born_in : (c : Census) → LivingBorn (population c)
-living_born_in c i l b =
-    let k = alive_at c.generations i (sym (lives_is c i) ∙ l) in
-    let z : 0 ≡ suc k.0 = sym b ∙ ap nat_abs k.1 in
-    omega (arith, z)
+living_born_in c = living_is_born c
 
 module _ {M I V D : Type 0} (id_of : M → I) (eq : I → I → Bool) (c : Conversion M V D) where
   pub loads_more : (a b d : Loading I V) (rs : List (EntityData M D)) (r : EntityData M D) → Loads id_of eq c a rs b → LoadsRecord id_of eq c b r d → Loads id_of eq c a (rs ++ r ∷ []) d

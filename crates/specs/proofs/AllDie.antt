@@ -1,23 +1,23 @@
 -- The living as a list, which may die.
 use Rattle.std.proofs.Common.{◌≡◌, ℕ, zero, suc, ◌<◌, Bool, true, false, not, ◌&&◌, ◌||◌, ◌==◌, List, [], ◌∷◌, length, map, refl, sym, ap, ◌∙◌, subst, inl, inr, arith}
-use Rattle.std.specs.Prelude.{slice_index_or}
+use Rattle.std.specs.Prelude.{slice_get, slice_index_or, Some}
 use Rattle.std.specs.FinSet as set
 use Rattle.std.specs.Ordering.{nat_cmp}
 use Rattle.std.specs.List.{All, Contains}
 use mathlib.Core.Path.{fun_ext}
-use Rattle.std.proofs.lemmas.Bool.{false≢true, cases_Bool, both_ways, eq-eqb}
+use Rattle.std.proofs.lemmas.Bool.{false≢true, cases_Bool, cases_lt, both_ways, eq-eqb}
 use Rattle.std.proofs.lemmas.List.{length-map, get_or-take, get_or_default, length-take-le}
 use Rattle.std.proofs.lemmas.List.Elements.{All-map}
+use Rattle.std.proofs.lemmas.List.Kept.{AllPairs-from_increasing}
+use Rattle.std.proofs.lemmas.Option.{slice_get-get_or, slice_get_past}
 use Rattle.std.proofs.lemmas.List.Folds.{list_any-from_Any}
 use Rattle.hibits.specs.declared.limits.TheConstants.{INDEX_LIMIT}
-use Rattle.hibits.specs.Left.{left, left-each, left-contains}
+use Rattle.hibits.specs.Left.{left, left-ascends, left-each, left-contains}
 use Rattle.hibits.specs.Sets.{has_part, has_part_zero}
 use Rattle.entities.specs.declared.entity.Entity.{Entity}
 use Rattle.entities.specs.Population.{Population, IsAlive, lives}
 use Rattle.entities.specs.Deaths.{AreDistinct, MayAllDie, IsFirstRefused, has_index, all_dead}
 use Rattle.entities.specs.Merges.{living_entity}
-use Rattle.entities.proofs.Population.Merging.{left-ascends}
-use Rattle.entities.proofs.Shared.Reserve.{slice_get_within, slice_get_is}
 use Rattle.specs.specs.People.{NobodyLives, the_living}
 use Rattle.specs.proofs.Counting.{none_left}
 
@@ -40,16 +40,26 @@ all_may_die p = (alive, distinct)
 
     distinct : AreDistinct (map (living_entity p) xs)
     distinct j k d less lt same =
-        let asc = left-ascends (lives p) 0 j k less (within k lt) in
+        let asc = AllPairs-from_increasing xs (left-ascends (lives p) 0) j k 0 less (within k lt) in
         let e = sym (entity_at p xs j d (omega (arith, within k lt))) ∙ same ∙ entity_at p xs k d (within k lt) in
         omega (arith, asc, ap (λ (x : Entity). x.0) e)
+
+-- what stands at a place of a list
+at_place : (es : List Entity) (k : ℕ) (e : Entity) → slice_get es k ≡ Some e → (k < length es) × (slice_index_or es k e ≡ e)
+at_place es k e is = elim (cases_lt k (length es)) [
+  | inl lt ↦ (lt, some_same (slice_index_or es k e) e (sym (slice_get-get_or es k e lt) ∙ is))
+  | inr past ↦ let none = slice_get_past es k past in absurd (cc)
+]
+  where
+    some_same : (a b : Entity) → Some a ≡ Some b → a ≡ b
+    some_same a b h = cc
 
 -- a list that may die is not refused
 pub not_refused : (p : Population) (es : List Entity) (e : Entity) → MayAllDie p es → IsFirstRefused p es e → ⊥
 not_refused p es e may first =
     let k = first.0 in
-    let lt : k < length es = slice_get_within es k e first.1.0 in
-    let is : slice_index_or es k e ≡ e = slice_get_is es k e e first.1.0 in
+    let lt : k < length es = (at_place es k e first.1.0).0 in
+    let is : slice_index_or es k e ≡ e = (at_place es k e first.1.0).1 in
     let alive : IsAlive p e = subst (IsAlive p) is (may.0 k e lt) in
     let earlier = first.1.1 alive in
     let before : earlier.0 < k = omega (arith, earlier.1, length-take-le k es (omega (arith, lt))) in

@@ -6,7 +6,6 @@ pub mod Lasting
 pub mod Runs
 pub mod Gone
 pub mod Values
-pub mod Shown
 pub mod Marked
 pub mod Kept
 pub mod AllDie
@@ -14,4 +13,3 @@ mod Telling
 pub mod Leading
 mod Advancing
 pub mod Following
-pub mod Lawful

@@ -1,16 +1,18 @@
 -- Lemmas by which a job of a user's meets its laws.
-use Rattle.std.proofs.Common.{◌≡◌, ℕ, true, List, [], refl, sym, ap, subst, inl, inr, append-nil}
+use Rattle.std.proofs.Common.{◌≡◌, ℕ, Bool, Option, true, List, [], refl, sym, ap, subst, inl, inr, append-nil}
 use Rattle.entities.specs.declared.entity.Entity.{Entity}
 use Rattle.entities.specs.Population.{born, born_pending}
 use Rattle.specs.specs.declared.command.Command.TheVariants.{Create, CreatePending}
 use Rattle.specs.specs.declared.command.Reply.TheVariants.{Entity as Told}
 use Rattle.specs.specs.declared.job.Job.{Job}
 use Rattle.specs.specs.Evolving.{Evolves, ValuesLive}
-use Rattle.specs.specs.Following.{IsFollowed, IsListening, AllSpare, Spared, unread_at}
+use Rattle.specs.specs.Following.{IsFollowed, IsListening, AllSpare, Spared, Tells, unread_at}
 use Rattle.specs.specs.Living.{keeps_step}
 use Rattle.specs.specs.People.{Births}
 use Rattle.specs.specs.Reached.{OnlyLiving}
-use Rattle.specs.specs.State.{State, OnPeople}
+use Rattle.specs.specs.State.{State, OnPeople, OnTable}
+use Rattle.specs.specs.Table.{Inserts}
+use Rattle.specs.proofs.Following.{inserted_keeps, living_below}
 
 module _ {K V : Type 0} where
   -- nothing changed
@@ -47,3 +49,10 @@ module _ {K V : Type 0} where
 
   pub nothing_tells : {S J : Type 0} (spares : J → K → ℕ → Type 0) (slot : K) (n : ℕ) (old new : State K V) (more : List (Job S J K V)) → DoesNothing old more new → IsFollowed slot n old → Spared spares slot n old more new
   nothing_tells spares slot n old new more s l = still_tells spares slot n old new more (ap (λ (s : State K V). s.table) s.1) (subst (AllSpare spares slot n) (sym s.0) tt) l
+
+-- An entity got a value: who follows the slot was told, and follows it still, and so does who follows another slot. `here` tells the slot from others.
+pub inserted_tells : {S J K V : Type 0} (spares : J → K → ℕ → Type 0) (slot : K) (n : ℕ) (here : K → Bool) → Tells here slot
+    → (place : V → K) (old new : State K V) (e : Entity) (value : V) (before : Option V) (more : List (Job S J K V)) → OnTable (λ t t'. Inserts place old.people t e value before t') old new → AllSpare spares slot n more → IsFollowed slot n old → Spared spares slot n old more new
+inserted_tells spares slot n here tells place old new e value before more s added l =
+    let keeps = inserted_keeps slot n here tells place old new e value before s l in
+    record { follows = λ w. keeps.advances (living_below slot old w); followed = keeps.listening; added = added }

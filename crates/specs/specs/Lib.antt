@@ -18,6 +18,7 @@ pub mod Gone
 pub mod Refused
 pub mod Lending
 pub mod Shows
+pub mod Shown
 pub mod Field
 pub mod Finds
 pub mod Writing

@@ -1,6 +1,6 @@
 use denote.Param.Send.{sendable}
 use Rattle.std.proofs.Crossing.{crosses}
-use Rattle.entities.proofs.Shared.Shares.{board_sync}
+use Rattle.entities.specs.Sharing.{board_sync}
 use Rattle.entities.proofs.phase.shared.Opened.TheSendSync as opened
 use Rattle.bench.proofs.threads.draw_all.Goals as goal
 

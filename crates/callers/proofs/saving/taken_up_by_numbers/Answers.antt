@@ -1,6 +1,10 @@
 use Rattle.std.proofs.Common.{refl}
-use Rattle.saveload.proofs.Rows.{on_ok}
+use Rattle.std.specs.Prelude.{Result, Ok, Err, OnOk}
 use Rattle.callers.proofs.saving.taken_up_by_numbers.Goals as goal
+
+on_ok : {A E P Q : Type 0} (r : Result A E) → (P → Q) → OnOk r P → OnOk r Q
+on_ok (Ok x) f h = f h
+on_ok (Err e) f h = h
 
 pub returns : goal.returns
 returns g c =

@@ -2,7 +2,7 @@ use Rattle.std.proofs.Common.{◌∙◌, ap}
 use Rattle.std.specs.Prelude.{Some, option_map}
 use Rattle.specs.specs.Shows.{column_as}
 use Rattle.specs.specs.Field.{field_column, column_of}
-use Rattle.specs.proofs.Shown.{on_ok, in_slot, field_clears, shown_clears}
+use Rattle.specs.specs.Shown.{on_ok, in_slot, field_clears, shown_clears}
 use Rattle.specs.proofs.by_type.clear.Goals as goal
 
 pub returns-in-Some-clause-ok : goal.returns-in-Some-clause-ok

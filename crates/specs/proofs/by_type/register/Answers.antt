@@ -2,7 +2,7 @@ use Rattle.std.proofs.Common.{rules, ◌≡◌, ◌∙◌, ap, Some, None}
 use Rattle.std.specs.Prelude.{option_map}
 use Rattle.specs.specs.Shows.{column_as}
 use Rattle.specs.specs.Field.{field_column, column_of}
-use Rattle.specs.proofs.Shown.{registers_fresh, others_stay}
+use Rattle.specs.specs.Shown.{registers_fresh, others_stay}
 use Rattle.specs.proofs.by_type.register.Goals as goal
 
 pub returns-in_ok-storage-clause-ok : goal.returns-in_ok-storage-clause-ok

@@ -3,7 +3,7 @@ use Rattle.std.specs.Prelude.{option_map, is_some}
 use Rattle.specs.specs.Shows.{column_as}
 use Rattle.specs.specs.Field.{field_column}
 use Rattle.specs.proofs.Values.{column_is}
-use Rattle.specs.proofs.Shown.{registers_as, no_values_as, others_stay}
+use Rattle.specs.specs.Shown.{registers_as, no_values_as, others_stay}
 use Rattle.specs.proofs.by_type.register_with.Goals as goal
 
 pub returns-then-is_none-clause-slice : goal.returns-then-is_none-clause-slice

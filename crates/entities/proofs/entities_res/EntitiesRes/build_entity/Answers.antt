@@ -1,6 +1,6 @@
 use Rattle.std.proofs.Common.{refl}
 use Rattle.entities.specs.Census.{population}
-use Rattle.entities.proofs.Population.Newborn.{newborn_alive}
+use Rattle.entities.specs.Living.{newborn_alive}
 use Rattle.entities.proofs.entities_res.EntitiesRes.build_entity.Goals as goal
 
 pub returns : goal.returns

@@ -1,7 +1,7 @@
 use Rattle.std.proofs.Common.{rules, ◌≡◌, ap, subst, ◌∙◌, Some, inl, inr, refl}
 use Rattle.entities.specs.Census.{population}
 use Rattle.entities.specs.Population.{Population, mark, index_of}
-use Rattle.entities.proofs.Population.Newborn.{newborn_alive}
+use Rattle.entities.specs.Living.{newborn_alive}
 use Rattle.saveload.specs.Told.IsTold.{start}
 use Rattle.saveload.specs.Naming.{ids_in, naming, NamesNobody, put_id}
 use Rattle.saveload.proofs.Ids.{mapped_given, names_nobody, when_ok}

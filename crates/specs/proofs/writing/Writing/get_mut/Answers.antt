@@ -3,7 +3,7 @@ use Rattle.std.proofs.lemmas.Bool.{false≢true}
 use Rattle.entities.specs.Census.{population}
 use Rattle.entities.specs.Population.{IsAlive}
 use Rattle.specs.proofs.Values.{found_at, lacks_at, lacks_dead, loan_wants, loan_ready}
-use Rattle.specs.proofs.Shown.{if_ok}
+use Rattle.specs.specs.Shown.{if_ok}
 use Rattle.specs.proofs.writing.Writing.get_mut.Goals as goal
 
 pub returns-then-not-is_alive : goal.returns-then-not-is_alive
