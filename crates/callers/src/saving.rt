@@ -1,5 +1,5 @@
 //! What is saved and loaded elsewhere is renamed, one to one; what marking says of the ids.
-ghost use Rattle.std.specs.Prelude.{◌≡◌, ◌<◌, ◌^◌, ℕ, None, Some, IsTrue, IfSome, OnSome, OnOk, true};
+ghost use Rattle.std.specs.Prelude.{◌≡◌, ◌<◌, ◌^◌, ℕ, None, Some, IsTrue, IfSome, OnSome, OnOk, is_some, true};
 ghost use Rattle.entities.specs.Census.{population};
 ghost use Rattle.saveload.specs.Law.{RenamesInto};
 ghost use Rattle.saveload.specs.Naming.{once_given};
@@ -11,8 +11,8 @@ ghost use Rattle.storages.specs.ReadView.{found as seen};
 ghost use Rattle.storages.specs.WriteView.{entities_of, found};
 
 use saveload::{
-    ConvertSaveload, DeserializeComponents, EntityData, JsonData, JsonPlaces, LoadError, Marker,
-    MarkerAllocator, SaveError, SerializeComponents, SimpleMarker, SimpleMarkerAllocator,
+    ConvertSaveload, DeserializeComponents, EntityData, JsonData, JsonPlaces, LoadError, MarkError,
+    Marker, MarkerAllocator, SaveError, SerializeComponents, SimpleMarker, SimpleMarkerAllocator,
     deserialize, from_json, next_number_is_new, one_renaming, serialize_recursive,
     serialize_to_json,
 };
@@ -132,4 +132,27 @@ pub fn stays_unmarked<M: Marker, A: MarkerAllocator<M>>(
     ensures left { IsTrue result → A.ids allocator.new ≡ A.ids allocator.old }
 {
     allocator.mark(e, markers).is_err()
+}
+
+/// Where ids are drawn, a new marker's id was mapped to nobody, and one that was refused as taken is mapped to somebody.
+pub fn drawn_for<M: Marker, A: MarkerAllocator<M>>(allocator: &mut A, e: Entity) -> Option<M>
+    requires { A.ids allocator.old ≡ None }
+    ensures new { IfSome result (λ m. A.mapping allocator.old (M.id_of m) ≡ None) }
+    ensures coming { IfSome result (λ m. M.id_of m ≡ A.coming allocator.old) }
+{
+    allocator.allocate(e, None).ok()
+}
+
+/// Whether an entity is refused a marker since the id that was drawn for it is taken.
+pub fn finds_it_taken<M: Marker, A: MarkerAllocator<M>>(
+    allocator: &mut A,
+    e: Entity,
+    markers: &mut WriteStorage<'_, M>,
+) -> bool
+    ensures { IsTrue result → is_some (A.mapping allocator.old (A.coming allocator.old)) ≡ true }
+{
+    match allocator.mark(e, markers) {
+        Err(MarkError::IdTaken) => true,
+        _ => false,
+    }
 }

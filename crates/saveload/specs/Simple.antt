@@ -1,5 +1,5 @@
 -- What a giver of numbers has given.
-use Rattle.std.specs.Prelude.{◌≡◌, ℕ, ◌+◌, ◌-◌, ◌^◌, max, List, [], ◌∷◌, Option, Some, nat_eq}
+use Rattle.std.specs.Prelude.{◌≡◌, ℕ, ◌+◌, ◌-◌, ◌^◌, max, List, [], ◌∷◌, Option, Some, None, nat_eq}
 use Rattle.std.specs.HashMap as hash
 use Rattle.entities.specs.declared.entity.Entity.{Entity}
 use Rattle.saveload.specs.declared.simple.SimpleMarker.{SimpleMarker}
@@ -16,6 +16,9 @@ given a = hash.get nat_eq a.mapping
 -- how many numbers are left, from the next one on
 abbrev pub numbers_from : ℕ → Option ℕ
 numbers_from next = Some (2 ^ 64 - next)
+
+pub numbers_are_counted : (next : ℕ) → numbers_from next ≡ None → ⊥
+numbers_are_counted next drawn = cc
 
 -- as many are left as from this number on, so it may come next
 abbrev pub comes_next : Option ℕ → ℕ → Type 0

@@ -72,6 +72,14 @@ pub trait MarkerAllocator<M: Marker> {
 
     ghost comes: { (a : Self) (id : M.Identifier) → MayBeNew a id → ComesNext (ids a) id };
 
+    // The id that a new marker gets next, unless it is taken.
+    ghost coming: { Self → M.Identifier };
+
+    ghost new_is_coming: { (a : Self) (id : M.Identifier) → MayBeNew a id → id ≡ coming a };
+
+    // Where ids are drawn, a new one is mapped to nobody.
+    ghost unmapped: { (a : Self) (id : M.Identifier) → ids a ≡ None → MayBeNew a id → mapping a id ≡ None };
+
     /// A marker of the given id, or of a new one, which is then mapped to the entity. A refusal leaves the map; for a given id
     /// it is want of memory.
     fn allocate(&mut self, entity: Entity, id: Option<M::Identifier>) -> Result<M, MarkError>
@@ -85,7 +93,8 @@ pub trait MarkerAllocator<M: Marker> {
         ensures passes { (i : M.Identifier) → id ≡ Some i → OnOk result (ids_past self.new ≡ once_given (ids_past self.old) i) }
         ensures err_ids { OnErr result (ids_past self.new ≡ ids_past self.old) }
         ensures used_up { result ≡ Err MarkError.IdsExhausted → ids self.old ≡ Some 0 }
-        ensures drawn { result ≡ Err MarkError.IdTaken → ids self.old ≡ None };
+        ensures drawn { result ≡ Err MarkError.IdTaken → ids self.old ≡ None }
+        ensures taken { result ≡ Err MarkError.IdTaken → is_some (mapping self.old (coming self.old)) ≡ true };
 
     /// The entity that an id is mapped to.
     fn retrieve_entity_internal(&self, id: M::Identifier) -> Option<Entity>
@@ -163,7 +172,8 @@ pub trait MarkerAllocator<M: Marker> {
         ensures err_past { OnErr result (ids_past self.new ≡ ids_past self.old) }
         ensures refused { IfErr result IsOfIds }
         ensures used_up { result ≡ Err MarkError.IdsExhausted → ids self.old ≡ Some 0 }
-        ensures drawn { result ≡ Err MarkError.IdTaken → ids self.old ≡ None };
+        ensures drawn { result ≡ Err MarkError.IdTaken → ids self.old ≡ None }
+        ensures taken { result ≡ Err MarkError.IdTaken → is_some (mapping self.old (coming self.old)) ≡ true };
 }
 
 // Of the entity that an id is mapped to, if there is one, whether the id names it: it is alive and has a marker of this id.

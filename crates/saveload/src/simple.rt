@@ -120,7 +120,7 @@ impl<T> SimpleMarkerAllocator<T> {
 
 impl<T> MarkerAllocator<SimpleMarker<T>> for SimpleMarkerAllocator<T> {
     ghost use Rattle.std.proofs.Common.{ap, sym};
-    ghost use Rattle.saveload.specs.Simple.{comes_next, given, number_of_marker, numbers_from, numbers_past};
+    ghost use Rattle.saveload.specs.Simple.{comes_next, given, number_of_marker, numbers_are_counted, numbers_from, numbers_past};
 
     ghost mapping = { λ a. given a };
 
@@ -135,6 +135,12 @@ impl<T> MarkerAllocator<SimpleMarker<T>> for SimpleMarkerAllocator<T> {
     ghost ComesNext = { comes_next };
 
     ghost comes = { λ a id e. ap numbers_from (sym e) };
+
+    ghost coming = { λ a. a.next };
+
+    ghost new_is_coming = { λ a id e. e };
+
+    ghost unmapped = { λ a id drawn e. absurd (numbers_are_counted a.next drawn) };
 
     fn allocate(&mut self, entity: Entity, id: Option<u64>) -> Result<SimpleMarker<T>, MarkError>
         ensures given { (i : ℕ) → id ≡ Some i → IfOk result (λ m. m.id ≡ i) }

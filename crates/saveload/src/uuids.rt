@@ -173,6 +173,12 @@ impl<R: Rng> MarkerAllocator<UuidMarker<R>> for UuidMarkerAllocator<R> {
 
     ghost comes = { λ a id e. refl };
 
+    ghost coming = { λ a. drawn_from (R.stream a.generator) };
+
+    ghost new_is_coming = { λ a id drawn. drawn.0 };
+
+    ghost unmapped = { λ a id counted drawn. drawn.1 };
+
     fn allocate(&mut self, entity: Entity, id: Option<Uuid>) -> Result<UuidMarker<R>, MarkError>
         ensures given { (i : _) → id ≡ Some i → IfOk result (λ m. m.uuid ≡ i) }
         ensures new { id ≡ None → IfOk result (λ m. IsDrawn (given_uuids self.old) (R.stream self.old.generator) m.uuid) }

@@ -6,7 +6,7 @@ ghost use Rattle.entities.specs.Census.{population};
 ghost use Rattle.saveload.specs.Marking.{MarksNew, MayHaveGiven, IsOfIds, TakesOne};
 ghost use Rattle.saveload.specs.Naming.{put_id, once_given};
 ghost use Rattle.saveload.specs.Numbers.{same_numbers};
-ghost use Rattle.saveload.specs.Simple.{comes_next, numbers_from, numbers_past};
+ghost use Rattle.saveload.specs.Simple.{comes_next, numbers_are_counted, numbers_from, numbers_past};
 ghost use Rattle.storages.specs.Life.{is_alive};
 ghost use Rattle.storages.specs.Slot.{IsSame};
 ghost use Rattle.storages.specs.WriteView.{slot, entities_of, found, storage_name};
@@ -79,6 +79,12 @@ impl MarkerAllocator<NetMarker> for NetNode {
     ghost ComesNext = { comes_next };
 
     ghost comes = { λ a id e. ap numbers_from (sym e) };
+
+    ghost coming = { λ a. a.next };
+
+    ghost new_is_coming = { λ a id e. e };
+
+    ghost unmapped = { λ a id drawn e. absurd (numbers_are_counted a.next drawn) };
 
     fn allocate(&mut self, entity: Entity, id: Option<u64>) -> Result<NetMarker, MarkError>
         ensures given { (i : ℕ) → id ≡ Some i → IfOk result (λ m. m.id ≡ i) }
