@@ -1,13 +1,12 @@
 -- A reader who follows a slot gets what leads from its values before a run to those after.
-use Rattle.std.proofs.Common.{◌≡◌, ◌≢◌, ◌<◌, ℕ, Bool, true, false, eqb, List, [], ◌∷◌, ◌++◌, refl, sym, ap, ◌∙◌, subst, Option, Some, None, is_some, inl, inr, append_assoc, pos}
-use Rattle.std.specs.Prelude.{IsSome, MatchOption, ◌⊎◌}
+use Rattle.std.proofs.Common.{◌≡◌, ◌≢◌, ℕ, Bool, true, false, eqb, List, [], ◌∷◌, ◌++◌, refl, sym, ap, ◌∙◌, subst, Option, Some, None, is_some, inl, inr, append_assoc, pos}
+use Rattle.std.specs.Prelude.{MatchOption, ◌⊎◌}
 use Rattle.std.specs.Cmp.{signed_Decides}
 use Rattle.std.specs.Option.{option_map}
 use Rattle.std.specs.Ordering.{int_eq}
 use mathlib.Core.Path.{fun_ext}
 use Rattle.std.proofs.lemmas.Bool.{false≢true, cases_Bool, both_ways}
 use Rattle.std.proofs.lemmas.List.Folds.{list_any-append}
-use Rattle.hibits.specs.declared.limits.TheConstants.{INDEX_LIMIT}
 use Rattle.entities.specs.declared.entity.Entity.{Entity}
 use Rattle.entities.specs.Population.{Population, index_of, generation_of, lives, IsAlive}
 use Rattle.entities.specs.Merges.{the_marked}
@@ -20,13 +19,12 @@ use Rattle.specs.specs.declared.command.Command.TheVariants.{Register, Create, C
 use Rattle.specs.specs.declared.command.Reply.{Reply}
 use Rattle.specs.specs.declared.command.Reply.TheVariants.{Done, Entity as Told, Bool as Yes, Value, Count, Indices, Maintained as Kept, Reader as NewReader, Events as Given, Refused, InsertRefused}
 use Rattle.specs.specs.Column.{Column, without_values}
-use Rattle.specs.specs.Table.{Table, Becomes, Begins, Removes}
+use Rattle.specs.specs.Table.{Table, Begins, Removes}
 use Rattle.specs.specs.Readers.{with_channel}
 use Rattle.specs.specs.People.{the_living}
 use Rattle.specs.specs.Reached.{OnlyLiving}
 use Rattle.specs.specs.State.{State, OnTable, merged}
 use Rattle.specs.specs.Steps.{WorldState, CoreStep, Maintains, Step, Run}
-use Rattle.specs.specs.Table.{Inserts}
 use Rattle.specs.specs.declared.command.Maintained.{Maintained}
 use Rattle.specs.specs.declared.job.Job.{Job}
 use Rattle.specs.specs.Evolving.{Evolves, ValuesLive}
@@ -37,9 +35,10 @@ use Rattle.specs.proofs.Lasting.{living_whatever_ids, grown, merged_kept, insert
 use Rattle.specs.specs.Leading.{index_at, replay, is_named}
 use Rattle.specs.specs.Following.{values, unread, IsListening, IsFollowed, Follows, Replays, given_by, given, Throughout, JobSpares, AllSpare, Spared, IsWatched, IsQuiet, AreQuiet, Tells}
 use Rattle.specs.specs.Marks.{Markers}
-use Rattle.specs.proofs.Leading.{leads_more, replay-append, or_false}
+use Rattle.specs.specs.Leads.{leads_more, replay-append, or_false}
 use Rattle.storages.specs.Heard.{dropped_gone}
-use Rattle.specs.proofs.Advancing.{IsBelow, Keeps, stays, puts, takes, loses, empties, registers, drops, switches, reads}
+use Rattle.specs.specs.Advancing.{Keeps, puts, takes, loses, empties, registers, drops, switches, reads}
+use Rattle.specs.specs.OneSlot.{KeepsAt, is_or_not, same_slot, same_table, one_slot, one_quiet, inserted_keeps, living_below}
 
 -- an entity lives or not
 alive_or_not : (p : Population) (e : Entity) → IsAlive p e ⊎ (IsAlive p e → ⊥)
@@ -51,91 +50,55 @@ alive_or_not p e = elim (cases_Bool (lives p (index_of e))) [
   | inr off ↦ inr (λ a. both_ways _ off a.0)
 ]
 
-some_below : {V : Type 0} (o : Option (Column V)) → ((c : Column V) (i : ℕ) → o ≡ Some c → IsSome (c.values i) → i < INDEX_LIMIT) → IsBelow o
-some_below None below i h = absurd (false≢true h)
-some_below (Some c) below i h = below c i refl h
-
-pub living_below : {K V : Type 0} (slot : K) (s : State K V) → OnlyLiving s → IsBelow (s.table slot)
-living_below slot s w = some_below (s.table slot) (λ c i is has. w.below i (w.born i (w.values slot c i is has)))
-
--- a slot is this one or not
-is_or_not : {K : Type 0} (slot : K) (here : K → Bool) → Tells here slot → (s : K) → (s ≡ slot) ⊎ (s ≢ slot)
-is_or_not slot here tells s = elim (cases_Bool (here s)) [ inl on ↦ inl ((tells s).0 on) | inr off ↦ inr (λ e. both_ways _ off ((tells s).1 e)) ]
-
 module _ {K V : Type 0} (slot : K) (n : ℕ) (here : K → Bool) (tells : Tells here slot) where
-  -- what the reader of the slot has from one table to the next
-  abbrev KeepsAt : Table K V → Table K V → List ComponentEvent → Type 0
-  KeepsAt old new given = Keeps n (old slot) (new slot) given
-
-  same_slot : (old new : Table K V) → new slot ≡ old slot → IsListening n (old slot) → KeepsAt old new []
-  same_slot old new same l = subst (λ (o : Option (Column V)). Keeps n (old slot) o []) (sym same) (stays n (old slot) l)
-
-  same_table : (old new : Table K V) → new ≡ old → IsListening n (old slot) → KeepsAt old new []
-  same_table old new same l = same_slot old new (ap (λ (t : Table K V). t slot) same) l
-
-  -- one slot's column changed
-  one_slot : (s : K) (old new : Table K V) (c c' : Column V) (es : List ComponentEvent) → old s ≡ Some c → Becomes old s c' new → IsListening n (old slot)
-      → (s ≡ slot → IsListening n (Some c) → Keeps n (Some c) (Some c') es) → (s ≢ slot → es ≡ []) → KeepsAt old new es
-  one_slot s old new c c' es was b l change none = elim (is_or_not slot here tells s) [
-    | inl same ↦
-        let before : old slot ≡ Some c = subst (λ t. old t ≡ Some c) same was in
-        let after : new slot ≡ Some c' = subst (λ t. new t ≡ Some c') same b.here in
-        subst (λ (o : Option (Column V)). Keeps n o (new slot) es) (sym before) (subst (λ (o : Option (Column V)). Keeps n (Some c) o es) (sym after) (change same (subst (IsListening n) before l)))
-    | inr other ↦ subst (λ (gs : List ComponentEvent). KeepsAt old new gs) (sym (none other)) (same_slot old new (b.others slot (λ q. other (sym q))) l)
-  ]
-
-  -- and the reader was given nothing
-  one_quiet : (s : K) (old new : Table K V) (c c' : Column V) → old s ≡ Some c → Becomes old s c' new → IsListening n (old slot) → (s ≡ slot → IsListening n (Some c) → Keeps n (Some c) (Some c') []) → KeepsAt old new []
-  one_quiet s old new c c' was b l change = one_slot s old new c c' [] was b l change (λ _. refl)
-
-  starts : (s : K) (old new : Table K V) (o : Option (Column V)) → o ≡ old s → MatchOption o (Begins old s new) (λ _. new ≡ old) → IsListening n (old slot) → KeepsAt old new []
+  starts : (s : K) (old new : Table K V) (o : Option (Column V)) → o ≡ old s → MatchOption o (Begins old s new) (λ _. new ≡ old) → IsListening n (old slot) → KeepsAt slot n old new []
   starts s old new None e r l = elim (is_or_not slot here tells s) [
     | inl same ↦ absurd (subst (λ (o : Option (Column V)). IsListening n o) (sym (subst (λ t. None ≡ old t) same e)) l)
-    | inr other ↦ same_slot old new (r.becomes.others slot (λ q. other (sym q))) l
+    | inr other ↦ same_slot slot n old new (r.becomes.others slot (λ q. other (sym q))) l
   ]
-  starts s old new (Some c) e r l = same_table old new r l
+  starts s old new (Some c) e r l = same_table slot n old new r l
 
-  removes : (p : Population) (s : K) (e : Entity) (found : Option V) (old new : Table K V) → Removes p old s e found new → IsListening n (old slot) → KeepsAt old new []
+  removes : (p : Population) (s : K) (e : Entity) (found : Option V) (old new : Table K V) → Removes p old s e found new → IsListening n (old slot) → KeepsAt slot n old new []
   removes p s e found old new r l = elim (alive_or_not p e) [
-    | inl a ↦ one_quiet s old new r.column _ r.registered (r.alive a).1 l (λ same. takes n r.column (index_of e))
-    | inr d ↦ same_table old new (r.dead d).1 l
+    | inl a ↦ one_quiet slot n here tells s old new r.column _ r.registered (r.alive a).1 l (λ same. takes n r.column (index_of e))
+    | inr d ↦ same_table slot n old new (r.dead d).1 l
   ]
 
-  deaths : (es : List Entity) (old new : State K V) → new.table slot ≡ option_map (without_values es) (old.table slot) → IsListening n (old.table slot) → KeepsAt old.table new.table []
+  deaths : (es : List Entity) (old new : State K V) → new.table slot ≡ option_map (without_values es) (old.table slot) → IsListening n (old.table slot) → KeepsAt slot n old.table new.table []
   deaths es old new is l = subst (λ (o : Option (Column V)). Keeps n (old.table slot) o []) (sym is) (loses n es (old.table slot) l)
 
   pub keeps_following : {S J : Type 0} (spares : J → K → ℕ → Type 0) (place : V → K) (allocates : K → Bool) (old : State K V) (c : Command S J K V) (r : Reply V) (new : State K V) → CoreStep place allocates old c r new → IsQuiet spares slot n c → IsFollowed slot n old → Keeps n (old.table slot) (new.table slot) (given_by here n c r)
-  keeps_following spares place allocates old command (Refused r) new s q l = same_table old.table new.table (ap (λ (t : State K V). t.table) s.1) l
+  keeps_following spares place allocates old command (Refused r) new s q l = same_table slot n old.table new.table (ap (λ (t : State K V). t.table) s.1) l
   keeps_following spares place allocates old (Register slot') Done new s q l = starts slot' old.table new.table (old.table slot') refl s.table l
-  keeps_following spares place allocates old Create (Told e) new s q l = same_table old.table new.table s.table l
-  keeps_following spares place allocates old CreatePending (Told e) new s q l = same_table old.table new.table s.table l
+  keeps_following spares place allocates old Create (Told e) new s q l = same_table slot n old.table new.table s.table l
+  keeps_following spares place allocates old CreatePending (Told e) new s q l = same_table slot n old.table new.table s.table l
   keeps_following spares place allocates old (Delete es) Done new s q l = deaths es.items old new (s.table slot) l
   keeps_following spares place allocates old DeleteAll Done new s q l = deaths (the_living old.people) old new (s.table slot) l
-  keeps_following spares place allocates old (MarkDead e) Done new s q l = same_table old.table new.table s.table l
-  keeps_following spares place allocates old (AskAlive e) (Yes b) new s q l = same_table old.table new.table (ap (λ (t : State K V). t.table) s.1) l
-  keeps_following spares place allocates old (AskLiving e) (Yes b) new s q l = same_table old.table new.table (ap (λ (t : State K V). t.table) s.1) l
-  keeps_following spares place allocates old (EntityAt i) (Told e) new s q l = same_table old.table new.table (ap (λ (t : State K V). t.table) s.1) l
-  keeps_following spares place allocates old (Insert e value) (Value before) new s q l = one_quiet (place value) old.table new.table s.table.column _ s.table.registered s.table.put l (λ same. puts n s.table.column (index_of e) value)
-  keeps_following spares place allocates old (Insert e value) (InsertRefused r back) new s q l = same_table old.table new.table (ap (λ (t : State K V). t.table) s.2) l
-  keeps_following spares place allocates old (Get k e) (Value found) new s q l = same_table old.table new.table (ap (λ (t : State K V). t.table) s.1) l
+  keeps_following spares place allocates old (MarkDead e) Done new s q l = same_table slot n old.table new.table s.table l
+  keeps_following spares place allocates old (AskAlive e) (Yes b) new s q l = same_table slot n old.table new.table (ap (λ (t : State K V). t.table) s.1) l
+  keeps_following spares place allocates old (AskLiving e) (Yes b) new s q l = same_table slot n old.table new.table (ap (λ (t : State K V). t.table) s.1) l
+  keeps_following spares place allocates old (EntityAt i) (Told e) new s q l = same_table slot n old.table new.table (ap (λ (t : State K V). t.table) s.1) l
+  keeps_following spares place allocates old (Insert e value) (Value before) new s q l = one_quiet slot n here tells (place value) old.table new.table s.table.column _ s.table.registered s.table.put l (λ same. puts n s.table.column (index_of e) value)
+  keeps_following spares place allocates old (Insert e value) (InsertRefused r back) new s q l = same_table slot n old.table new.table (ap (λ (t : State K V). t.table) s.2) l
+  keeps_following spares place allocates old (Get k e) (Value found) new s q l = same_table slot n old.table new.table (ap (λ (t : State K V). t.table) s.1) l
   keeps_following spares place allocates old (Remove k e) (Value found) new s q l = removes old.people k e found old.table new.table s.table l
-  keeps_following spares place allocates old (Clear k) Done new s q l = one_quiet k old.table new.table s.table.column _ s.table.registered s.table.cleared l (λ same. empties n s.table.column)
-  keeps_following spares place allocates old (AskCount k) (Count m) new s q l = same_table old.table new.table (ap (λ (t : State K V). t.table) s.1) l
-  keeps_following spares place allocates old (Select x) (Indices is) new s q l = same_table old.table new.table (ap (λ (t : State K V). t.table) s.1) l
-  keeps_following spares place allocates old (Reader k) (NewReader m) new s q l = one_quiet k old.table new.table s.table.column _ s.table.registered s.table.becomes l (λ same. registers n s.table.column)
-  keeps_following spares place allocates old (Events k m) (Given es) new s q l = one_slot k old.table new.table s.table.column _ _ s.table.registered s.table.becomes l
+  keeps_following spares place allocates old (Clear k) Done new s q l = one_quiet slot n here tells k old.table new.table s.table.column _ s.table.registered s.table.cleared l (λ same. empties n s.table.column)
+  keeps_following spares place allocates old (AskCount k) (Count m) new s q l = same_table slot n old.table new.table (ap (λ (t : State K V). t.table) s.1) l
+  keeps_following spares place allocates old (Select x) (Indices is) new s q l = same_table slot n old.table new.table (ap (λ (t : State K V). t.table) s.1) l
+  keeps_following spares place allocates old (Reader k) (NewReader m) new s q l = one_quiet slot n here tells k old.table new.table s.table.column _ s.table.registered s.table.becomes l (λ same. registers n s.table.column)
+  keeps_following spares place allocates old (Events k m) (Given es) new s q l = one_slot slot n here tells k old.table new.table s.table.column _ _ s.table.registered s.table.becomes l
       (λ same. rw ((tells k).1 same) (reads n s.table.column m es.items s.table.said))
       (λ other. rw (off k other) refl)
     where
       off : (k : K) → k ≢ slot → here k ≡ false
       off k other = elim (cases_Bool (here k)) [ inl on ↦ absurd (other ((tells k).0 on)) | inr f ↦ f ]
-  keeps_following spares place allocates old (DropReader k m) Done new s q l = one_quiet k old.table new.table s.table.column _ s.table.registered s.table.becomes l (λ same. drops n s.table.column m (q same))
-  keeps_following spares place allocates old (Emit k on) Done new s q l = one_quiet k old.table new.table s.table.column _ s.table.registered s.table.becomes l (λ same. switches n s.table.column on (q same))
+  keeps_following spares place allocates old (DropReader k m) Done new s q l = one_quiet slot n here tells k old.table new.table s.table.column _ s.table.registered s.table.becomes l (λ same. drops n s.table.column m (q same))
+  keeps_following spares place allocates old (Emit k on) Done new s q l = one_quiet slot n here tells k old.table new.table s.table.column _ s.table.registered s.table.becomes l (λ same. switches n s.table.column on (q same))
   keeps_following spares place allocates old command reply new s q l = absurd s
 
   -- the events are on after it, and the reader is registered, so it switched none off and dropped another
   follows_step : {S J : Type 0} (spares : J → K → ℕ → Type 0) (place : V → K) (allocates : K → Bool) (old : State K V) (c : Command S J K V) (r : Reply V) (new : State K V) → CoreStep place allocates old c r new → OnlyLiving old → IsFollowed slot n old → IsFollowed slot n new → Follows slot n old new (given_by here n c r)
-  follows_step spares place allocates old command (Refused r) new s w l after = (same_table old.table new.table (ap (λ (t : State K V). t.table) s.1) l).advances (living_below slot old w)
+  follows_step spares place allocates old command (Refused r) new s w l after = (same_table slot n old.table new.table (ap (λ (t : State K V). t.table) s.1) l).advances (living_below slot old w)
   follows_step spares place allocates old (DropReader k m) Done new s w l after = (keeps_following {S = ℕ} spares place allocates old (DropReader k m) Done new s (λ same own. dropped_is_gone k m s.table.column s.table.column.channel new.table (subst (λ (t : K). new.table t ≡ Some (with_channel s.table.column (without_reader m s.table.column.channel))) same s.table.becomes.here) own after) l).advances (living_below slot old w)
     where
       dropped_is_gone : (k : K) (m : ℕ) (c : Column V) (channel : Channel) (t : Table K V) → t slot ≡ Some (with_channel c (without_reader m channel)) → m ≡ n → IsListening n (t slot) → ⊥
@@ -158,11 +121,8 @@ module _ {K V : Type 0} (slot : K) (n : ℕ) (here : K → Bool) (tells : Tells 
         ∙ ap (λ xs. xs ++ k.events) f.told ∙ append_assoc (unread a slot n) f.events k.events;
   }
 
-  -- what the insertion and the removal of a job leave the reader
-  pub inserted_keeps : (place : V → K) (old new : State K V) (e : Entity) (value : V) (before : Option V) → OnTable (λ t t'. Inserts place old.people t e value before t') old new → IsFollowed slot n old → KeepsAt old.table new.table []
-  inserted_keeps place old new e value before s l = keeps_following {S = ℕ} {J = ℕ} (λ _ _ _. Unit {0}) place (λ _. false) old (Insert e value) (Value before) new s tt l
-
-  removed_keeps : (place : V → K) (old new : State K V) (k : K) (e : Entity) (found : Option V) → OnTable (λ t t'. Removes old.people t k e found t') old new → IsFollowed slot n old → KeepsAt old.table new.table []
+  -- what the removal of a job leaves the reader
+  removed_keeps : (place : V → K) (old new : State K V) (k : K) (e : Entity) (found : Option V) → OnTable (λ t t'. Removes old.people t k e found t') old new → IsFollowed slot n old → KeepsAt slot n old.table new.table []
   removed_keeps place old new k e found s l = keeps_following {S = ℕ} {J = ℕ} (λ _ _ _. Unit {0}) place (λ _. false) old (Remove k e) (Value found) new s tt l
 
   -- a state in the middle of a run of jobs, to which what followed leads from the first one
@@ -178,7 +138,7 @@ module _ {K V : Type 0} (slot : K) (n : ℕ) (here : K → Bool) (tells : Tells 
     follows = record { events = h.follows.events; leads = h.follows.leads; told = h.follows.told };
   }
 
-  goes_on : (first old new : State K V) → GoesOn first old → OnlyLiving new → KeepsAt old.table new.table [] → GoesOn first new
+  goes_on : (first old new : State K V) → GoesOn first old → OnlyLiving new → KeepsAt slot n old.table new.table [] → GoesOn first new
   goes_on first old new h living k = record { living = living; followed = k.listening; follows = follows_more first old new [] [] h.follows (k.advances (living_below slot old h.living)) }
 
   module _ {S J : Type 0} (place : V → K) (allocates : K → Bool) (marks : Markers K V) (does : J → State K V → List (Job S J K V) → State K V → Type 0) (wants : J → State K V → Type 0) (spares : J → K → ℕ → Type 0)
@@ -186,7 +146,7 @@ module _ {K V : Type 0} (slot : K) (n : ℕ) (here : K → Bool) (tells : Tells 
     -- jobs that spare a reader let it follow the slot
     followed_jobs : (stopped : Bool) (limit count counted : ℕ) (old new : State K V) (jobs left : List (Job S J K V)) → RunsJobs place marks does wants stopped limit count counted old jobs new left → AllSpare spares slot n jobs → IsFollowed slot n old → IsFollowed slot n new × AllSpare spares slot n left
     followed_jobs = carried place marks does wants (IsFollowed slot n) (JobSpares spares slot n) (λ s ids l. l)
-        (λ place old new e value before s l. (inserted_keeps place old new e value before s l).listening)
+        (λ place old new e value before s l. (inserted_keeps slot n here tells place old new e value before s l).listening)
         (λ old new k e found s l. (removed_keeps place old new k e found s l).listening)
         (λ j old new more q s l. ((law j slot n old new more s q l).followed, (law j slot n old new more s q l).added))
         (λ pairs rest q. tt)
@@ -222,7 +182,7 @@ module _ {K V : Type 0} (slot : K) (n : ℕ) (here : K → Bool) (tells : Tells 
       maintain_follows old new limit m s w h =
           let dying = deaths (the_marked old.core.people) old.core (merged old.core) refl h.followed in
           (carried place marks does wants (GoesOn old.core) (JobSpares spares slot n) (goes_whatever_ids old.core)
-          (λ place a b e value before s h. goes_on old.core a b h (inserted_living place a b e value before s h.living) (inserted_keeps place a b e value before s h.followed))
+          (λ place a b e value before s h. goes_on old.core a b h (inserted_living place a b e value before s h.living) (inserted_keeps slot n here tells place a b e value before s h.followed))
           (λ a b k e found s h. goes_on old.core a b h (removed_living place a b k e found s h.living) (removed_keeps place a b k e found s h.followed))
           (λ j a b more q s h. (own_goes_on old.core j a b more q s h, (law j slot n a b more s q h.followed).added))
           (λ pairs rest q. tt)
@@ -237,12 +197,12 @@ module _ {K V : Type 0} (slot : K) (n : ℕ) (here : K → Bool) (tells : Tells 
           }
 
       world_follows : (old : WorldState S J K V) (c : Command S J K V) (r : Reply V) (new : WorldState S J K V) → Step place allocates marks does wants old c r new → OnlyLiving old.core → IsWatched spares slot n old → IsWatched spares slot n new → Follows slot n old.core new.core (given_by here n c r)
-      world_follows old (Queue job) Done new s w h after = (same_table old.core.table new.core.table (ap (λ (t : State K V). t.table) s.core) h.followed).advances (living_below slot old.core w)
+      world_follows old (Queue job) Done new s w h after = (same_table slot n old.core.table new.core.table (ap (λ (t : State K V). t.table) s.core) h.followed).advances (living_below slot old.core w)
       world_follows old (Maintain limit) (Kept m) new s w h after = maintain_follows old new limit m s w h
       world_follows old c r new s w h after = follows_step spares place allocates old.core c r new.core s.core w h.followed after.followed
 
       pub follows_run : (cs : List (Command S J K V)) (rs : List (Reply V)) (old new : WorldState S J K V) (run : Run place allocates marks does wants old cs rs new) → Throughout place allocates marks does wants (IsWatched spares slot n) old cs rs new run → OnlyLiving old.core → Follows slot n old.core new.core (given here n cs rs)
-      follows_run [] [] old new run t w = (same_table old.core.table new.core.table (ap (λ (s : WorldState S J K V). s.core.table) run) t.followed).advances (living_below slot old.core w)
+      follows_run [] [] old new run t w = (same_table slot n old.core.table new.core.table (ap (λ (s : WorldState S J K V). s.core.table) run) t.followed).advances (living_below slot old.core w)
       follows_run [] (r ∷ rs) old new run t w = absurd run
       follows_run (c ∷ cs) [] old new run t w = absurd run
       follows_run (c ∷ cs) (r ∷ rs) old new run t w =

@@ -9,7 +9,4 @@ pub mod Values
 pub mod Marked
 pub mod Kept
 pub mod AllDie
-mod Telling
-pub mod Leading
-mod Advancing
 pub mod Following

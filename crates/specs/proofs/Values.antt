@@ -24,7 +24,7 @@ use Rattle.storages.specs.declared.masked.NotLent.TheVariants.{Absent, OutOfMemo
 use Rattle.storages.specs.Life.{is_alive}
 use Rattle.storages.specs.Found.{found_in}
 use Rattle.specs.specs.Maps.{Map, put, without_one, no_value}
-use Rattle.specs.specs.Column.{Column, IsFresh, wants_memory, without_value, without_values}
+use Rattle.specs.specs.Column.{Column, IsFresh, wants_memory, without_value, without_values, column_is}
 use Rattle.std.specs.List.{Contains}
 use Rattle.std.proofs.lemmas.List.Elements.{All-contains_itself}
 use Rattle.hibits.specs.Left.{left, contains-left}
@@ -93,12 +93,6 @@ module _ {E : Type 0} where
   ] e
 
 module _ {V : Type 0} where
-  abbrev the_column : Map V → Channel → Bool → Column V
-  the_column v c b = record { values = v; channel = c; inner = b }
-
-  pub column_is : {v v' : Map V} {c c' : Channel} {b b' : Bool} → v ≡ v' → c ≡ c' → b ≡ b' → the_column v c b ≡ the_column v' c' b'
-  column_is {v} {v'} {c} {c'} {b} {b'} e f g = ap (λ x. the_column x c b) e ∙ ap (λ x. the_column v' x b) f ∙ ap (λ x. the_column v' c' x) g
-
   -- nothing is there to be removed
   removed_none : (m : Map V) (i : ℕ) → m i ≡ None → without_one m i ≡ m
   removed_none m i e = fun_ext (λ j. elim (cases_eq i j) [

@@ -1,5 +1,5 @@
 -- The calls on the channel of a slot's events, as one.
-use Rattle.std.specs.Prelude.{◌≡◌, Option, Some, None, IsSome, true}
+use Rattle.std.specs.Prelude.{◌≡◌, Option, Some, IsSome, true}
 use Rattle.storages.specs.Channel.{Channel}
 use Rattle.storages.specs.Tracking.{with_reader, after_read, without_reader, switched}
 use Rattle.storages.specs.Unread.{unread_of}

@@ -1,4 +1,5 @@
 -- A slot that is registered: its values, and the channel that tells of each change.
+use Rattle.std.proofs.Common.{ap, ◌∙◌}
 use Rattle.std.specs.Prelude.{◌≡◌, ◌||◌, Bool, false, ℕ, List, [], Option, Some, None, cond}
 use Rattle.hibits.specs.Left.{left}
 use Rattle.entities.specs.declared.entity.Entity.{Entity}
@@ -46,3 +47,11 @@ module _ {V : Type 0} where
   abbrev pub WantsNone : Option (Column V) → Type 0
   WantsNone None = Unit {0}
   WantsNone (Some c) = wants_memory c ≡ false
+
+-- columns of equal parts
+module _ {V : Type 0} where
+  abbrev the_column : Map V → Channel → Bool → Column V
+  the_column v c b = record { values = v; channel = c; inner = b }
+
+  pub column_is : {v v' : Map V} {c c' : Channel} {b b' : Bool} → v ≡ v' → c ≡ c' → b ≡ b' → the_column v c b ≡ the_column v' c' b'
+  column_is {v} {v'} {c} {c'} {b} {b'} e f g = ap (λ x. the_column x c b) e ∙ ap (λ x. the_column v' x b) f ∙ ap (λ x. the_column v' c' x) g

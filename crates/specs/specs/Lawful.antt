@@ -12,7 +12,7 @@ use Rattle.specs.specs.People.{Births}
 use Rattle.specs.specs.Reached.{OnlyLiving}
 use Rattle.specs.specs.State.{State, OnPeople, OnTable}
 use Rattle.specs.specs.Table.{Inserts}
-use Rattle.specs.proofs.Following.{inserted_keeps, living_below}
+use Rattle.specs.specs.OneSlot.{inserted_keeps, living_below}
 
 module _ {K V : Type 0} where
   -- nothing changed

@@ -29,6 +29,10 @@ pub mod Creating
 pub mod Dropping
 pub mod Leading
 pub mod Following
+pub mod Leads
+pub mod Telling
+pub mod Advancing
+pub mod OneSlot
 pub mod Laws
 pub mod Living
 pub mod Lawful

@@ -9,12 +9,11 @@ use Rattle.std.specs.Ordering.{nat_cmp}
 use Rattle.std.specs.FinMap as map
 use Rattle.specs.specs.Registering.{RegistersAs}
 use Rattle.specs.specs.Maps.{Map, has_value, no_value}
-use Rattle.specs.specs.Column.{Column, IsFresh, WantsNone, with_value, without_value, without_values, emptied}
+use Rattle.specs.specs.Column.{Column, IsFresh, WantsNone, with_value, without_value, without_values, emptied, column_is}
 use Rattle.hibits.specs.Left.{left}
 use Rattle.storages.specs.Channel.{Channel, emitted, emitted_removals}
 use Rattle.storages.specs.Removals.{lost}
 use Rattle.storages.specs.declared.event.ComponentEvent.TheVariants.{Inserted, Modified, Removed}
-use Rattle.specs.proofs.Values.{column_is}
 use Rattle.specs.specs.Table.{Table, Becomes, Begins, Registers, Inserts, Gets, Removes, Clears, ClearIsRefused}
 use Rattle.specs.specs.declared.command.Refusal.{Refusal}
 use Rattle.specs.specs.declared.command.Refusal.TheVariants.{WrongGeneration as Wrong, Unregistered, IndexLimit, OutOfMemory, Untracked, UnknownReader}

@@ -2,7 +2,7 @@ use Rattle.std.proofs.Common.{rules, ◌≡◌, ◌∙◌, ap, Some, None}
 use Rattle.std.specs.Prelude.{option_map, is_some}
 use Rattle.specs.specs.Shows.{column_as}
 use Rattle.specs.specs.Field.{field_column}
-use Rattle.specs.proofs.Values.{column_is}
+use Rattle.specs.specs.Column.{column_is}
 use Rattle.specs.specs.Shown.{registers_as, no_values_as, others_stay}
 use Rattle.specs.proofs.by_type.register_with.Goals as goal
 

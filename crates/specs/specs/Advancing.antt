@@ -19,8 +19,8 @@ use Rattle.specs.specs.Column.{Column, with_value, without_value, without_values
 use Rattle.specs.specs.Readers.{with_channel}
 use Rattle.specs.specs.Leading.{Leads}
 use Rattle.specs.specs.Following.{or_none, values_of, unread_at, IsListening, Advances}
-use Rattle.specs.proofs.Leading.{leads_none, leads_put, leads_without_one, same_without_one, leads_lost, leads_cleared}
-use Rattle.specs.proofs.Telling.{still_some, unread_registered, unread_emptied}
+use Rattle.specs.specs.Leads.{leads_none, leads_put, leads_without_one, same_without_one, leads_lost, leads_cleared}
+use Rattle.specs.specs.Telling.{still_some, unread_registered, unread_emptied}
 
 or_more : (es : List ComponentEvent) (o : Option (List ComponentEvent)) → IsSome o → or_none (with_events es o) ≡ or_none o ++ es
 or_more es None h = absurd (false≢true h)
