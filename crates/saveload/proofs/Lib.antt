@@ -15,6 +15,7 @@ pub mod KeptTuples
 pub mod Remapped
 pub mod Stopped
 pub mod Marked
+pub mod Whole
 pub mod Resting
 pub mod Turns
 pub mod Writing

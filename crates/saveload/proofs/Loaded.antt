@@ -8,7 +8,7 @@ use Rattle.entities.specs.Population.{index_of}
 use Rattle.saveload.specs.declared.entity_data.EntityData.{EntityData}
 use Rattle.saveload.specs.Conversion.{Conversion, IsFaithful, Has}
 use Rattle.saveload.specs.Loads.{Loading, LoadsRecord, Loads, entity_of, named}
-use Rattle.saveload.specs.Law.{DistinctIds}
+use Rattle.saveload.specs.Saved.{DistinctIds}
 use Rattle.saveload.proofs.Named.{IsExact, has_map}
 use Rattle.saveload.proofs.Sound.{IsSound, IsNamed, AreNamed, names, names_all}
 

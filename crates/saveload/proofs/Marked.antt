@@ -27,12 +27,12 @@ use Rattle.saveload.proofs.Closing.{marked_both, marks_more}
 use Rattle.saveload.proofs.Named.{alive_true}
 use Rattle.saveload.proofs.Renaming.{from_map}
 
-has_contains : {X : Type 0} (xs : List X) (x : X) → Has xs x → Contains xs x
+pub has_contains : {X : Type 0} (xs : List X) (x : X) → Has xs x → Contains xs x
 has_contains [] x h = absurd h
 has_contains (y ∷ xs) x (inl e) = (zero, omega arith, e)
 has_contains (y ∷ xs) x (inr h) = let k = has_contains xs x h in let lt = k.1 in (suc k.0, omega arith, k.2)
 
-both_true : (a b : Bool) → (a && b) ≡ true → (a ≡ true) × (b ≡ true)
+pub both_true : (a b : Bool) → (a && b) ≡ true → (a ≡ true) × (b ≡ true)
 both_true true b e = (refl, e)
 both_true false b e = absurd (false≢true e)
 

@@ -7,9 +7,9 @@ use Rattle.entities.specs.declared.entity.Entity.{Entity}
 use Rattle.entities.specs.Population.{IsAlive, lives, index_of}
 use Rattle.saveload.specs.declared.entity_data.EntityData.{EntityData}
 use Rattle.saveload.specs.Conversion.{Conversion, IsFaithful, Has}
-use Rattle.saveload.specs.Saved.{IsRecord, IsSavedList}
+use Rattle.saveload.specs.Saved.{IsRecord, IsSavedList, DistinctIds, HoldsReferences}
 use Rattle.saveload.specs.Loads.{Loading, Loads, entity_of, named}
-use Rattle.saveload.specs.Law.{IsOneToOne, IsRenamed, DistinctIds, HoldsReferences, IsEmpty, OneRenaming}
+use Rattle.saveload.specs.Law.{IsOneToOne, IsRenamed, IsEmpty, OneRenaming}
 use Rattle.saveload.proofs.Named.{IsExact}
 use Rattle.saveload.proofs.Sound.{IsSound}
 use Rattle.saveload.proofs.Loaded.{AreLoaded, loads}

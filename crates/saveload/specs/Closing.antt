@@ -15,7 +15,7 @@ use Rattle.saveload.specs.Conversion.{Conversion, Has}
 use Rattle.storages.specs.declared.write_storage.WriteStorage.{WriteStorage}
 use Rattle.storages.specs.WriteView.{slot, found}
 use Rattle.saveload.specs.Marking.{MarksInTurn}
-use Rattle.saveload.specs.Saved.{IsSavedList, marked_by}
+use Rattle.saveload.specs.Saved.{IsSavedList, HoldsReferences, marked_by}
 
 -- those of a list that have no mark, each once, in the order of first mention, after those there already
 abbrev pub one_more : (ℕ → Bool) → List Entity → Entity → List Entity
@@ -118,6 +118,7 @@ pub record SavesAll {M V D : Type 0} (c : Conversion M V D) (marker_of : Entity 
   pub marked : HasMarked s s' added
   pub given : Gives added
   pub saved : IsSavedList c marker_of values all rs
+  pub holds : HoldsReferences c values all
 
 -- those that have markers and what they lead to are saved, and just these last got markers, in turn, by the views of the markers before and after
 abbrev pub SavesWhole : {M I V D A S : Type 0} → Conversion M V D → (Entity → V) → (M → I) → (I → I → Bool) → (A → I → Type 0) → (A → I → Option Entity) → (A → Option ℕ)

@@ -4,7 +4,7 @@ use Rattle.entities.specs.declared.entity.Entity.{Entity}
 use Rattle.entities.specs.Population.{Population, IsAlive, lives, index_of}
 use Rattle.saveload.specs.declared.entity_data.EntityData.{EntityData}
 use Rattle.saveload.specs.Conversion.{Conversion, Has}
-use Rattle.saveload.specs.Saved.{IsSavedList}
+use Rattle.saveload.specs.Saved.{IsSavedList, DistinctIds, HoldsReferences}
 use Rattle.entities.specs.Census.{Census}
 use Rattle.storages.specs.Slot.{Slot}
 use Rattle.saveload.specs.Loads.{Loading, loading, Loads}
@@ -21,13 +21,9 @@ pub record IsRenamed {M I V D : Type 0} (id_of : M → I) (c : Conversion M V D)
   pub rows : (x : Entity) → Has es x → s.rows (index_of (r x)) ≡ c.renamed r (values x)
   pub ids : (x : Entity) (m : M) → Has es x → marker_of x ≡ Some m → s.naming.markers (index_of (r x)) ≡ Some (id_of m)
 
-abbrev pub DistinctIds : {M I D : Type 0} → (M → I) → List (EntityData M D) → Type 0
-DistinctIds id_of [] = Unit {0}
-DistinctIds {M} {I} {D} id_of (r ∷ rs) = ((q : EntityData M D) → Has rs q → id_of q.marker ≡ id_of r.marker → ⊥) × DistinctIds id_of rs
-
--- each entity that a saved one refers to is saved too
-abbrev pub HoldsReferences : {M V D : Type 0} → Conversion M V D → (Entity → V) → List Entity → Type 0
-HoldsReferences c values es = (e x : Entity) → Has es e → Has (c.references (values e)) x → Has es x
+-- each of a list is renamed by one renaming, one to one onto those that live
+abbrev pub IsRenaming : {M I V D : Type 0} → (M → I) → Conversion M V D → (Entity → Option M) → (Entity → V) → List Entity → Loading I V → Type 0
+IsRenaming id_of c marker_of values es s = (r : Entity → Entity) × IsOneToOne es s.naming.people r × IsRenamed id_of c marker_of values es r s
 
 -- nobody lives, and no id is mapped
 pub record IsEmpty {I V : Type 0} (s : Loading I V) : Type 0 where
@@ -38,12 +34,12 @@ pub record IsEmpty {I V : Type 0} (s : Loading I V) : Type 0 where
 abbrev pub RenamesSaved : {M I V D : Type 0} → (M → I) → Conversion M V D → List (EntityData M D) → Loading I V → Loading I V → Type 0
 RenamesSaved {M} {I} {V} {D} id_of c rs old new = (marker_of : Entity → Option M) (values : Entity → V) (es : List Entity) →
     IsSavedList c marker_of values es rs → DistinctIds id_of rs → HoldsReferences c values es → IsEmpty old →
-    (r : Entity → Entity) × IsOneToOne es new.naming.people r × IsRenamed id_of c marker_of values es r new
+    IsRenaming id_of c marker_of values es new
 
 abbrev pub OneRenaming : {M I V D : Type 0} → (M → I) → (I → I → Bool) → Conversion M V D → Type 0
 OneRenaming {M} {I} {V} {D} id_of eq c = (marker_of : Entity → Option M) (values : Entity → V) (es : List Entity) (rs : List (EntityData M D)) (old new : Loading I V) →
     IsSavedList c marker_of values es rs → DistinctIds id_of rs → HoldsReferences c values es → IsEmpty old → Loads id_of eq c old rs new →
-    (r : Entity → Entity) × IsOneToOne es new.naming.people r × IsRenamed id_of c marker_of values es r new
+    IsRenaming id_of c marker_of values es new
 
 -- the same, by what is lent to a load
 abbrev pub RenamesInto : {M I V D A P : Type 0} → (M → I) → Conversion M V D → (A → I → Option Entity) → (A → List I → Option ℕ) → (P → ℕ → V)

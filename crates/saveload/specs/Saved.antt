@@ -28,6 +28,19 @@ module _ {M V D : Type 0} (c : Conversion M V D) (marker_of : Entity → Option 
   IsSavedList (e ∷ es) [] = ⊥
   IsSavedList (e ∷ es) (r ∷ rs) = IsRecord e r × IsSavedList es rs
 
+-- the ids of the records differ from one another
+abbrev pub DistinctIds : {M I D : Type 0} → (M → I) → List (EntityData M D) → Type 0
+DistinctIds id_of [] = Unit {0}
+DistinctIds {M} {I} {D} id_of (r ∷ rs) = ((q : EntityData M D) → Has rs q → id_of q.marker ≡ id_of r.marker → ⊥) × DistinctIds id_of rs
+
+-- no two entities have markers of one id
+abbrev pub TellsApart : {M I : Type 0} → (M → I) → (Entity → Option M) → Type 0
+TellsApart {M} id_of marker_of = (x y : Entity) (m n : M) → marker_of x ≡ Some m → marker_of y ≡ Some n → id_of m ≡ id_of n → x ≡ y
+
+-- each entity that a saved one refers to is saved too
+abbrev pub HoldsReferences : {M V D : Type 0} → Conversion M V D → (Entity → V) → List Entity → Type 0
+HoldsReferences c values es = (e x : Entity) → Has es e → Has (c.references (values e)) x → Has es x
+
 -- why a list was not saved: one of it refers to an entity for which there is no marker, or may be refused for this cause, or there is no memory
 abbrev pub RefusesSave : {M V D : Type 0} → Conversion M V D → (Entity → Option M) → (Entity → V) → List Entity → SaveError → Type 0
 RefusesSave c marker_of values es (Unmarked x) = (e : Entity) × Has es e × IsFirstUnnamed marker_of (c.references (values e)) x

@@ -1,13 +1,15 @@
 //! Saving the entities that have markers, and those that they refer to.
-ghost use Rattle.std.specs.Prelude.{◌≡◌, ◌++◌, Some, None, Err, IfOk, IfErr, OnErr, IsSome, List, [], ◌∷◌};
+ghost use Rattle.std.specs.Prelude.{◌≡◌, ◌++◌, ℕ, true, Some, None, Err, IfOk, IfErr, OnOk, OnErr, IsSome, List, [], ◌∷◌};
 ghost use Rattle.std.specs.FinMap as map;
 ghost use Rattle.entities.specs.declared.entity.Entity.{Entity};
 ghost use Rattle.entities.specs.Census.{population};
 ghost use Rattle.hibits.specs.Left.{left};
+ghost use Rattle.storages.specs.Found.{found_in};
+ghost use Rattle.storages.specs.Limit.{IsIndex};
 ghost use Rattle.storages.specs.ReadView.{found};
 ghost use Rattle.storages.specs.WriteView.{slot, entities_of, storage_name, found as found_by};
-ghost use Rattle.saveload.specs.Conversion.{AllNamed, Refuses};
-ghost use Rattle.saveload.specs.Saved.{IsRecord, IsSavedList, RefusesSave, all_marked, marked_read, marked_by};
+ghost use Rattle.saveload.specs.Conversion.{AllNamed, Has, Refuses};
+ghost use Rattle.saveload.specs.Saved.{IsRecord, IsSavedList, DistinctIds, TellsApart, HoldsReferences, RefusesSave, all_marked, marked_read, marked_by};
 ghost use Rattle.saveload.specs.Closing.{IsMentioned, MarksSome, RefusesAll, SavesWhole};
 ghost use Rattle.saveload.specs.Marking.{MarksUntil};
 
@@ -21,7 +23,8 @@ use hibits::{BitSetAnd, Walk};
 use std::alloc::{AllocError, Global};
 use storages::{MaskedStorage, ReadStorage, WriteStorage};
 
-/// Saves every entity that is alive and has a marker, ascending. It marks nothing: a reference to one without a marker is refused.
+/// Saves every entity that is alive and has a marker, ascending. It marks nothing: a reference to one without a marker is refused, so what a
+/// saved list refers to is saved in it.
 ///
 /// Ports `SerializeComponents::serialize`.
 pub fn serialize<M: Marker + Copy, P: SerializeComponents<M>>(
@@ -31,6 +34,8 @@ pub fn serialize<M: Marker + Copy, P: SerializeComponents<M>>(
 ) -> Result<Vec<EntityData<M, P::Data>>, SaveError>
     ensures saved { IfOk result (λ rs. IsSavedList P.conversion (λ e. found markers.now e) (λ e. P.values places.now e)
         (marked_read markers.now) rs.items) }
+    ensures holds { OnOk result (HoldsReferences P.conversion (λ e. P.values places.now e) (marked_read markers.now)) }
+    ensures distinct { TellsApart M.id_of (λ e. found markers.now e) → IfOk result (λ rs. DistinctIds M.id_of rs.items) }
     ensures refused { IfErr result (RefusesSave P.conversion (λ e. found markers.now e) (λ e. P.values places.now e)
         (marked_read markers.now)) }
 {
@@ -53,6 +58,7 @@ pub fn serialize_recursive<M: Marker + Copy, A: MarkerAllocator<M>, P: Serialize
     ensures entities { entities_of markers.new ≡ entities_of markers.old }
     ensures ok { IfOk result (λ rs. SavesWhole P.conversion (λ e. P.values places.now e) M.id_of M.Identifier.eq A.MayBeNew A.mapping A.ids
         allocator.old markers.old allocator.new markers.new rs.items) }
+    ensures distinct { TellsApart M.id_of (λ e. found_by markers.new e) → IfOk result (λ rs. DistinctIds M.id_of rs.items) }
     ensures marks { MarksSome (population (entities_of markers.old)) (IsMentioned (λ e. P.conversion.references (P.values places.now e))
         (marked_by markers.old)) (slot markers.old) (slot markers.new) }
     ensures refused { IfErr result (RefusesAll P.conversion (population (entities_of markers.old)) (λ e. P.values places.now e)
@@ -73,8 +79,10 @@ pub(crate) fn marked<M: Marker>(
     entities: &EntitiesRes,
     markers: &MaskedStorage<M>,
 ) -> Result<Vec<Entity>, AllocError>
-    ensures { IfOk result (λ v. v.items ≡ all_marked (population entities.now) markers.now) }
+    ensures list { IfOk result (λ v. v.items ≡ all_marked (population entities.now) markers.now) }
+    ensures whole { IfOk result (λ v. (e : Entity) → IsSome (found_in entities.now markers.now e) → Has v.items e) }
 {
+    limited(markers);
     let mask = BitSetAnd(entities.living(), markers.mask());
     let mut list = Vec::new(alloc);
     let mut walk = Walk::new(&mask);
@@ -82,6 +90,13 @@ pub(crate) fn marked<M: Marker>(
         list.push(entities.entity(i))?;
     }
     Ok(list)
+}
+
+// Each index that has a marker lies below the limit. It reads one word of the mask.
+fn limited<M: Marker>(markers: &MaskedStorage<M>)
+    ensures { (i : ℕ) → map.contains_key markers.now.map i ≡ true → IsIndex i }
+{
+    let _first = markers.mask().contains(0);
 }
 
 // Saves the entities of a list, which are alive and have markers.

@@ -2,7 +2,7 @@
 ghost use Rattle.std.specs.Prelude.{IfOk, IfErr, OnOk, IsSome, string_bytes};
 ghost use Rattle.storages.specs.ReadView.{found};
 ghost use Rattle.saveload.specs.Conversion.{AllNamed};
-ghost use Rattle.saveload.specs.Saved.{IsSavedList, RefusesSave, marked_read};
+ghost use Rattle.saveload.specs.Saved.{IsSavedList, DistinctIds, TellsApart, HoldsReferences, RefusesSave, marked_read};
 ghost use Rattle.saveload.specs.Json.{IsTextOf, WritesSome};
 
 use crate::error::SaveError;
@@ -28,6 +28,8 @@ where
     P::Data: JsonPlaces,
     ensures saved { IfOk result (λ s. IsTextOf M.json M.from P.Data.places P.Data.from
         (IsSavedList P.conversion (λ e. found markers.now e) (λ e. P.values places.now e) (marked_read markers.now)) (string_bytes s)) }
+    ensures holds { OnOk result (HoldsReferences P.conversion (λ e. P.values places.now e) (marked_read markers.now)) }
+    ensures distinct { TellsApart M.id_of (λ e. found markers.now e) → IfOk result (λ s. IsTextOf M.json M.from P.Data.places P.Data.from (DistinctIds M.id_of) (string_bytes s)) }
     ensures refused { IfErr result (RefusesSave P.conversion (λ e. found markers.now e) (λ e. P.values places.now e) (marked_read markers.now)) }
 {
     let list = marked(alloc, markers.fetched_entities(), markers.storage())?;

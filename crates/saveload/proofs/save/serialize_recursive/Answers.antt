@@ -4,9 +4,10 @@ use Rattle.entities.specs.declared.entity.Entity.{Entity}
 use Rattle.entities.specs.Census.{population}
 use Rattle.storages.specs.Found.{found_in}
 use Rattle.std.specs.Prelude.{IsSome, Err}
+use Rattle.std.specs.List.{flat_map}
 use Rattle.storages.specs.ReadView.{found, slot as slot_read, entities_of as entities_read}
 use Rattle.storages.specs.WriteView.{slot, entities_of, found as found_by}
-use Rattle.saveload.specs.Saved.{all_marked, IsSavedList}
+use Rattle.saveload.specs.Saved.{all_marked, marked_by, IsSavedList}
 use Rattle.saveload.specs.Closing.{marked_in, IsClosed, IsMentioned, MarksSome, MarksThese, MarksUpTo, RefusesMarking}
 use Rattle.saveload.specs.Conversion.{Has}
 use Rattle.saveload.specs.Marking.{MarksInTurn}
@@ -17,6 +18,9 @@ use Rattle.saveload.proofs.Marked.{all_marked_named, closed_named, found_kept, s
 use Rattle.saveload.proofs.Saving.{if_ok}
 use Rattle.saveload.proofs.Closing.{marked_none}
 use Rattle.std.proofs.lemmas.Result.{err_from_is_err_and}
+use Rattle.saveload.specs.declared.entity_data.EntityData.{EntityData}
+use Rattle.saveload.specs.Places.{has_right}
+use Rattle.saveload.proofs.Whole.{EachOnce, saved_marked, saved_holds, saved_distinct, more_whole, whole_in, closed_once}
 use Rattle.saveload.proofs.save.serialize_recursive.Goals as goal
 
 pub returns-clause-ok : goal.returns-clause-ok
@@ -30,15 +34,30 @@ returns-clause-ok g c =
     let beside : entities_read c.new-marked.result ≡ entities_of c.mark_all.new.markers = search rules in
     let same = λ (e : Entity). ap (λ s. found_in (entities_read c.new-marked.result) s e) seen ∙ ap (λ people. found_in people (slot c.mark_all.new.markers) e) beside in
     let listed = c.deref.ensures.value in
+    let parts = listed ∙ more.1 ∙ ap (λ (l : List Entity). l ++ more.0) begun in
+    let there : c.fetched_entities.result.now ≡ entities_of c.args.markers.now = search rules in
+    let then : c.storage.result.now ≡ slot c.args.markers.now = search rules in
+    let whole = whole_in c.fetched_entities.result.now (entities_of c.args.markers.now) c.storage.result.now (slot c.args.markers.now) c.in_ok-list.list.items (marked_by c.args.markers.now) there then begun c.in_ok-list.ensures.whole in
+    let found_all = λ (rs : List (EntityData _ _)) (h : IsSavedList convert (λ e. found c.new-marked.result e) values c.deref.result.now rs). subst (λ f. IsSavedList convert f values c.deref.result.now rs) (fun_ext same) h in
     if_ok c.save_list.result (λ rs h. record {
       all = c.deref.result.now;
       added = more.0;
-      parts = listed ∙ more.1 ∙ ap (λ (l : List Entity). l ++ more.0) begun;
+      parts = parts;
       closed = subst (λ (l : List Entity). IsClosed (marked_in (slot c.args.markers.now)) (λ e. convert.references (values e)) l c.deref.result.now) begun (rw listed c.in_ok-mark_all.ensures.closed);
       marked = more.2;
       given = subst (λ (l : List Entity). MarksInTurn g.M.Marker.id_of g.M.Identifier.PartialEq.eq g.A.MarkerAllocator.MayBeNew g.A.MarkerAllocator.mapping g.A.MarkerAllocator.ids c.args.allocator.now (slot c.args.markers.now) l c.mark_all.new.allocator (slot c.mark_all.new.markers)) (append_cancel_left c.in_ok-list.list.items gives.0 more.0 (sym gives.1 ∙ more.1)) gives.2;
-      saved = subst (λ f. IsSavedList convert f values c.deref.result.now rs.items) (fun_ext same) h;
+      saved = found_all rs.items h;
+      holds = saved_holds convert (λ e. found_by c.mark_all.new.markers e) values c.deref.result.now rs.items (found_all rs.items h) (λ x k. subst (λ (l : List Entity). Has l x) (sym parts)
+          (more_whole (entities_of c.args.markers.now) (entities_of c.mark_all.new.markers) (slot c.args.markers.now) (slot c.mark_all.new.markers) more.0 c.in_ok-mark_all.ensures.entities
+          whole more.2
+          (λ y j. saved_marked convert (λ e. found_by c.mark_all.new.markers e) values c.deref.result.now rs.items (found_all rs.items h) y (subst (λ (l : List Entity). Has l y) (sym parts) (has_right _ more.0 y j))) x k));
     }) c.save_list.ensures.saved
+
+pub returns-clause-distinct : goal.returns-clause-distinct
+returns-clause-distinct g c = λ apart.
+    if_ok c.save_list.result (λ rs w. saved_distinct g.P.SerializeComponents.conversion (λ e. found_by c.mark_all.new.markers e) (λ e. g.P.SerializeComponents.values c.args.places.now e) g.M.Marker.id_of apart w.all rs.items w.saved
+    (subst EachOnce (sym w.closed.list) (closed_once (population (entities_of c.args.markers.now)) (slot c.args.markers.now)
+    (flat_map (λ e. g.P.SerializeComponents.conversion.references (g.P.SerializeComponents.values c.args.places.now e)) w.all)))) (returns-clause-ok g c)
 
 pub returns-in_err-mark_all-clause-marks : goal.returns-in_err-mark_all-clause-marks
 returns-in_err-mark_all-clause-marks g c =

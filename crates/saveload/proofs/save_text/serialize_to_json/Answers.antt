@@ -3,11 +3,12 @@ use Rattle.entities.specs.declared.entity.Entity.{Entity}
 use Rattle.entities.specs.Census.{population}
 use Rattle.serde_json.specs.Written.{compact_text}
 use Rattle.storages.specs.ReadView.{found, slot, entities_of}
-use Rattle.saveload.specs.Conversion.{AllNamed}
+use Rattle.saveload.specs.Conversion.{AllNamed, Has}
 use Rattle.saveload.specs.Json.{list_json, list_from}
 use Rattle.saveload.specs.Saved.{IsSavedList, all_marked, marked_read}
 use Rattle.saveload.proofs.Kept.{text_read}
 use Rattle.saveload.proofs.Marked.{all_marked_named}
+use Rattle.saveload.proofs.Whole.{saved_holds, saved_distinct, marked_once, whole_in}
 use Rattle.saveload.proofs.save_text.serialize_to_json.Goals as goal
 
 pub write_saved-requires : goal.write_saved-requires
@@ -28,4 +29,25 @@ returns-clause-saved g c =
           ap (option_and_then (list_from g.M.JsonData.from g.P.Data.JsonPlaces.from))
           (text_read g.M.JsonData.json g.M.JsonData.from g.P.Data.JsonPlaces.places g.P.Data.JsonPlaces.from g.met.M.JsonData.shallow g.met.P.Data.JsonPlaces.shallow some.0 _ text some.2.1)
           ∙ some.2.1.1;
+    }
+
+pub returns-clause-holds : goal.returns-clause-holds
+returns-clause-holds g c =
+    let beside : c.fetched_entities.result.now ≡ entities_of c.args.markers.now = search rules in
+    let seen : c.storage.result.now ≡ slot c.args.markers.now = search rules in
+    let begun : c.in_ok-list.list.items ≡ marked_read c.args.markers.now = search rules in
+    let whole = whole_in c.fetched_entities.result.now (entities_of c.args.markers.now) c.storage.result.now (slot c.args.markers.now) c.in_ok-list.list.items (marked_read c.args.markers.now) beside seen begun c.in_ok-list.ensures.whole in
+    let text = returns-clause-saved g c in
+    saved_holds g.P.SerializeComponents.conversion (λ e. found c.args.markers.now e) (λ e. g.P.SerializeComponents.values c.args.places.now e) (marked_read c.args.markers.now) text.list text.saved
+    whole
+
+pub returns-clause-distinct : goal.returns-clause-distinct
+returns-clause-distinct g c = λ apart.
+    let text = returns-clause-saved g c in
+    record {
+      list = text.list;
+      saved = saved_distinct g.P.SerializeComponents.conversion (λ e. found c.args.markers.now e) (λ e. g.P.SerializeComponents.values c.args.places.now e) g.M.Marker.id_of apart (marked_read c.args.markers.now) text.list text.saved
+          (marked_once (population (entities_of c.args.markers.now)) (slot c.args.markers.now));
+      written = text.written;
+      reads_back = text.reads_back;
     }
