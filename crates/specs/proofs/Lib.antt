@@ -9,6 +9,9 @@ pub mod Values
 pub mod Shown
 pub mod Marked
 pub mod Kept
+pub mod Written
+pub mod Loading
+pub mod Phases
 pub mod AllDie
 mod Telling
 pub mod Leading

@@ -31,3 +31,4 @@ pub mod Following
 pub mod Laws
 pub mod Living
 pub mod Lawful
+pub mod Keeping
