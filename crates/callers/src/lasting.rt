@@ -1,5 +1,7 @@
 //! Single calls, one after another, and then a run: what holds of each state lasts through all of them.
-ghost use Rattle.std.specs.Prelude.{◌≡◌, true, IfSome};
+ghost use Rattle.std.specs.Prelude.{◌≡◌, ◌⊎◌, ℕ, true, IfSome};
+ghost use Rattle.entities.specs.Census.{population};
+ghost use Rattle.entities.specs.Population.{lives};
 ghost use Rattle.specs.specs.Following.{AreQuiet, AllSpare, IsFollowed, Follows, given};
 ghost use Rattle.specs.specs.Gone.{KeepsGone};
 ghost use Rattle.specs.specs.Reached.{KeepsLiving, OnlyLiving};
@@ -7,9 +9,11 @@ ghost use Rattle.specs.specs.State.{core_state, state_of};
 ghost use Rattle.specs.specs.Steps.{world_state};
 
 use specs::{
-    Builder, Command, Component, Core, Entity, Has, ReaderId, Reply, Storages, UnprotectedStorage,
-    World, WorldJob,
+    Builder, Command, Component, Core, DeserializeComponents, EntitiesRes, Entity, EntityData, Has,
+    Marker, MarkerAllocator, MaskedStorage, ReaderId, Reply, Storages, UnprotectedStorage, World,
+    WorldJob, deserialize, loads_keep, phases_keep,
 };
+use std::alloc::Global;
 
 /// An entity is built with a component, and a list of others lose theirs: each component belongs to a living entity still, and who was gone
 /// is gone, whatever was refused.
@@ -91,4 +95,90 @@ pub fn dead_for_good<S: Storages, J: WorldJob<S>>(world: &mut World<S, J>, e: En
     born(&mut **world);
     let _ = world.maintain(10);
     world.is_alive(e)
+}
+
+/// Two are born of an iterator: each component belongs to a living entity still, and who was gone is gone.
+pub fn two_born<S: Storages>(core: &mut Core<S>)
+    ensures living { KeepsLiving (core_state S.table S.ids core.old) (core_state S.table S.ids core.new) }
+    ensures gone { KeepsGone (core_state S.table S.ids core.old).people (core_state S.table S.ids core.new).people }
+{
+    let mut births = core.create_iter();
+    let _ = births.next();
+    let _ = births.next();
+}
+
+/// A component is written in its place: it is of a living entity, before and after.
+pub fn rewritten<T: Component + Drop, I, S: Storages + Has<T, I>>(
+    core: &mut Core<S>,
+    e: Entity,
+    component: T,
+)
+where
+    T::Storage: UnprotectedStorage<T>,
+    ensures living { KeepsLiving (core_state S.table S.ids core.old) (core_state S.table S.ids core.new) }
+    ensures gone { KeepsGone (core_state S.table S.ids core.old).people (core_state S.table S.ids core.new).people }
+{
+    let Ok(mut view) = core.write_storage::<T, I>() else {
+        return;
+    };
+    if let Ok(place) = view.get_mut(e) {
+        *place = component;
+    }
+}
+
+/// Somebody is born and an entity is marked in a shared phase, which is closed: nobody came back, and each component belongs to a living entity.
+pub fn through_a_phase<S: Storages>(alloc: Global, core: &mut Core<S>, e: Entity)
+    ensures living { KeepsLiving (core_state S.table S.ids core.old) (core_state S.table S.ids core.new) }
+    ensures gone { KeepsGone (core_state S.table S.ids core.old).people (core_state S.table S.ids core.new).people }
+{
+    phases_keep::<S>();
+    let parts = core.parts();
+    match parts.entities.open(alloc, 2, 1) {
+        Ok((shared, mut passes)) => {
+            let _ = shared.create(&mut passes[0]);
+            let _ = shared.delete(&mut passes[0], e);
+            let _ = shared.close(passes);
+        }
+        Err(_) => {}
+    }
+}
+
+/// All of that, one after another, and then a run: each component belongs to a living entity at the end.
+pub fn lives_through_all<T: Component + Drop, I, S: Storages + Has<T, I>, J: WorldJob<S>>(
+    alloc: Global,
+    world: &mut World<S, J>,
+    component: T,
+    list: &[Entity],
+    e: Entity,
+    commands: Vec<Command<S, J>>,
+)
+where
+    T::Storage: UnprotectedStorage<T>,
+    requires { OnlyLiving (state_of S.table S.ids world.old) }
+    ensures { OnlyLiving (state_of S.table S.ids world.new) }
+{
+    two_born(&mut **world);
+    through_a_phase(alloc, &mut **world, e);
+    rewritten(&mut **world, e, component);
+    let _ = world.delete_components(list);
+    let _ = world.run(commands);
+}
+
+/// A load, whole or refused, brings nobody back, and stores at living entities alone.
+pub fn loaded_at_the_living<M: Marker, P: DeserializeComponents<M>>(
+    alloc: Global,
+    masked: &mut P,
+    entities: &mut EntitiesRes,
+    markers: &mut MaskedStorage<M>,
+    allocator: &mut M::Allocator,
+    list: Vec<EntityData<M, P::Data>>,
+) -> bool
+where
+    M::Allocator: MarkerAllocator<M>,
+    requires { (m n : M) → M.is_clone m n → m ≡ n }
+    ensures gone { KeepsGone (population entities.old) (population entities.new) }
+    ensures rows { (i : ℕ) → (P.rows masked.new i ≡ P.rows masked.old i) ⊎ (lives (population entities.new) i ≡ true) }
+{
+    loads_keep::<M, P>();
+    deserialize(alloc, masked, entities, markers, allocator, list).is_ok()
 }

@@ -1,4 +1,4 @@
-//! Callers of the libraries, as a user would write them: each is proved from the public contracts alone, and all but nine functions with
+//! Callers of the libraries, as a user would write them: each is proved from the public contracts alone, and all but twelve functions with
 //! no proof file. What one of them could not prove would be a hole in a contract.
 #![tactic(auto)]
 
@@ -19,6 +19,7 @@ mod readers;
 mod saving;
 mod sets;
 mod spots;
+mod tallies;
 mod traits;
 mod typed;
 mod views;
@@ -73,6 +74,11 @@ pub use lasting::built_and_dropped;
 pub use lasting::dead_for_good;
 pub use lasting::followed;
 pub use lasting::lives_after_calls;
+pub use lasting::lives_through_all;
+pub use lasting::loaded_at_the_living;
+pub use lasting::rewritten;
+pub use lasting::through_a_phase;
+pub use lasting::two_born;
 pub use own_world::Frozen;
 pub use own_world::Game;
 pub use own_world::Leader;
@@ -106,6 +112,9 @@ pub use sets::others_stay;
 pub use sets::removed_and_gone;
 pub use spots::Spot;
 pub use spots::written_and_read;
+pub use tallies::count_of;
+pub use tallies::index_is_taken;
+pub use tallies::slice_through;
 pub use traits::dropped_and_gone;
 pub use traits::put_by_builder;
 pub use traits::slice_of;

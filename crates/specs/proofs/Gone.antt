@@ -21,7 +21,7 @@ use Rattle.specs.specs.State.{State}
 use Rattle.specs.specs.Steps.{CoreStep}
 
 -- at each index there was a birth, or nobody lives who did not
-abbrev Grows : Population → Population → Type 0
+abbrev pub Grows : Population → Population → Type 0
 Grows p q = (j : ℕ) → (p.births j < q.births j) ⊎ ((q.births j ≡ p.births j) × (lives q j ≡ true → lives p j ≡ true))
 
 gone : (p : Population) (e : Entity) → WasGiven p e → (IsAlive p e → ⊥) → IsGone p e
@@ -71,7 +71,7 @@ merge_grows p j = inr (refl, first (lives p j) (p.marked j))
 same_grows : (p : Population) → Grows p p
 same_grows p j = inr (refl, λ h. h)
 
-grown_to : (p q r : Population) (e : Entity) → r ≡ q → Grows p q → IsGone p e → IsGone r e
+pub grown_to : (p q r : Population) (e : Entity) → r ≡ q → Grows p q → IsGone p e → IsGone r e
 grown_to p q r e is grows was = subst (λ (x : Population). IsGone x e) (sym is) (gone_kept p q e grows was)
 
 by : {K V : Type 0} (old new : State K V) (e : Entity) (q : Population) → new.people ≡ q → Grows old.people q → IsGone old.people e → IsGone new.people e

@@ -8,5 +8,8 @@ pub mod Gone
 pub mod Values
 pub mod Marked
 pub mod Kept
+pub mod Written
+pub mod Loading
+pub mod Phases
 pub mod AllDie
 pub mod Following

@@ -6,7 +6,12 @@ use Rattle.entities.specs.declared.allocator.births.CreateError.TheVariants.{Out
 use Rattle.entities.specs.declared.entity.Entity.{Entity}
 use Rattle.entities.specs.Census.{population}
 use Rattle.entities.specs.Population.{Population, born}
+use Rattle.specs.specs.Gone.{KeepsGone}
+use Rattle.specs.specs.Ids.{Ids}
 use Rattle.specs.specs.People.{Births, IsFull, BirthWantsMemory}
+use Rattle.specs.specs.Reached.{KeepsLiving}
+use Rattle.specs.specs.State.{State, core_state}
+use Rattle.specs.specs.Table.{Table}
 use Rattle.specs.specs.declared.core_parts.Core.{Core}
 use Rattle.specs.specs.declared.create_iter.CreateIter.{CreateIter}
 
@@ -28,6 +33,14 @@ module _ {S : Type 0} where
   Gives old (Some (Ok e)) new = (has_failed old ≡ false) × (has_failed new ≡ false) × Births born (people old) e (people new)
   Gives old (Some (Err x)) new = (has_failed old ≡ false) × (has_failed new ≡ true) × (x ≡ OutOfMemory) × BirthWantsMemory (people old) × ((lent_to new).now ≡ (lent_to old).now)
 
-  -- and it has the same core, with the same storages
-  abbrev pub CreatesNext : CreateIter S → Option (Result Entity CreateError) → CreateIter S → Type 0
-  CreatesNext old r new = ((lent_to new).ghost_name ≡ (lent_to old).ghost_name) × ((lent_to new).now.parts.storages ≡ (lent_to old).now.parts.storages) × Gives old r new
+  -- what the core shows
+  abbrev pub shown : {K V : Type 0} → (S → Table K V) → (S → Ids K) → CreateIter S → State K V
+  shown table ids it = core_state table ids (lent_to it).now
+
+  -- it has the same core, with the same storages; so each index with a value lives as before, and who was gone is gone
+  pub record CreatesNext {K V : Type 0} (table : S → Table K V) (ids : S → Ids K) (old : CreateIter S) (r : Option (Result Entity CreateError)) (new : CreateIter S) : Type 0 where
+    pub same_reference : (lent_to new).ghost_name ≡ (lent_to old).ghost_name
+    pub storages : (lent_to new).now.parts.storages ≡ (lent_to old).now.parts.storages
+    pub gives : Gives old r new
+    pub living : KeepsLiving (shown table ids old) (shown table ids new)
+    pub gone : KeepsGone (people old) (people new)

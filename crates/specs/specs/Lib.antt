@@ -36,3 +36,4 @@ pub mod OneSlot
 pub mod Laws
 pub mod Living
 pub mod Lawful
+pub mod Keeping

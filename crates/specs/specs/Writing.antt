@@ -8,7 +8,9 @@ use Rattle.storages.specs.Lending.{SlotWrites, SlotRefuses}
 use Rattle.entities.specs.declared.entity.Entity.{Entity}
 use Rattle.entities.specs.Population.{index_of}
 use Rattle.storages.specs.contracts.masked.MaskedStorage as masked
+use Rattle.specs.specs.Gone.{KeepsGone}
 use Rattle.specs.specs.Ids.{Ids}
+use Rattle.specs.specs.Reached.{KeepsLiving}
 use Rattle.specs.specs.Table.{Table}
 use Rattle.specs.specs.State.{State, core_state}
 use Rattle.specs.specs.contracts.writing.Writing as view
@@ -68,21 +70,26 @@ LendsValue S T part with_part s id r =
     (λ x n. ValueWrites part with_part r s.now n id x)
     (λ n. ValueRefuses part with_part r s.now n)
 
--- what a view is after a write of x to the entity's component through the reference that the call answered, if it did
-pub record ViewWrites {S T I B E : Type 0} (part : S → Option (Slot T)) (with_part : S → Slot T → S) (r : Result B E) (v v' : Writing S T I) (id : ℕ) (x : T) : Type 0 where
+-- what a view is after a write of x to the entity's component through the reference that the call answered, if it did: nobody is born or dies,
+-- and a component is at the same indices
+pub record ViewWrites {S T I K V B E : Type 0} (part : S → Option (Slot T)) (with_part : S → Slot T → S) (table : S → Table K V) (ids : S → Ids K) (r : Result B E) (v v' : Writing S T I) (id : ℕ) (x : T) : Type 0 where
   pub same_reference : (lent v').ghost_name ≡ (lent v).ghost_name
   pub writes : IsOk r → ValueWrites part with_part r (storages_of v) (storages_of v') id x
   pub rest : (lent v').now ≡ with_storages (lent v).now (storages_of v')
+  pub living : KeepsLiving (shown table ids v) (shown table ids v')
+  pub gone : KeepsGone (shown table ids v).people (shown table ids v').people
 
 -- what it is after the call answered an error, if it did: an entity that is not alive changes nothing
-pub record ViewRefuses {S T I B E : Type 0} (part : S → Option (Slot T)) (with_part : S → Slot T → S) (r : Result B E) (v v' : Writing S T I) : Type 0 where
+pub record ViewRefuses {S T I K V B E : Type 0} (part : S → Option (Slot T)) (with_part : S → Slot T → S) (table : S → Table K V) (ids : S → Ids K) (r : Result B E) (v v' : Writing S T I) : Type 0 where
   pub same_reference : (lent v').ghost_name ≡ (lent v).ghost_name
   pub refuses : ValueRefuses part with_part r (storages_of v) (storages_of v') ⊎ (storages_of v' ≡ storages_of v)
   pub rest : (lent v').now ≡ with_storages (lent v).now (storages_of v')
+  pub living : KeepsLiving (shown table ids v) (shown table ids v')
+  pub gone : KeepsGone (shown table ids v).people (shown table ids v').people
 
 -- once the borrow r ends, the entity has the last value written through it
-abbrev pub LendsComponent : (S T I : RattleType) (part : S.Denot → Option (Slot T.Denot)) (with_part : S.Denot → Slot T.Denot → S.Denot) {E : Type 0} → MutBor (Writing S.Denot T.Denot I.Denot) → Entity → Result (MutBor T.Denot) E → Fml
-LendsComponent S T I part with_part v e r =
+abbrev pub LendsComponent : (S T I : RattleType) (part : S.Denot → Option (Slot T.Denot)) (with_part : S.Denot → Slot T.Denot → S.Denot) {K V E : Type 0} → (S.Denot → Table K V) → (S.Denot → Ids K) → MutBor (Writing S.Denot T.Denot I.Denot) → Entity → Result (MutBor T.Denot) E → Fml
+LendsComponent S T I part with_part table ids v e r =
     follows_so (view.the_row (record { mir = named 1; lft = [] }) S T I) T v.ghost_name (name_if_ok (λ x. x.ghost_name) r)
-    (λ x n. ViewWrites part with_part r v.now n (index_of e) x)
-    (λ n. ViewRefuses part with_part r v.now n)
+    (λ x n. ViewWrites part with_part table ids r v.now n (index_of e) x)
+    (λ n. ViewRefuses part with_part table ids r v.now n)

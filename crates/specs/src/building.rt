@@ -43,6 +43,7 @@ impl<S: Held> Core<S> {
     // The birth of an entity, at once.
     #[inline(always)]
     fn bear(&mut self) -> Result<Entity, CreateError>
+        ensures storages { self.new.parts.storages ≡ self.old.parts.storages }
         ensures ok { IfOk result (λ e. OnPeople (λ p p'. Births born p e p') (core_state S.table S.ids self.old) (core_state S.table S.ids self.new)) }
         ensures refused { IfErr result (CreateIsRefused (core_state S.table S.ids self.old).people) }
         ensures err { OnErr result (self.new ≡ self.old) }
@@ -52,7 +53,8 @@ impl<S: Held> Core<S> {
 
     // `bear`, and what holds of each state still does.
     #[inline(always)]
-    fn bear_lawfully(&mut self) -> Result<Entity, CreateError>
+    pub(crate) fn bear_lawfully(&mut self) -> Result<Entity, CreateError>
+        ensures storages { self.new.parts.storages ≡ self.old.parts.storages }
         ensures ok { IfOk result (λ e. OnPeople (λ p p'. Births born p e p') (core_state S.table S.ids self.old) (core_state S.table S.ids self.new)) }
         ensures living { OnOk result (KeepsLiving (core_state S.table S.ids self.old) (core_state S.table S.ids self.new)) }
         ensures gone { OnOk result (KeepsGone (core_state S.table S.ids self.old).people (core_state S.table S.ids self.new).people) }

@@ -1,5 +1,6 @@
 //! Entities that are born as they are asked for.
 use crate::core_parts::Core;
+use crate::slots::Held;
 use entities::{CreateError, Entity};
 
 /// Entities that are born at once, as they are asked for. It ends where no index is left, and after want of memory, which is its last
@@ -10,18 +11,18 @@ pub struct CreateIter<'a, S> {
     pub(crate) ended: bool,
 }
 
-impl<'a, S> Iterator for CreateIter<'a, S> {
+impl<'a, S: Held> Iterator for CreateIter<'a, S> {
     type Item = Result<Entity, CreateError>;
 
     ghost use Rattle.specs.specs.Creating.{CreatesNext};
 
-    ghost next_gives = { CreatesNext };
+    ghost next_gives = { CreatesNext S.table S.ids };
 
     fn next(&mut self) -> Option<Result<Entity, CreateError>> {
         if self.ended {
             return None;
         }
-        match self.core.parts.entities.alloc_mut().allocate() {
+        match self.core.bear_lawfully() {
             Ok(entity) => Some(Ok(entity)),
             Err(CreateError::IndexLimit) => None,
             Err(CreateError::OutOfMemory) => {

@@ -1,9 +1,11 @@
 //! Laws over all runs.
 ghost use Rattle.specs.specs.Following.{Follows, Replays};
+ghost use Rattle.specs.specs.Keeping.{EvolvingKeepsGone, EvolvingKeepsLiving, LoadsKeep, PhasesKeepGone, PhasesKeepLiving, StopsKeep};
 ghost use Rattle.specs.specs.Laws.{KeepsOnlyLiving, ReachesOnlyLiving, StaysGone, TellsWatched, StaysWatched};
 
-use crate::slots::Storages;
+use crate::slots::{Held, Storages};
 use crate::world_job::WorldJob;
+use saveload::{DeserializeComponents, Marker};
 
 /// From a state where each index with a value lives, every run leads to such a state, with whatever jobs. A new world is in such a state, so
 /// each component that any run leaves in it belongs to a living entity.
@@ -30,4 +32,25 @@ pub fn events_lead<S: Storages, J: WorldJob<S>>()
 /// the start does so throughout the run.
 pub fn quiet_runs<S: Storages, J: WorldJob<S>>()
     ensures { StaysWatched S.place S.allocates S.marks J.does J.wants J.spares }
+{}
+
+/// A shared phase over a world's entities, once it is closed, leaves it so that each index with a value lives, if it did at the opening; and who
+/// was gone is gone.
+pub fn phases_keep<S: Held>()
+    ensures living { PhasesKeepLiving S.Slot S.Value }
+    ensures gone { PhasesKeepGone }
+{}
+
+/// A load makes births and marks alone: who was gone is gone, who lived lives, and a row or a marker changed at living indices alone. So it is of
+/// a load that was refused.
+pub fn loads_keep<M: Marker, P: DeserializeComponents<M>>()
+    ensures whole { LoadsKeep M.id_of M.Identifier.eq P.conversion }
+    ensures refused { StopsKeep M.id_of M.Identifier.eq P.conversion P.Partly }
+{}
+
+/// Where a population came by births, deaths, marks and merges, who was gone is gone; and if besides each index with a value lives, what holds of
+/// each state that a run reaches still holds.
+pub fn evolving_keeps<S: Held>()
+    ensures living { EvolvingKeepsLiving S.Slot S.Value }
+    ensures gone { EvolvingKeepsGone }
 {}

@@ -23,6 +23,7 @@ mod running;
 mod selection;
 mod slots;
 mod typed;
+mod view_reads;
 mod world;
 mod world_deref;
 mod world_job;
@@ -36,7 +37,9 @@ pub use create_iter::CreateIter;
 pub use duplicate::Duplicate;
 pub use has::{Field, Has, component, slot, value};
 pub use job::{Job, JobList, LazyUpdate};
-pub use laws::{events_lead, only_living, quiet_runs, stays_dead};
+pub use laws::{
+    events_lead, evolving_keeps, loads_keep, only_living, phases_keep, quiet_runs, stays_dead,
+};
 pub use lazy_builder::LazyBuilder;
 pub use no_job::NoJob;
 pub use slots::{Held, Storages};

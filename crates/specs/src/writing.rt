@@ -155,7 +155,7 @@ where
     /// The component of an entity that is alive, to write to. It takes memory for an event alone, as a removal does. Ports `Storage::get_mut`.
     pub fn get_mut(&mut self, e: Entity) -> Result<&mut T, NotLent>
         requires { IsSome (S.part (storages_of self.old)) }
-        ensures* writes_back { sem 𝓛 (LendsComponent S.row T.row I.row S.part S.with_part self.entry e result) }
+        ensures* writes_back { sem 𝓛 (LendsComponent S.row T.row I.row S.part S.with_part S.table S.ids self.entry e result) }
         ensures value { IfOk result (λ x. FieldGets (shown S.table S.ids self.old).people (field_column (S.part (storages_of self.old))) e (Some x.now)) }
         ensures absent { (result ≡ Err NotLent.Absent) ↔ FieldGets (shown S.table S.ids self.old).people (field_column (S.part (storages_of self.old))) e None }
         ensures refused { result ≡ Err NotLent.OutOfMemory → RemovalWantsMemory (shown S.table S.ids self.old).people (field_column (S.part (storages_of self.old))) e }
