@@ -1,60 +1,127 @@
 //! What no clause says: counts of words as they were worked out by hand, and that calls that grow succeed.
+use crate::asserts::{equal, holds};
 use hibits::*;
 use std::alloc::{AllocError, Global};
 use std::cell::Cell;
+use std::process::Abort;
 use std::test::Fail;
 
-fn set_of(alloc: Global, members: &[Index]) -> Result<BitSet, SetError> {
-    let mut set = BitSet::new(alloc);
+/// Adds these indices.
+fn fill(set: &mut BitSet, members: &[Index]) -> Result<(), SetError> {
     for id in members {
         set.add(*id)?;
     }
+    Ok(())
+}
+
+fn set_of(alloc: Global, members: &[Index]) -> Result<BitSet, SetError> {
+    let mut set = BitSet::new(alloc);
+    fill(&mut set, members)?;
     Ok(set)
+}
+
+/// What is told of two sets.
+#[derive(Clone, Copy)]
+enum Story<'a> {
+    /// A walk over both gives these indices, for which so many words are read.
+    WordsAreRead(&'a [Index], u64),
+    CallsAreCounted,
+    Views,
+    Complement,
+    Trees,
+}
+
+/// Tells it.
+fn tell<R: Abort>(
+    rt: &R,
+    alloc: Global,
+    story: Story<'_>,
+    a: &BitSet,
+    b: &BitSet,
+) -> Result<(), AllocError> {
+    match story {
+        Story::WordsAreRead(both, reads) => words_are_read(rt, a & b, both, reads),
+        Story::CallsAreCounted => calls_are_counted(rt, a, b),
+        Story::Views => are_shown(rt, alloc, a, b)?,
+        Story::Trees => is_tree(rt, alloc, &outside(alloc, a, b)?)?,
+        Story::Complement => holds!(rt; begins(alloc, !a, &[1, 2, 3])?),
+    }
+    Ok(())
+}
+
+/// The same of sets of these indices. A function that owns sets is slow to prove, so this one does for all stories.
+fn told<R: Abort>(
+    rt: &R,
+    alloc: Global,
+    first: &[Index],
+    second: &[Index],
+    story: Story<'_>,
+) -> Result<(), Fail> {
+    let a = set_of(alloc, first)?;
+    let b = set_of(alloc, second)?;
+    Ok(tell(rt, alloc, story, &a, &b)?)
+}
+
+/// A walk over a view gives these indices, for which so many words are read.
+fn words_are_read<R: Abort, M: Layers + Drop>(rt: &R, view: M, members: &[Index], reads: u64) {
+    let mut walk = BitIter::new(view);
+    for id in members {
+        equal!(rt; walk.next(), Some(*id));
+    }
+    equal!(rt; walk.next(), None);
+    equal!(rt; walk.reads(), reads);
 }
 
 #[test]
 fn walks_count_words(rt: HostRuntime) -> Result<(), Fail> {
-    let cases: [(&[Index], &[Index], &[Index], u64); 3] = [
-        (
-            &[1, 64, 4096, 16777215],
-            &[64, 16777215],
-            &[64, 16777215],
-            14,
-        ),
-        (&[0], &[1], &[], 8),
-        (&[], &[], &[], 2),
-    ];
-    for (first, second, both, reads) in cases {
-        let a = set_of(rt.alloc(), first)?;
-        let b = set_of(rt.alloc(), second)?;
-        let mut walk = BitIter::new(&a & &b);
-        for id in both {
-            assert_eq!(rt; walk.next(), Some(*id));
-        }
-        assert_eq!(rt; walk.next(), None);
-        assert_eq!(rt; walk.reads(), reads);
-    }
-    Ok(())
+    let both: &[Index] = &[64, 16777215];
+    let story = Story::WordsAreRead(both, 14);
+    told(&rt, rt.alloc(), &[1, 64, 4096, 16777215], both, story)?;
+    told(&rt, rt.alloc(), &[0], &[1], Story::WordsAreRead(&[], 8))?;
+    told(&rt, rt.alloc(), &[], &[], Story::WordsAreRead(&[], 2))
+}
+
+fn add(set: &mut BitSet, id: Index) -> Result<bool, SetError> {
+    set.add(id)
+}
+
+fn reserve_for(set: &mut BitSet, id: Index) -> Result<(), SetError> {
+    set.reserve_for(id)
+}
+
+fn first_from(set: &BitSet, id: Index) -> Option<Index> {
+    set.first_from(id)
+}
+
+/// What the addition of an index to a set with room for so many answers.
+fn added_to_roomy(alloc: Global, max: Index, id: Index) -> Result<bool, SetError> {
+    let mut roomy = BitSet::with_capacity(alloc, max)?;
+    add(&mut roomy, id)
+}
+
+/// Why there is no set with room for so many.
+fn refused(alloc: Global, max: Index) -> Option<SetError> {
+    BitSet::with_capacity(alloc, max).err()
+}
+
+fn is_added_to<R: Abort>(rt: &R, set: &mut BitSet) {
+    equal!(rt; add(set, 16777215), Ok(false));
+    equal!(rt; add(set, 16777215), Ok(true));
+    equal!(rt; add(set, 16777216), Err(SetError::IndexLimit));
+    equal!(rt; set.count(), 1);
+    equal!(rt; first_from(set, 0), Some(16777215));
+    equal!(rt; reserve_for(set, 7), Ok(()));
+    equal!(rt; reserve_for(set, 16777216), Err(SetError::IndexLimit));
 }
 
 #[test]
 fn adds(rt: HostRuntime) -> Result<(), Fail> {
     let mut set = BitSet::new(rt.alloc());
-    assert_eq!(rt; set.add(16777215), Ok(false));
-    assert_eq!(rt; set.add(16777215), Ok(true));
-    assert_eq!(rt; set.add(16777216), Err(SetError::IndexLimit));
-    assert_eq!(rt; set.count(), 1);
-    assert_eq!(rt; set.first_from(0), Some(16777215));
-    assert_eq!(rt; set.reserve_for(7), Ok(()));
-    assert_eq!(rt; set.reserve_for(16777216), Err(SetError::IndexLimit));
+    is_added_to(&rt, &mut set);
     for max in [0, 1, 64, 4097, 16777215, 16777216] {
-        let mut roomy = BitSet::with_capacity(rt.alloc(), max)?;
-        assert_eq!(rt; roomy.add(4097), Ok(false));
+        equal!(&rt; added_to_roomy(rt.alloc(), max, 4097), Ok(false));
     }
-    assert_eq!(rt;
-        BitSet::with_capacity(rt.alloc(), 16777217).err(),
-        Some(SetError::IndexLimit)
-    );
+    equal!(&rt; refused(rt.alloc(), 16777217), Some(SetError::IndexLimit));
     Ok(())
 }
 
@@ -92,54 +159,53 @@ impl<'a> BitSetLike for Counting<'a> {
     }
 }
 
-#[test]
-fn every_call_is_counted(rt: HostRuntime) -> Result<(), Fail> {
-    let first = set_of(rt.alloc(), &[1, 64, 4096, 16777215])?;
-    let second = set_of(rt.alloc(), &[64, 16777215])?;
+/// Both sets are asked seven times for each.
+fn calls_are_counted<R: Abort>(rt: &R, first: &BitSet, second: &BitSet) {
     let a = Counting {
-        set: &first,
+        set: first,
         calls: Cell::new(0),
     };
     let b = Counting {
-        set: &second,
+        set: second,
         calls: Cell::new(0),
     };
-    let mut walk = BitIter::new(BitSetAnd(&a, &b));
-    assert_eq!(rt; walk.next(), Some(64));
-    assert_eq!(rt; walk.next(), Some(16777215));
-    assert_eq!(rt; walk.next(), None);
-    assert_eq!(rt; walk.reads(), 14);
-    assert_eq!(rt; a.calls.get(), 7);
-    assert_eq!(rt; b.calls.get(), 7);
-    Ok(())
+    words_are_read(rt, BitSetAnd(&a, &b), &[64, 16777215], 14);
+    equal!(rt; a.calls.get(), 7);
+    equal!(rt; b.calls.get(), 7);
+}
+
+#[test]
+fn every_call_is_counted(rt: HostRuntime) -> Result<(), Fail> {
+    let both: &[Index] = &[64, 16777215];
+    told(
+        &rt,
+        rt.alloc(),
+        &[1, 64, 4096, 16777215],
+        both,
+        Story::CallsAreCounted,
+    )
 }
 
 fn first_three<M: Layers + Drop>(alloc: Global, mask: M) -> Result<Vec<Index>, AllocError> {
     BitIter::new(mask).take(3).collect(alloc)
 }
 
+/// Whether the first three of a view are these.
+fn begins<M: Layers + Drop>(alloc: Global, mask: M, members: &[Index]) -> Result<bool, AllocError> {
+    Ok(first_three(alloc, mask)?.as_slice() == members)
+}
+
+fn are_shown<R: Abort>(rt: &R, alloc: Global, a: &BitSet, b: &BitSet) -> Result<(), AllocError> {
+    holds!(rt; begins(alloc, a ^ b, &[1, 3])?);
+    holds!(rt; begins(alloc, a | b, &[1, 2, 3])?);
+    holds!(rt; begins(alloc, BitSetAll, &[0, 1, 2])?);
+    Ok(())
+}
+
 #[test]
 fn views(rt: HostRuntime) -> Result<(), Fail> {
-    let a = set_of(rt.alloc(), &[1, 2])?;
-    let b = set_of(rt.alloc(), &[2, 3])?;
-    let zero = set_of(rt.alloc(), &[0])?;
-    assert_eq!(rt;
-        first_three(rt.alloc(), &a ^ &b)?.as_slice(),
-        [1, 3].as_slice()
-    );
-    assert_eq!(rt;
-        first_three(rt.alloc(), &a | &b)?.as_slice(),
-        [1, 2, 3].as_slice()
-    );
-    assert_eq!(rt;
-        first_three(rt.alloc(), !&zero)?.as_slice(),
-        [1, 2, 3].as_slice()
-    );
-    assert_eq!(rt;
-        first_three(rt.alloc(), BitSetAll)?.as_slice(),
-        [0, 1, 2].as_slice()
-    );
-    Ok(())
+    told(&rt, rt.alloc(), &[1, 2], &[2, 3], Story::Views)?;
+    told(&rt, rt.alloc(), &[0], &[], Story::Complement)
 }
 
 /// The members of `b` that are none of `a`.
@@ -152,12 +218,14 @@ fn outside<'a>(
     Ok(MaskExpr::And(Box::new(alloc, not_a)?, Box::new(alloc, MaskExpr::Mask(b))?))
 }
 
+fn is_tree<R: Abort>(rt: &R, alloc: Global, expr: &MaskExpr<&BitSet>) -> Result<(), AllocError> {
+    holds!(rt; begins(alloc, expr, &[3])?);
+    holds!(rt; expr.contains(3));
+    holds!(rt; !expr.contains(2));
+    Ok(())
+}
+
 #[test]
 fn trees(rt: HostRuntime) -> Result<(), Fail> {
-    let a = set_of(rt.alloc(), &[1, 2])?;
-    let b = set_of(rt.alloc(), &[2, 3])?;
-    let expr = outside(rt.alloc(), &a, &b)?;
-    assert_eq!(rt; first_three(rt.alloc(), &expr)?.as_slice(), [3].as_slice());
-    assert!(rt; expr.contains(3) && !expr.contains(2));
-    Ok(())
+    told(&rt, rt.alloc(), &[1, 2], &[2, 3], Story::Trees)
 }

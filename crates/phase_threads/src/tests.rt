@@ -69,22 +69,45 @@ fn two_for_three(alloc: Global, entities: &mut EntitiesRes) -> Answers {
     answers
 }
 
-/// Whether the first of two entities dies at a merge, and the second lives.
-fn first_dies(alloc: Global, entities: &mut EntitiesRes) -> Result<bool, Fail> {
-    let dead = entities.alloc_mut().merge(alloc)?;
-    let living = entities.entity(1);
-    Ok(
-        dead.len() == 1
-            && Some(dead[0]) == entity(0)
-            && entities.is_alive(living)
-            && !entities.is_alive(dead[0])
-            && Some(living) == entity(1),
-    )
+/// Whether the entity of an index and its first generation is the one that lives there.
+fn lives_first(entities: &EntitiesRes, index: u32) -> bool {
+    let e = entities.entity(index);
+    entities.is_alive(e) && Some(e) == entity(index)
 }
 
-/// Whether two of three passes are given an entity, of which the first is deleted.
-fn third_is_refused(alloc: Global, entities: &mut EntitiesRes) -> Result<bool, Fail> {
-    let answers = two_for_three(alloc, entities);
+fn create(entities: &mut EntitiesRes) -> Option<Entity> {
+    entities.create().ok()
+}
+
+fn lives(entities: &EntitiesRes, e: Entity) -> bool {
+    entities.is_alive(e)
+}
+
+fn lives_at(entities: &EntitiesRes, index: u32) -> bool {
+    entities.is_alive(entities.entity(index))
+}
+
+/// Those that die at a merge.
+fn merged(alloc: Global, entities: &mut EntitiesRes) -> Result<Vec<Entity>, Fail> {
+    Ok(entities.alloc_mut().merge(alloc)?)
+}
+
+/// Whether the first entity alone is in a list, and does not live.
+fn is_dead(entities: &EntitiesRes, dead: &[Entity]) -> bool {
+    match dead {
+        [e] => Some(*e) == entity(0) && !lives(entities, *e),
+        _ => false,
+    }
+}
+
+/// Whether the first of two entities dies at a merge, and the second lives.
+fn first_dies(alloc: Global, entities: &mut EntitiesRes) -> Result<bool, Fail> {
+    let dead = merged(alloc, entities)?;
+    Ok(is_dead(entities, dead.as_slice()) && lives_first(entities, 1))
+}
+
+/// Whether the answers are those of two births, a mark and a refusal.
+fn are_as_told(answers: &Answers) -> bool {
     let closed = Some(Closed {
         births: 2,
         marks: 1,
@@ -92,7 +115,13 @@ fn third_is_refused(alloc: Global, entities: &mut EntitiesRes) -> Result<bool, F
     });
     let refused = answers.refused_once && answers.refused_again;
     let seen = answers.deleted && answers.alive && answers.pending && answers.not_pending;
-    Ok(refused && seen && answers.closed == closed && first_dies(alloc, entities)?)
+    refused && seen && answers.closed == closed
+}
+
+/// Whether two of three passes are given an entity, of which the first is deleted.
+fn third_is_refused(alloc: Global, entities: &mut EntitiesRes) -> Result<bool, Fail> {
+    let answers = two_for_three(alloc, entities);
+    Ok(are_as_told(&answers) && first_dies(alloc, entities)?)
 }
 
 /// What two passes are given in a phase of two entities, one after the other.
@@ -108,15 +137,32 @@ fn two_given(alloc: Global, entities: &mut EntitiesRes) -> (Option<Entity>, Opti
     }
 }
 
+fn are_given(
+    alloc: Global,
+    entities: &mut EntitiesRes,
+    wanted: (Option<Entity>, Option<Entity>),
+) -> bool {
+    two_given(alloc, entities) == wanted
+}
+
+fn first_two(entities: &EntitiesRes) -> [Entity; 2] {
+    [entities.entity(0), entities.entity(1)]
+}
+
+fn kill(entities: &mut EntitiesRes, list: &[Entity]) -> bool {
+    entities.alloc_mut().kill(list).is_ok()
+}
+
 /// Whether two passes are given the least two that were never born, then those two again, and then the next two.
 fn two_are_given(alloc: Global, entities: &mut EntitiesRes) -> Result<bool, Fail> {
-    let born = two_given(alloc, entities) == (entity(0), entity(1));
-    let both = [entities.entity(0), entities.entity(1)];
-    let killed = entities.alloc_mut().kill(&both).is_ok();
-    let again = two_given(alloc, entities) == (Entity::from_parts(1, 2), Entity::from_parts(0, 2));
-    let dead = !entities.is_alive(both[0]) && !entities.is_alive(both[1]);
-    let _ = entities.alloc_mut().merge(alloc)?;
-    let next = two_given(alloc, entities) == (entity(2), entity(3));
+    let born = are_given(alloc, entities, (entity(0), entity(1)));
+    let both = first_two(entities);
+    let killed = kill(entities, &both);
+    let second = (Entity::from_parts(1, 2), Entity::from_parts(0, 2));
+    let again = are_given(alloc, entities, second);
+    let dead = !lives(entities, both[0]) && !lives(entities, both[1]);
+    let _ = merged(alloc, entities)?;
+    let next = are_given(alloc, entities, (entity(2), entity(3)));
     Ok(born && killed && again && dead && next)
 }
 
@@ -150,20 +196,17 @@ fn closed(births: usize, passes_back: usize) -> Result<Closed, OpenError> {
 fn phases_go_on(rt: &(impl Threads + Sync), alloc: Global, entities: &mut EntitiesRes) -> bool {
     all_create(rt, alloc, entities, 2, 3) == closed(2, 3)
         && all_create(rt, alloc, entities, 50, 60) == closed(50, 60)
-        && entities.is_alive(entities.entity(51))
-        && !entities.is_alive(entities.entity(52))
+        && lives_at(entities, 51)
+        && !lives_at(entities, 52)
         && in_turn(alloc, entities) == 1
         && all_create(rt, alloc, entities, 1, 4097) == Err(OpenError::TooManyPasses)
 }
 
 /// Whether as many passes as entities are given all of them.
 fn all_are_given(rt: &(impl Threads + Sync), alloc: Global, entities: &mut EntitiesRes) -> bool {
-    let phase = all_create(rt, alloc, entities, 2, 2);
-    let (first, second) = (entities.entity(0), entities.entity(1));
-    phase == closed(2, 2)
-        && entities.is_alive(first)
-        && entities.is_alive(second)
-        && (Some(first), Some(second)) == (entity(0), entity(1))
+    all_create(rt, alloc, entities, 2, 2) == closed(2, 2)
+        && lives_first(entities, 0)
+        && lives_first(entities, 1)
 }
 
 /// Whether a reserve past the limit is refused, and changes nothing.
@@ -173,7 +216,7 @@ fn too_many_are_refused(
     entities: &mut EntitiesRes,
 ) -> bool {
     all_create(rt, alloc, entities, 16_777_217, 1) == Err(OpenError::IndexLimit)
-        && entities.create().ok() == entity(0)
+        && create(entities) == entity(0)
 }
 
 /// What is told of entities.

@@ -1,5 +1,5 @@
 //! The vector with default values.
-use crate::asserts::{equal, holds};
+use crate::asserts::{equal, gives, holds};
 use crate::kinds::{fill, put_all};
 use crate::numbers::{InDefaultVec, Number};
 use crate::shelf::{Placed, Sliced};
@@ -26,7 +26,7 @@ fn lie_at_places<R: Abort, S: Sliced>(
     shelf: &mut S,
     list: &[Entity],
 ) -> Result<(), Fail> {
-    assert_eq!(rt; list.len(), 1000);
+    equal!(rt; list.len(), 1000);
     fill(rt, shelf, list, 2718);
     let numbers = indices(alloc, list, 2718)?;
     holds!(rt; shelf.shows_slice(numbers.as_slice()));
@@ -37,7 +37,7 @@ fn lie_at_places<R: Abort, S: Sliced>(
 fn unused_are_zero<R: Abort, S: Placed>(rt: &R, shelf: &mut S) {
     put_all(rt, shelf, &[(1, 1), (3, 3)]);
     holds!(rt; shelf.has_slice(&[0, 1, 0, 3]));
-    equal!(rt; shelf.take_out(3), Some(3));
+    gives!(rt; shelf.take_out(3), Some(3));
     holds!(rt; shelf.has_slice(&[0, 1, 0, 0]));
     holds!(rt; shelf.clear_all());
     holds!(rt; shelf.has_slice(&[]));
@@ -48,8 +48,8 @@ fn five_more_at_each_place<R: Abort, S: Placed>(rt: &R, shelf: &mut S) {
     put_all(rt, shelf, &[(1, 1), (3, 3)]);
     shelf.add_to_slice(5);
     holds!(rt; shelf.has_slice(&[5, 6, 5, 8]));
-    equal!(rt; shelf.number_in(3), Some(8));
-    equal!(rt; shelf.number_in(2), None);
+    gives!(rt; shelf.number_in(3), Some(8));
+    gives!(rt; shelf.number_in(2), None);
 }
 
 // The places of a thousand entities, or else those without a component, and what is written to the slice after `clear`.

@@ -1,5 +1,6 @@
 //! Entries of single indices.
-use crate::asserts::{equal, holds};
+use crate::asserts::{equal, gives, holds, replaces};
+use crate::kinds::nth;
 use crate::shelf::Entries;
 use crate::stories::{Story, in_btree, in_vec};
 use entities::Entity;
@@ -9,38 +10,38 @@ use std::test::Fail;
 
 // Basic use, and closures, which are called only where there is none; each is occupied then.
 fn basic_use<R: Abort, S: Entries>(rt: &R, shelf: &mut S, list: &[Entity], calls: &Cell<u32>) {
-    assert_eq!(rt; list.len(), 8);
-    equal!(rt; shelf.or_insert(list[0], 5), Some(5));
-    equal!(rt; shelf.or_insert(list[1], 5), Some(10));
-    equal!(rt; shelf.or_insert_with(list[2], 5, calls), Some(5));
+    equal!(rt; list.len(), 8);
+    gives!(rt; shelf.or_insert(nth(rt, list, 0), 5), Some(5));
+    gives!(rt; shelf.or_insert(nth(rt, list, 1), 5), Some(10));
+    gives!(rt; shelf.or_insert_with(nth(rt, list, 2), 5, calls), Some(5));
     equal!(rt; calls.get(), 1);
-    equal!(rt; shelf.or_insert_with(list[3], 5, calls), Some(10));
+    gives!(rt; shelf.or_insert_with(nth(rt, list, 3), 5, calls), Some(10));
     equal!(rt; calls.get(), 1);
-    equal!(rt; shelf.occupied(list[0]), Some(5));
-    equal!(rt; shelf.occupied(list[1]), Some(10));
-    equal!(rt; shelf.occupied(list[2]), Some(5));
-    equal!(rt; shelf.occupied(list[3]), Some(10));
+    gives!(rt; shelf.occupied(nth(rt, list, 0)), Some(5));
+    gives!(rt; shelf.occupied(nth(rt, list, 1)), Some(10));
+    gives!(rt; shelf.occupied(nth(rt, list, 2)), Some(5));
+    gives!(rt; shelf.occupied(nth(rt, list, 3)), Some(10));
 }
 
 // Occupied and vacant change places, and what is replaced is answered.
 fn swapped_and_replaced<R: Abort, S: Entries>(rt: &R, shelf: &mut S, list: &[Entity]) {
-    assert_eq!(rt; list.len(), 8);
-    holds!(rt; shelf.toggle(list[4]));
-    holds!(rt; shelf.toggle(list[5]));
-    equal!(rt; shelf.at(list[4]), Some(15));
-    equal!(rt; shelf.at(list[5]), None);
-    equal!(rt; shelf.replace(list[6], 1337), Some(None));
-    equal!(rt; shelf.replace(list[7], 11), Some(Some(10)));
-    equal!(rt; shelf.replace(list[6], 9001), Some(Some(1337)));
-    equal!(rt; shelf.at(list[6]), Some(9001));
-    equal!(rt; shelf.at(list[7]), Some(11));
+    equal!(rt; list.len(), 8);
+    holds!(rt; shelf.toggle(nth(rt, list, 4)));
+    holds!(rt; shelf.toggle(nth(rt, list, 5)));
+    gives!(rt; shelf.at(nth(rt, list, 4)), Some(15));
+    gives!(rt; shelf.at(nth(rt, list, 5)), None);
+    replaces!(rt; shelf.replace(nth(rt, list, 6), 1337), Some(None));
+    replaces!(rt; shelf.replace(nth(rt, list, 7), 11), Some(Some(10)));
+    replaces!(rt; shelf.replace(nth(rt, list, 6), 9001), Some(Some(1337)));
+    gives!(rt; shelf.at(nth(rt, list, 6)), Some(9001));
+    gives!(rt; shelf.at(nth(rt, list, 7)), Some(11));
 }
 
 // Every second entity has ten from the start.
 fn put_tens<R: Abort, S: Entries>(rt: &R, shelf: &mut S, list: &[Entity]) {
     for e in list {
         if e.id() % 2 == 1 {
-            equal!(rt; shelf.put(*e, 10), Some(None));
+            replaces!(rt; shelf.put(*e, 10), Some(None));
         }
     }
 }
@@ -63,7 +64,7 @@ pub fn occupied_entry<R: Abort, S: Entries>(rt: &R, shelf: &mut S) {
     holds!(rt; shelf.put_in(3, 10));
     equal!(rt; shelf.write_entry(3, 15), Some((10, 16)));
     holds!(rt; shelf.lend_entry(3));
-    equal!(rt; shelf.take_entry(3), Some(17));
+    gives!(rt; shelf.take_entry(3), Some(17));
     holds!(rt; !shelf.contains(3));
 }
 

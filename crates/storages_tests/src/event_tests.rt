@@ -1,6 +1,6 @@
 //! Events of storages that tell of each change.
-use crate::asserts::{equal, holds};
-use crate::kinds::fill;
+use crate::asserts::{equal, gives, holds, replaces};
+use crate::kinds::{fill, nth};
 use crate::numbers::{InFlagged, Number};
 use crate::shelf::{Entries, Sorted, Told};
 use crate::stories::{OF_EACH_KIND, in_flagged, in_flagged_dense};
@@ -31,9 +31,9 @@ fn flagged_storage_meets_all(rt: HostRuntime) -> Result<(), Fail> {
 fn both_are_told<R: Abort, S: Told>(rt: &R, shelf: &mut S, e: Entity) {
     equal!(rt; shelf.listen(), Some(0));
     equal!(rt; shelf.listen(), Some(1));
-    equal!(rt; shelf.put(e, 7), Some(None));
+    replaces!(rt; shelf.put(e, 7), Some(None));
     holds!(rt; reads(shelf, 0, &[Inserted(4)]));
-    equal!(rt; shelf.take(e), Some(7));
+    gives!(rt; shelf.take(e), Some(7));
     holds!(rt; reads(shelf, 0, &[Removed(4)]));
     holds!(rt; reads(shelf, 1, &[Inserted(4), Removed(4)]));
 }
@@ -48,19 +48,19 @@ fn first_is_gone<R: Abort, S: Told>(rt: &R, shelf: &mut S) {
 
 // Two readers, of which the first ends.
 fn two_readers<R: Abort, S: Told>(rt: &R, shelf: &mut S, list: &[Entity]) {
-    assert_eq!(rt; list.len(), 5);
-    both_are_told(rt, shelf, list[4]);
+    equal!(rt; list.len(), 5);
+    both_are_told(rt, shelf, nth(rt, list, 4));
     first_is_gone(rt, shelf);
 }
 
 // Components are inserted, replaced, taken out and cleared.
 fn change<R: Abort, S: Told>(rt: &R, shelf: &mut S, list: &[Entity]) {
-    assert_eq!(rt; list.len(), 4);
-    equal!(rt; shelf.put(list[0], 1), Some(None));
-    equal!(rt; shelf.put(list[0], 2), Some(Some(1)));
-    holds!(rt; shelf.put_by_entry(list[1], 3));
-    holds!(rt; shelf.put_by_entry(list[3], 4));
-    equal!(rt; shelf.take(list[0]), Some(2));
+    equal!(rt; list.len(), 4);
+    replaces!(rt; shelf.put(nth(rt, list, 0), 1), Some(None));
+    replaces!(rt; shelf.put(nth(rt, list, 0), 2), Some(Some(1)));
+    holds!(rt; shelf.put_by_entry(nth(rt, list, 1), 3));
+    holds!(rt; shelf.put_by_entry(nth(rt, list, 3), 4));
+    gives!(rt; shelf.take(nth(rt, list, 0)), Some(2));
     holds!(rt; shelf.clear());
 }
 
@@ -79,24 +79,24 @@ const CHANGES: [ComponentEvent; 9] = [
 
 // The changes are read once, and a change while emission is off is not.
 fn changes_are_told<R: Abort, S: Told>(rt: &R, shelf: &mut S, list: &[Entity]) {
-    assert_eq!(rt; list.len(), 4);
+    equal!(rt; list.len(), 4);
     equal!(rt; shelf.listen(), Some(0));
     change(rt, shelf, list);
     holds!(rt; reads(shelf, 0, CHANGES.as_slice()));
     holds!(rt; reads(shelf, 0, &[]));
     shelf.emit(false);
-    equal!(rt; shelf.put(list[0], 1), Some(None));
+    replaces!(rt; shelf.put(nth(rt, list, 0), 1), Some(None));
     holds!(rt; reads(shelf, 0, &[]));
 }
 
 // What happened before the first reader was there is told to nobody.
 fn nothing_is_kept<R: Abort, S: Told>(rt: &R, shelf: &mut S, list: &[Entity]) {
-    assert_eq!(rt; list.len(), 2);
+    equal!(rt; list.len(), 2);
     holds!(rt; shelf.emits());
-    equal!(rt; shelf.put(list[0], 1), Some(None));
+    replaces!(rt; shelf.put(nth(rt, list, 0), 1), Some(None));
     equal!(rt; shelf.listen(), Some(0));
     holds!(rt; reads(shelf, 0, &[]));
-    holds!(rt; shelf.add(list[0], 1));
+    holds!(rt; shelf.add(nth(rt, list, 0), 1));
     holds!(rt; reads(shelf, 0, &[Modified(0)]));
 }
 
@@ -111,11 +111,11 @@ fn told_by_hand<R: Abort, S: Told>(rt: &R, shelf: &mut S) {
 
 // What an entry puts where there was nothing is told as inserted and as modified, and what it replaces as modified.
 fn replacements_are_told<R: Abort, S: Told + Entries>(rt: &R, shelf: &mut S, list: &[Entity]) {
-    assert_eq!(rt; list.len(), 1);
+    equal!(rt; list.len(), 1);
     equal!(rt; shelf.listen(), Some(0));
-    equal!(rt; shelf.replace(list[0], 1), Some(None));
+    replaces!(rt; shelf.replace(nth(rt, list, 0), 1), Some(None));
     holds!(rt; reads(shelf, 0, &[Inserted(0), Modified(0)]));
-    equal!(rt; shelf.replace(list[0], 2), Some(Some(1)));
+    replaces!(rt; shelf.replace(nth(rt, list, 0), 2), Some(Some(1)));
     holds!(rt; reads(shelf, 0, &[Modified(0)]));
 }
 
@@ -186,7 +186,7 @@ fn rounds_are_told<R: Abort, S: Told>(
     shelf: &mut S,
     list: &[Entity],
 ) -> Result<(), Fail> {
-    assert_eq!(rt; list.len(), 15);
+    equal!(rt; list.len(), 15);
     equal!(rt; shelf.listen(), Some(0));
     fill(rt, shelf, list, 1);
     are_inserted(rt, &sorted(alloc, shelf)?, list);

@@ -1,7 +1,7 @@
 //! Each kind of storage, and the dense vector.
-use crate::asserts::{equal, holds};
+use crate::asserts::{equal, gives, holds, replaces};
 use crate::components::InDense;
-use crate::kinds::put_all;
+use crate::kinds::{nth, put_all};
 use crate::loans::double_all;
 use crate::shelf::{Shelf, Sliced};
 use crate::stories::{
@@ -45,15 +45,15 @@ fn dummy_test_clear(rt: HostRuntime) -> Result<(), Fail> {
 
 /// The component of the first is inserted, replaced, and removed; the other has none.
 pub fn is_set_twice<R: Abort, S: Shelf>(rt: &R, shelf: &mut S, list: &[Entity]) {
-    assert_eq!(rt; list.len(), 2);
-    let (e, other) = (list[0], list[1]);
-    equal!(rt; shelf.put(e, 0), Some(None));
-    equal!(rt; shelf.put(e, 0), Some(Some(0)));
+    equal!(rt; list.len(), 2);
+    let (e, other) = (nth(rt, list, 0), nth(rt, list, 1));
+    replaces!(rt; shelf.put(e, 0), Some(None));
+    replaces!(rt; shelf.put(e, 0), Some(Some(0)));
     holds!(rt; shelf.add(e, 0));
-    equal!(rt; shelf.at(other), None);
-    equal!(rt; shelf.take(e), Some(0));
-    equal!(rt; shelf.take(e), None);
-    equal!(rt; shelf.at(e), None);
+    gives!(rt; shelf.at(other), None);
+    gives!(rt; shelf.take(e), Some(0));
+    gives!(rt; shelf.take(e), None);
+    gives!(rt; shelf.at(e), None);
 }
 
 #[test]
@@ -76,7 +76,7 @@ impl Doubled for World<InDense> {
 // The last value moves to the place of the one that was taken out.
 fn the_last_is_moved<R: Abort, S: Sliced>(rt: &R, shelf: &mut S) {
     put_all(rt, shelf, &[(0, 1), (1, 2), (2, 3)]);
-    equal!(rt; shelf.take_out(0), Some(1));
+    gives!(rt; shelf.take_out(0), Some(1));
     holds!(rt; shelf.has_slice(&[3, 2]));
     holds!(rt; shelf.clear_all());
     holds!(rt; shelf.has_slice(&[]));
@@ -85,9 +85,9 @@ fn the_last_is_moved<R: Abort, S: Sliced>(rt: &R, shelf: &mut S) {
 // The values of indices that are far apart have no gaps.
 fn far_indices_lie_close<R: Abort, S: Sliced>(rt: &R, shelf: &mut S) {
     put_all(rt, shelf, &[(0, 1), (4095, 2), (4096, 3), (16_777_215, 4)]);
-    equal!(rt; shelf.take_out(4095), Some(2));
+    gives!(rt; shelf.take_out(4095), Some(2));
     holds!(rt; shelf.has_slice(&[1, 4, 3]));
-    equal!(rt; shelf.take_out(0), Some(1));
+    gives!(rt; shelf.take_out(0), Some(1));
     holds!(rt; shelf.has_slice(&[3, 4]));
     put_all(rt, shelf, &[(4095, 5)]);
     holds!(rt; shelf.has_slice(&[3, 4, 5]));
@@ -97,12 +97,12 @@ fn far_indices_lie_close<R: Abort, S: Sliced>(rt: &R, shelf: &mut S) {
 // Four numbers without the one that is taken out are doubled, and found at the indices.
 fn three_are_doubled<R: Abort, S: Doubled>(rt: &R, shelf: &mut S) {
     put_all(rt, shelf, &[(0, 0), (1, 1), (2, 2), (3, 3)]);
-    equal!(rt; shelf.take_out(1), Some(1));
+    gives!(rt; shelf.take_out(1), Some(1));
     shelf.double();
     holds!(rt; shelf.has_slice(&[0, 6, 4]));
-    equal!(rt; shelf.number_in(3), Some(6));
-    equal!(rt; shelf.number_in(2), Some(4));
-    equal!(rt; shelf.number_in(1), None);
+    gives!(rt; shelf.number_in(3), Some(6));
+    gives!(rt; shelf.number_in(2), Some(4));
+    gives!(rt; shelf.number_in(1), None);
 }
 
 // Values move, lie close, and are all written to.
@@ -127,9 +127,9 @@ fn dense_slices(rt: HostRuntime) -> Result<(), Fail> {
 /// Each gets 0 and then its index.
 pub fn are_inserted_twice<R: Abort, S: Shelf>(rt: &R, shelf: &mut S, list: &[Entity]) {
     for e in list {
-        equal!(rt; shelf.put(*e, 0), Some(None));
-        equal!(rt; shelf.put(*e, e.id()), Some(Some(0)));
-        equal!(rt; shelf.at(*e), Some(e.id()));
+        replaces!(rt; shelf.put(*e, 0), Some(None));
+        replaces!(rt; shelf.put(*e, e.id()), Some(Some(0)));
+        gives!(rt; shelf.at(*e), Some(e.id()));
     }
 }
 
@@ -140,9 +140,10 @@ fn insert_same_key(rt: HostRuntime) -> Result<(), Fail> {
 
 /// Of three indices the first and the third are dropped. The list names an entity twice, and one that has no component.
 pub fn first_and_third_are_dropped<R: Abort, S: Shelf>(rt: &R, shelf: &mut S, list: &[Entity]) {
-    assert_eq!(rt; list.len(), 4);
+    equal!(rt; list.len(), 4);
     put_all(rt, shelf, &[(0, 0), (1, 1), (2, 2)]);
-    holds!(rt; shelf.drop_list(&[list[0], list[2], list[0], list[3]]));
+    let (first, third) = (nth(rt, list, 0), nth(rt, list, 2));
+    holds!(rt; shelf.drop_list(&[first, third, first, nth(rt, list, 3)]));
     holds!(rt; !shelf.contains(0));
     holds!(rt; shelf.contains(1));
     holds!(rt; !shelf.contains(2));

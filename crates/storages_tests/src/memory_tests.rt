@@ -1,5 +1,5 @@
 //! Calls that may want memory, each with ample memory.
-use crate::asserts::{equal, holds};
+use crate::asserts::{equal, gives, holds};
 use crate::shelf::Shelf;
 use crate::stories::{Story, in_dense};
 use std::process::Abort;
@@ -11,7 +11,7 @@ pub fn is_built<R: Abort, S: Shelf>(rt: &R, shelf: &mut S) {
     holds!(rt; built.is_some());
     if let Some(e) = built {
         holds!(rt; shelf.lives(e));
-        equal!(rt; shelf.number_in(e.id()), Some(7));
+        gives!(rt; shelf.number_in(e.id()), Some(7));
     }
 }
 
@@ -24,7 +24,7 @@ fn a_builder_puts_its_component(rt: HostRuntime) -> Result<(), Fail> {
 pub fn comes_and_goes<R: Abort, S: Shelf>(rt: &R, shelf: &mut S) {
     holds!(rt; shelf.insert_in(3, 1, 1));
     holds!(rt; shelf.add_present(3, 3));
-    equal!(rt; shelf.take_present(3), Some(5));
+    gives!(rt; shelf.take_present(3), Some(5));
     equal!(rt; shelf.count_in(), 0);
 }
 

@@ -1,5 +1,5 @@
 //! The vector of options.
-use crate::asserts::{equal, holds};
+use crate::asserts::{equal, gives, holds};
 use crate::default_vec_tests::indices;
 use crate::kinds::{fill, put_all};
 use crate::numbers::{InVec, Number, Shared};
@@ -19,7 +19,7 @@ fn lie_at_places<R: Abort, S: Gapped>(
     shelf: &mut S,
     list: &[Entity],
 ) -> Result<(), Fail> {
-    assert_eq!(rt; list.len(), 1000);
+    equal!(rt; list.len(), 1000);
     fill(rt, shelf, list, 2718);
     let numbers = indices(alloc, list, 2718)?;
     holds!(rt; shelf.shows_numbers(numbers.as_slice()));
@@ -30,7 +30,7 @@ fn lie_at_places<R: Abort, S: Gapped>(
 fn slice_stays_as_long<R: Abort, S: Gapped>(rt: &R, shelf: &mut S) {
     put_all(rt, shelf, &[(2, 5)]);
     holds!(rt; shelf.has_places(&[false, false, true]));
-    equal!(rt; shelf.take_out(2), Some(5));
+    gives!(rt; shelf.take_out(2), Some(5));
     holds!(rt; shelf.has_places(&[false, false, false]));
 }
 

@@ -1,5 +1,6 @@
 //! Views beside entities that die.
-use crate::asserts::{equal, holds};
+use crate::asserts::{equal, gives, holds, replaces};
+use crate::kinds::nth;
 use crate::numbers::{InVec, Number};
 use crate::shelf::{Entries, Seen, Shelf};
 use crate::stories::{Story, in_hash, in_null, in_vec};
@@ -30,11 +31,11 @@ fn stale_is_told<R: Abort, S: Shelf>(
 
 // The stale entity finds nothing, before and after the other has a number.
 fn reaches_nothing<R: Abort, S: Shelf>(rt: &R, shelf: &mut S, stale: Entity, other: Entity) {
-    equal!(rt; shelf.at(stale), None);
-    equal!(rt; shelf.put(other, 2), Some(None));
-    equal!(rt; shelf.at(stale), None);
-    equal!(rt; shelf.take(stale), None);
-    equal!(rt; shelf.at(other), Some(2));
+    gives!(rt; shelf.at(stale), None);
+    replaces!(rt; shelf.put(other, 2), Some(None));
+    gives!(rt; shelf.at(stale), None);
+    gives!(rt; shelf.take(stale), None);
+    gives!(rt; shelf.at(other), Some(2));
 }
 
 /// A stale entity, and another of its index, where nobody was born before.
@@ -71,14 +72,14 @@ fn refusals_have_texts(rt: HostRuntime) -> Result<(), Fail> {
 /// All are inserted; every third is lent to write to, and the others are read.
 pub fn are_marked_and_lent<R: Abort, S: Shelf>(rt: &R, shelf: &mut S, list: &[Entity]) {
     for e in list {
-        equal!(rt; shelf.put(*e, 0), Some(None));
+        replaces!(rt; shelf.put(*e, 0), Some(None));
     }
     for e in list {
         holds!(rt; shelf.is_marked(e.id()));
         if e.id() % 3 == 0 {
             holds!(rt; shelf.add(*e, 0));
         } else {
-            equal!(rt; shelf.at(*e), Some(0));
+            gives!(rt; shelf.at(*e), Some(0));
         }
     }
     equal!(rt; shelf.count(), 50);
@@ -92,22 +93,22 @@ fn storage_mask(rt: HostRuntime) -> Result<(), Fail> {
 
 // What a view to read shows of the second of three entities, which alone has a number.
 fn second_is_read<R: Abort, S: Seen>(rt: &R, shelf: &S, list: &[Entity]) {
-    assert_eq!(rt; list.len(), 3);
-    holds!(rt; shelf.sees(list[1]));
-    holds!(rt; shelf.holds(list[1]));
+    equal!(rt; list.len(), 3);
+    holds!(rt; shelf.sees(nth(rt, list, 1)));
+    holds!(rt; shelf.holds(nth(rt, list, 1)));
     holds!(rt; shelf.excludes(1));
     holds!(rt; !shelf.excludes(0));
     equal!(rt; shelf.extent(), (2, 1, false));
-    holds!(rt; shelf.knows(list[2]));
+    holds!(rt; shelf.knows(nth(rt, list, 2)));
 }
 
 // The second of three entities gets a number, which views show then.
 fn second_is_seen<R: Abort, S: Seen>(rt: &R, shelf: &mut S, list: &[Entity]) -> Result<(), Fail> {
-    assert_eq!(rt; list.len(), 3);
-    equal!(rt; shelf.put(list[1], 1), Some(None));
+    equal!(rt; list.len(), 3);
+    replaces!(rt; shelf.put(nth(rt, list, 1), 1), Some(None));
     holds!(rt; shelf.excludes_to_write(1));
     second_is_read(rt, shelf, list);
-    holds!(rt; shelf.copy_holds(list[1], list[0], 2)?);
+    holds!(rt; shelf.copy_holds(nth(rt, list, 1), nth(rt, list, 0), 2)?);
     Ok(())
 }
 
@@ -128,15 +129,15 @@ fn views_to_read(rt: HostRuntime) -> Result<(), Fail> {
 
 /// A view to write by its trait, by a reference too, and what views show of that by their trait.
 pub fn by_trait<R: Abort, S: Entries>(rt: &R, shelf: &mut S, list: &[Entity]) {
-    assert_eq!(rt; list.len(), 1);
-    let e = list[0];
-    equal!(rt; shelf.lent_by_trait(e), Some(0));
+    equal!(rt; list.len(), 1);
+    let e = nth(rt, list, 0);
+    gives!(rt; shelf.lent_by_trait(e), Some(0));
     holds!(rt; shelf.take_by_trait(e));
     holds!(rt; shelf.take_by_trait(e));
-    equal!(rt; shelf.put_by_trait(e, 2), Some(None));
-    equal!(rt; shelf.put_by_trait(e, 3), Some(Some(2)));
+    replaces!(rt; shelf.put_by_trait(e, 2), Some(None));
+    replaces!(rt; shelf.put_by_trait(e, 3), Some(Some(2)));
     holds!(rt; shelf.add_by_trait(e));
-    equal!(rt; shelf.lent_by_trait(e), Some(4));
+    gives!(rt; shelf.lent_by_trait(e), Some(4));
     equal!(rt; shelf.shown_by_trait(e), (Some(4), Some(4), Some(4)));
 }
 
