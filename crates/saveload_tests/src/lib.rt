@@ -4,6 +4,8 @@
 #[cfg(test)]
 mod components;
 #[cfg(test)]
+mod equality_tests;
+#[cfg(test)]
 mod json_tests;
 #[cfg(test)]
 mod marker_tests;
@@ -15,6 +17,8 @@ mod saving_tests;
 mod single_tests;
 #[cfg(test)]
 mod stopped_tests;
+#[cfg(test)]
+mod tuple_tests;
 #[cfg(test)]
 mod uuid_tests;
 #[cfg(test)]
