@@ -17,7 +17,23 @@ macro_rules! equal {
     };
 }
 
+/// The same of a number, or none.
+macro_rules! gives {
+    ($rt:expr; $answer:expr, $wanted:expr $(,)?) => {
+        $crate::asserts::must_give($rt, $answer, $wanted, stringify!($answer))
+    };
+}
+
+/// The same of two numbers, or none.
+macro_rules! gives_two {
+    ($rt:expr; $answer:expr, $wanted:expr $(,)?) => {
+        $crate::asserts::must_give_two($rt, $answer, $wanted, stringify!($answer))
+    };
+}
+
 pub(crate) use equal;
+pub(crate) use gives;
+pub(crate) use gives_two;
 pub(crate) use holds;
 
 /// What `holds!` calls.
@@ -27,5 +43,25 @@ pub fn must_hold<R: Abort>(rt: &R, answer: bool, call: &str) {
 
 /// What `equal!` calls.
 pub fn must_equal<R: Abort, T: PartialEq + Debug + Drop>(rt: &R, answer: T, wanted: T, call: &str) {
+    agree(rt, &answer, &wanted, call);
+}
+
+/// What `gives!` calls. Its types are known, so a story does not prove with each call that what it answers can be compared and shown.
+pub fn must_give<R: Abort>(rt: &R, answer: Option<i32>, wanted: Option<i32>, call: &str) {
+    agree(rt, &answer, &wanted, call);
+}
+
+/// What `gives_two!` calls. Its types are known, so a story does not prove with each call that what it answers can be compared and shown.
+pub fn must_give_two<R: Abort>(
+    rt: &R,
+    answer: Option<(i32, i32)>,
+    wanted: Option<(i32, i32)>,
+    call: &str,
+) {
+    agree(rt, &answer, &wanted, call);
+}
+
+// The same of what is lent: a function that owns both is slow to prove.
+fn agree<R: Abort, T: PartialEq + Debug>(rt: &R, answer: &T, wanted: &T, call: &str) {
     assert_eq!(rt; answer, wanted, "{call}");
 }

@@ -1,5 +1,5 @@
 //! Change sets.
-use crate::asserts::{equal, holds};
+use crate::asserts::{equal, gives, gives_two, holds};
 use crate::stories::{Story, told};
 use crate::worlds::first_at;
 use crate::yard::Yard;
@@ -29,6 +29,16 @@ fn refuses(set: &mut ChangeSet<i32>, e: Entity, value: i32) -> Option<ChangeErro
     set.add(e, value).err()
 }
 
+// Leaves no value.
+fn clear(set: &mut ChangeSet<i32>) {
+    set.clear();
+}
+
+// Why a list of values is refused.
+fn refuses_one_of(set: &mut ChangeSet<i32>, list: Vec<(Entity, i32)>) -> Option<ChangeError> {
+    set.extend(list).err()
+}
+
 // A list of changes, which takes memory that is there.
 fn listed(alloc: Global, changes: &[(Entity, i32)]) -> Result<Vec<(Entity, i32)>, AllocError> {
     let mut list = Vec::new(alloc);
@@ -47,9 +57,9 @@ fn fill<R: Abort, Y: Yard>(rt: &R, yard: &mut Y) {
 
 // The healths that are left at the three indices.
 fn are_left<R: Abort, Y: Yard>(rt: &R, yard: &Y) {
-    equal!(rt; yard.first(0), Some((68, 0)));
-    equal!(rt; yard.first(1), Some((175, 0)));
-    equal!(rt; yard.first(2), Some((300, 0)));
+    gives_two!(rt; yard.first(0), Some((68, 0)));
+    gives_two!(rt; yard.first(1), Some((175, 0)));
+    gives_two!(rt; yard.first(2), Some((300, 0)));
 }
 
 // The change set of a list.
@@ -98,8 +108,8 @@ pub fn are_bounded<R: Abort, Y: Yard>(rt: &R, alloc: Global, yard: &mut Y) -> Re
     holds!(rt; yard.put_first(0, (100, 0)));
     holds!(rt; yard.put_first(1, (20, 0)));
     yard.bound(&mut set);
-    equal!(rt; at(&set, 0), Some(32));
-    equal!(rt; at(&set, 1), Some(20));
+    gives!(rt; at(&set, 0), Some(32));
+    gives!(rt; at(&set, 1), Some(20));
     Ok(())
 }
 
@@ -113,7 +123,7 @@ fn refuses_a_sum<R: Abort>(rt: &R, set: &mut ChangeSet<i32>) -> Result<(), Fail>
     let e = first_at(7)?;
     holds!(rt; adds(set, e, 2147483647));
     holds!(rt; matches!(refuses(set, e, 1), Some(ChangeError::Refused)));
-    equal!(rt; at(set, 7), Some(2147483647));
+    gives!(rt; at(set, 7), Some(2147483647));
     Ok(())
 }
 
@@ -121,9 +131,9 @@ fn refuses_a_sum<R: Abort>(rt: &R, set: &mut ChangeSet<i32>) -> Result<(), Fail>
 fn stops<R: Abort>(rt: &R, alloc: Global, set: &mut ChangeSet<i32>) -> Result<(), Fail> {
     let (a, b) = (first_at(0)?, first_at(1)?);
     let list = listed(alloc, &[(a, 2147483647), (b, 5), (a, 1), (b, 6)])?;
-    holds!(rt; matches!(set.extend(list), Err(ChangeError::Refused)));
-    equal!(rt; at(set, 0), Some(2147483647));
-    equal!(rt; at(set, 1), Some(5));
+    holds!(rt; matches!(refuses_one_of(set, list), Some(ChangeError::Refused)));
+    gives!(rt; at(set, 0), Some(2147483647));
+    gives!(rt; at(set, 1), Some(5));
     Ok(())
 }
 
@@ -133,10 +143,10 @@ fn looks_at_indices<R: Abort>(rt: &R, set: &mut ChangeSet<i32>) -> Result<(), Fa
     let new = Entity::from_parts(3, 2).ok_or("no entity")?;
     holds!(rt; adds(set, old, 1));
     holds!(rt; adds(set, new, 2));
-    equal!(rt; at(set, 3), Some(3));
+    gives!(rt; at(set, 3), Some(3));
     holds!(rt; matches!(refuses(set, far, 1), Some(ChangeError::IndexLimit)));
-    set.clear();
-    equal!(rt; at(set, 3), None);
+    clear(set);
+    gives!(rt; at(set, 3), None);
     equal!(rt; count(set), 0);
     Ok(())
 }

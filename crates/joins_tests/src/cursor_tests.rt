@@ -1,5 +1,5 @@
 //! Cursors, and what they write.
-use crate::asserts::{equal, holds};
+use crate::asserts::{equal, gives, gives_two, holds};
 use crate::stories::{Story, TrackedStory, told, told_of_defaults, told_of_tracked};
 use crate::worlds::first_at;
 use crate::yard::{Joined, Told, Viewed, Yard};
@@ -27,10 +27,10 @@ fn put_second<R: Abort, Y: Yard>(rt: &R, yard: &mut Y, ids: &[u32], number: i32)
 
 // The first storage has these numbers at the indices from 0 on.
 fn are_first<R: Abort, Y: Yard>(rt: &R, yard: &Y, numbers: [Option<i32>; 4]) {
-    equal!(rt; first_number(yard, 0), numbers[0]);
-    equal!(rt; first_number(yard, 1), numbers[1]);
-    equal!(rt; first_number(yard, 2), numbers[2]);
-    equal!(rt; first_number(yard, 3), numbers[3]);
+    gives!(rt; first_number(yard, 0), numbers[0]);
+    gives!(rt; first_number(yard, 1), numbers[1]);
+    gives!(rt; first_number(yard, 2), numbers[2]);
+    gives!(rt; first_number(yard, 3), numbers[3]);
 }
 
 // The number of an index in the first storage.
@@ -55,12 +55,12 @@ pub fn goes_on<R: Abort, Y: Yard>(rt: &R, yard: &mut Y) {
     holds!(rt; yard.put_first(1, (0, 0)));
     holds!(rt; yard.put_second(0, (5, 2)));
     yard.go_on();
-    equal!(rt; yard.first(0), Some((5, 2)));
-    equal!(rt; yard.first(1), Some((0, 0)));
-    equal!(rt; yard.first(2), None);
+    gives_two!(rt; yard.first(0), Some((5, 2)));
+    gives_two!(rt; yard.first(1), Some((0, 0)));
+    gives_two!(rt; yard.first(2), None);
     yard.go_on();
-    equal!(rt; yard.first(0), Some((10, 4)));
-    equal!(rt; yard.second(0), Some((5, 2)));
+    gives_two!(rt; yard.first(0), Some((10, 4)));
+    gives_two!(rt; yard.second(0), Some((5, 2)));
 }
 
 #[test]
@@ -91,9 +91,9 @@ pub fn one_is_taken<R: Abort, Y: Yard>(rt: &R, alloc: Global, yard: &mut Y) -> R
     let (list, once) = yard.drain_at(alloc, 2)?;
     holds!(rt; once);
     holds!(rt; list.as_slice() == [1, 2, 4].as_slice());
-    equal!(rt; first_number(yard, 1), Some(7));
-    equal!(rt; first_number(yard, 2), None);
-    equal!(rt; first_number(yard, 4), Some(7));
+    gives!(rt; first_number(yard, 1), Some(7));
+    gives!(rt; first_number(yard, 2), None);
+    gives!(rt; first_number(yard, 4), Some(7));
     Ok(())
 }
 
@@ -206,9 +206,9 @@ pub fn are_exchanged<R: Abort, Y: Yard>(rt: &R, yard: &mut Y) {
     holds!(rt; yard.choose(2));
     yard.exchange();
     are_first(rt, yard, [Some(1), Some(1), Some(3), None]);
-    equal!(rt; second_number(yard, 0), Some(3));
-    equal!(rt; second_number(yard, 1), None);
-    equal!(rt; second_number(yard, 2), Some(1));
+    gives!(rt; second_number(yard, 0), Some(3));
+    gives!(rt; second_number(yard, 1), None);
+    gives!(rt; second_number(yard, 2), Some(1));
 }
 
 #[test]
@@ -273,14 +273,20 @@ fn cursors_tell_their_events(rt: HostRuntime) -> Result<(), Fail> {
     told_of_tracked(&rt, rt.alloc(), 4, TrackedStory::AllAreTold)
 }
 
-// The indices that were modified.
-fn modified(alloc: Global, events: &[ComponentEvent]) -> Result<BitSet, SetError> {
-    let mut set = BitSet::new(alloc);
+// Adds the indices that were modified.
+fn add_modified(set: &mut BitSet, events: &[ComponentEvent]) -> Result<(), SetError> {
     for event in events {
         if let Modified(id) = *event {
             set.add(id)?;
         }
     }
+    Ok(())
+}
+
+// The indices that were modified.
+fn modified(alloc: Global, events: &[ComponentEvent]) -> Result<BitSet, SetError> {
+    let mut set = BitSet::new(alloc);
+    add_modified(&mut set, events)?;
     Ok(set)
 }
 
@@ -310,8 +316,8 @@ pub fn by_a_view<R: Abort, Y: Viewed>(rt: &R, yard: &mut Y) -> Result<(), Fail> 
     equal!(rt; yard.take(), (Some(0), Some(1)));
     equal!(rt; yard.place(), Some(0));
     equal!(rt; yard.look(one), (Some(1), true, true));
-    equal!(rt; yard.show(), Some(9));
-    equal!(rt; yard.at(one), Some(9));
+    gives!(rt; yard.show(), Some(9));
+    gives!(rt; yard.at(one), Some(9));
     Ok(())
 }
 

@@ -1,5 +1,5 @@
 //! What a join gives at an entity, wherever its walk is.
-use crate::asserts::{equal, holds};
+use crate::asserts::{equal, gives_two, holds};
 use crate::stories::{Story, told};
 use crate::yard::Joined;
 use entities::Entity;
@@ -21,21 +21,31 @@ fn born<R: Abort, Y: Joined>(
     Ok(entity)
 }
 
+// The only entity has both, then one, and then dies.
+fn comes_and_dies<R: Abort, Y: Joined>(rt: &R, yard: &mut Y, entity: Entity) {
+    equal!(rt; yard.living(), Some(entity));
+    gives_two!(rt; yard.both_at(entity), Some((1, 1)));
+    holds!(rt; yard.take_second(entity.id()));
+    gives_two!(rt; yard.both_at(entity), None);
+    holds!(rt; yard.kill(entity));
+}
+
+// Just the later of two entities of an index has what is there.
+fn later_is_given<R: Abort, Y: Joined>(rt: &R, yard: &Y, entity: Entity, next: Entity) {
+    equal!(rt; next.id(), entity.id());
+    gives_two!(rt; yard.both_at(entity), None);
+    gives_two!(rt; yard.both_at(next), Some((2, 0)));
+    gives_two!(rt; yard.restricted_at(entity), None);
+    gives_two!(rt; yard.restricted_at(next), Some((2, 2)));
+    gives_two!(rt; yard.both_in(entity.id()), Some((2, 0)));
+}
+
 /// Just the entity of the later birth has what is at an index of which two were born.
 pub fn given_by_generation<R: Abort, Y: Joined>(rt: &R, yard: &mut Y) -> Result<(), Fail> {
     let entity = born(rt, yard, 1, 1)?;
-    equal!(rt; yard.living(), Some(entity));
-    equal!(rt; yard.both_at(entity), Some((1, 1)));
-    holds!(rt; yard.take_second(entity.id()));
-    equal!(rt; yard.both_at(entity), None);
-    holds!(rt; yard.kill(entity));
+    comes_and_dies(rt, yard, entity);
     let next = born(rt, yard, 2, 0)?;
-    equal!(rt; next.id(), entity.id());
-    equal!(rt; yard.both_at(entity), None);
-    equal!(rt; yard.both_at(next), Some((2, 0)));
-    equal!(rt; yard.restricted_at(entity), None);
-    equal!(rt; yard.restricted_at(next), Some((2, 2)));
-    equal!(rt; yard.both_in(entity.id()), Some((2, 0)));
+    later_is_given(rt, yard, entity, next);
     Ok(())
 }
 
@@ -49,7 +59,7 @@ pub fn looked_midway<R: Abort, Y: Joined>(rt: &R, yard: &mut Y) -> Result<(), Fa
     let first = born(rt, yard, 1, 1)?;
     let _second = born(rt, yard, 2, 1)?;
     equal!(rt; yard.midway(first), Some((1, 1, 2)));
-    equal!(rt; yard.both_next(), Some((2, 2)));
+    gives_two!(rt; yard.both_next(), Some((2, 2)));
     Ok(())
 }
 
@@ -81,10 +91,10 @@ pub fn two_have_both<R: Abort, Y: Joined>(rt: &R, yard: &mut Y) -> Result<(), Fa
     let third = born(rt, yard, 3, 1)?;
     holds!(rt; yard.take_second(third.id()));
     equal!(rt; yard.two(), Some(((1, 0), (2, 1))));
-    equal!(rt; yard.both_in(0), Some((1, 0)));
-    equal!(rt; yard.both_in(1), Some((2, 1)));
-    equal!(rt; yard.both_in(2), None);
-    equal!(rt; yard.both_in(16_777_216), None);
+    gives_two!(rt; yard.both_in(0), Some((1, 0)));
+    gives_two!(rt; yard.both_in(1), Some((2, 1)));
+    gives_two!(rt; yard.both_in(2), None);
+    gives_two!(rt; yard.both_in(16_777_216), None);
     equal!(rt; yard.reads(), 8);
     Ok(())
 }

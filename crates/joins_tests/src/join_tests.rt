@@ -7,12 +7,18 @@ use joins::{BitAnd, Join, maybe};
 use std::alloc::Global;
 use std::test::Fail;
 
-// A set of these indices.
-fn set_of(alloc: Global, indices: &[u32]) -> Result<BitSet, SetError> {
-    let mut set = BitSet::new(alloc);
+// Adds these indices.
+fn fill(set: &mut BitSet, indices: &[u32]) -> Result<(), SetError> {
     for index in indices {
         set.add(*index)?;
     }
+    Ok(())
+}
+
+// A set of these indices.
+fn set_of(alloc: Global, indices: &[u32]) -> Result<BitSet, SetError> {
+    let mut set = BitSet::new(alloc);
+    fill(&mut set, indices)?;
     Ok(set)
 }
 
@@ -152,12 +158,12 @@ fn a_tuple_of_one_is_a_join(rt: HostRuntime) -> Result<(), Fail> {
 // Whether views of 0, 2, 4 and of 2, 3 that are lent give what they have.
 fn are_lent(alloc: Global, a: &BitSet, b: &BitSet) -> Result<bool, Fail> {
     let (both, either, one) = of_lent(alloc, a, b)?;
-    Ok(
-        both.as_slice() == [2].as_slice()
-            && either.as_slice() == [0, 2, 3, 4].as_slice()
-            && one.as_slice() == [0, 3, 4].as_slice()
-            && outside(a, b) == 2,
-    )
+    Ok(are_given(both.as_slice(), either.as_slice(), one.as_slice()) && outside(a, b) == 2)
+}
+
+// Whether these are what 0, 2, 4 and 2, 3 have in both, in either, and in one alone.
+fn are_given(both: &[u32], either: &[u32], one: &[u32]) -> bool {
+    both == [2].as_slice() && either == [0, 2, 3, 4].as_slice() && one == [0, 3, 4].as_slice()
 }
 
 #[test]

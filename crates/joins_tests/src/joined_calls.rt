@@ -1,9 +1,9 @@
 //! The calls of a yard's joins, one walk in each.
 use crate::worlds::{Numbered, World};
 use crate::yard::Joined;
-use entities::Entity;
-use hibits::BitSet;
-use joins::{Join, JoinIter, RestrictedStorage};
+use entities::{EntitiesRes, Entity};
+use hibits::{BitSet, BitSetLike};
+use joins::{Join, JoinIter, Lookup, RepeatableJoin, RestrictedStorage};
 use std::alloc::{AllocError, Global};
 use storages::{MaskedStorage, UnprotectedStorage};
 
@@ -39,6 +39,72 @@ where
     sum
 }
 
+/// Where a join is asked.
+#[derive(Clone, Copy)]
+enum At {
+    Entity(Entity),
+    Index(u32),
+}
+
+/// What a join gives at an entity or an index. A call at a known kind of join is slow to prove, so this one and those below are of whatever kind.
+fn found_at<J: RepeatableJoin>(join: J, at: At, entities: &EntitiesRes) -> Option<J::Type>
+where
+    J::Mask: BitSetLike,
+    J::Value: Lookup<J::Type>,
+{
+    let walk = JoinIter::new(join);
+    match at {
+        At::Entity(e) => walk.get(e, entities),
+        At::Index(id) => walk.get_unchecked(id),
+    }
+}
+
+/// What a join of both storages gives there: the one call of `found_at` for two of them.
+fn both_found<A: Numbered, B: Numbered>(
+    first: &MaskedStorage<A>,
+    second: &MaskedStorage<B>,
+    entities: &EntitiesRes,
+    at: At,
+) -> Option<(i32, i32)>
+where
+    A::Storage: UnprotectedStorage<A>,
+    B::Storage: UnprotectedStorage<B>,
+{
+    match found_at((first, second), at, entities) {
+        Some((first, second)) => Some((first.number(), second.number())),
+        None => None,
+    }
+}
+
+/// The first three that a join gives.
+fn first_three<J: Join>(join: J) -> (Option<J::Type>, Option<J::Type>, Option<J::Type>)
+where
+    J::Type: Drop,
+{
+    let mut walk = JoinIter::new(join);
+    let first = walk.next();
+    let second = walk.next();
+    (first, second, walk.next())
+}
+
+/// The first that a join gives.
+pub fn first_of<J: Join>(join: J) -> Option<J::Type>
+where
+    J::Type: Drop,
+{
+    JoinIter::new(join).next()
+}
+
+/// How many words a walk has read after one step.
+fn reads_of_one<J: Join>(join: J) -> u64
+where
+    J::Type: Drop,
+{
+    let mut walk = JoinIter::new(join);
+    let _ = walk.next();
+    walk.reads()
+}
+
 impl<A: Numbered, B: Numbered, C: Numbered> Joined for World<A, B, C>
 where
     A::Storage: UnprotectedStorage<A>,
@@ -46,17 +112,11 @@ where
     C::Storage: UnprotectedStorage<C>,
 {
     fn both_at(&self, e: Entity) -> Option<(i32, i32)> {
-        match (&self.first, &self.second).join().get(e, &self.entities) {
-            Some((first, second)) => Some((first.number(), second.number())),
-            None => None,
-        }
+        both_found(&self.first, &self.second, &self.entities, At::Entity(e))
     }
 
     fn both_in(&self, id: u32) -> Option<(i32, i32)> {
-        match (&self.first, &self.second).join().get_unchecked(id) {
-            Some((first, second)) => Some((first.number(), second.number())),
-            None => None,
-        }
+        both_found(&self.first, &self.second, &self.entities, At::Index(id))
     }
 
     fn restricted_at(&self, e: Entity) -> Option<(i32, i32)> {
@@ -88,36 +148,29 @@ where
     }
 
     fn living(&self) -> Option<Entity> {
-        (&self.entities).join().next()
+        first_of(&self.entities)
     }
 
     fn reads(&self) -> u64 {
-        let mut walk = (&self.first, &self.second).join();
-        let _ = walk.next();
-        walk.reads()
+        reads_of_one((&self.first, &self.second))
     }
 
     fn two(&self) -> Option<((i32, i32), (i32, i32))> {
-        let mut walk = (&self.first, &self.second).join();
-        let (a, b) = walk.next()?;
-        let one = (a.number(), b.number());
-        let (a, b) = walk.next()?;
-        let other = (a.number(), b.number());
-        if walk.next().is_some() {
-            return None;
+        match first_three((&self.first, &self.second)) {
+            (Some((a, b)), Some((c, d)), None) => {
+                Some(((a.number(), b.number()), (c.number(), d.number())))
+            }
+            _ => None,
         }
-        Some((one, other))
     }
 
     fn three(&self) -> Option<(Entity, i32, i32, bool)> {
-        let mut walk = (&self.entities, &self.first, &self.second).join();
-        let (entity, first, second) = walk.next()?;
-        Some((
-            entity,
-            first.number(),
-            second.number(),
-            walk.next().is_none(),
-        ))
+        match first_three((&self.entities, &self.first, &self.second)) {
+            (Some((entity, first, second)), next, _) => {
+                Some((entity, first.number(), second.number(), next.is_none()))
+            }
+            _ => None,
+        }
     }
 
     fn sum_at(&self, set: &BitSet) -> i32 {

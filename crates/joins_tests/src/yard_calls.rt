@@ -4,11 +4,12 @@ use crate::cursor_walks::{
     beside_one, counted, drained, drained_at, exchange, go_on, increase, no_more_than, raise_low,
     shown_and_lent, subtract, subtract_all, sum_of_entries,
 };
+use crate::joined_calls::first_of;
 use crate::worlds::{Numbered, World};
 use crate::yard::{Told, Viewed, Yard};
 use entities::Entity;
 use hibits::{BitSetAll, INDEX_LIMIT};
-use joins::{ChangeSet, Join, JoinIter, JoinLiving, JoinMut, Restrict, WriteJoin};
+use joins::{ChangeSet, JoinIter, JoinLiving, JoinMut, Restrict, WriteJoin};
 use std::alloc::{AllocError, Global};
 use std::process::Abort;
 use std::test::Fail;
@@ -97,7 +98,7 @@ where
 
     fn is_beside_no_absence(&self) -> bool {
         let view = ReadStorage::new(&self.entities, &self.first);
-        (&view, !&view).join().next().is_none()
+        first_of((&view, !&view)).is_none()
     }
 
     fn drain_at(&mut self, alloc: Global, id: u32) -> Result<(Vec<u32>, bool), AllocError> {
