@@ -1,4 +1,4 @@
-//! Callers of the libraries, as a user would write them: each is proved from the public contracts alone, and all but thirteen functions with
+//! Callers of the libraries, as a user would write them: each is proved from the public contracts alone, and all but fourteen functions with
 //! no proof file. What one of them could not prove would be a hole in a contract.
 #![tactic(auto)]
 
@@ -103,6 +103,7 @@ pub use readers::insertion_heard;
 pub use readers::nothing_heard;
 pub use readers::read_before;
 pub use saved_whole::carried_over;
+pub use saved_whole::carried_over_whole;
 pub use saved_whole::saved_and_read;
 pub use saving::lacks_ids;
 pub use saving::stays_unmarked;
