@@ -1,12 +1,11 @@
 -- What a saved list refers to is saved in it, and its ids differ.
-use Rattle.std.proofs.Common.{◌≡◌, ℕ, ◌+◌, ◌<◌, ◌≤◌, length, get_or, zero, suc, Bool, true, false, ◌&&◌, ◌||◌, cond, List, [], ◌∷◌, ◌++◌, map, refl, sym, ap, subst, ◌∙◌, inl, inr, Some, None, is_some, arith, eqb-true}
-use Rattle.std.specs.Prelude.{◌⊎◌, Option, IsSome, pos, slice_index, Result, Ok, Err, IfOk, OnOk}
-use Rattle.std.specs.List.{Contains, list_any, flat_map}
+use Rattle.std.proofs.Common.{◌≡◌, ℕ, ◌+◌, ◌<◌, suc, Bool, true, false, ◌&&◌, ◌||◌, cond, List, [], ◌∷◌, ◌++◌, map, refl, sym, ap, subst, ◌∙◌, inl, inr, Some, None, is_some, arith, eqb-true}
+use Rattle.std.specs.Prelude.{◌⊎◌, Option, IsSome, pos, Result, Ok, Err, IfOk, OnOk}
+use Rattle.std.specs.List.{Contains}
 use Rattle.std.specs.List.Sorted.{IsStrictlyIncreasing}
 use Rattle.std.specs.FinMap as finmap
 use Rattle.std.proofs.lemmas.Bool.{false≢true, eq-eqb, or_left, or_right}
 use Rattle.std.proofs.lemmas.Bool.Decides.{Decides-int_eq}
-use Rattle.std.proofs.lemmas.Option.{same_Some}
 use Rattle.hibits.specs.Left.{left, left-ascends, left-contains, contains-left}
 use Rattle.entities.specs.declared.entity.Entity.{Entity}
 use Rattle.entities.specs.Census.{Census, population}
@@ -18,7 +17,7 @@ use Rattle.storages.specs.Life.{is_alive}
 use Rattle.storages.specs.Limit.{IsIndex}
 use Rattle.saveload.specs.declared.entity_data.EntityData.{EntityData}
 use Rattle.saveload.specs.Conversion.{Conversion, Has}
-use Rattle.saveload.specs.Saved.{IsRecord, IsSavedList, DistinctIds, TellsApart, HoldsReferences, entity_at, all_marked}
+use Rattle.saveload.specs.Saved.{IsSavedList, DistinctIds, TellsApart, HoldsReferences, entity_at, all_marked}
 use Rattle.saveload.specs.Closing.{one_more, add_new, new_in, marked_in, HasMarked}
 use Rattle.saveload.specs.Places.{has_left, has_right, has_either}
 use Rattle.saveload.proofs.Lists.{has_at}

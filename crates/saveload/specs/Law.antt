@@ -1,5 +1,5 @@
 -- The law of saving and loading: one renaming.
-use Rattle.std.specs.Prelude.{◌≡◌, ℕ, Bool, false, List, [], ◌∷◌, Option, Some, None}
+use Rattle.std.specs.Prelude.{◌≡◌, ℕ, Bool, false, List, Option, Some, None}
 use Rattle.entities.specs.declared.entity.Entity.{Entity}
 use Rattle.entities.specs.Population.{Population, IsAlive, lives, index_of}
 use Rattle.saveload.specs.declared.entity_data.EntityData.{EntityData}

@@ -5,7 +5,6 @@ use Rattle.entities.specs.declared.entity.Entity.{Entity}
 use Rattle.saveload.specs.declared.error.SaveError.{SaveError}
 use Rattle.saveload.specs.declared.error.SaveError.TheVariants.{Unmarked, Custom, OutOfMemory, IdsExhausted, IdTaken}
 use Rattle.saveload.specs.Conversion.{Conversion, Answers, AllNamed}
-use Rattle.saveload.specs.Places.{place}
 use Rattle.saveload.specs.Tuples.{three, four, five, six}
 
 -- the causes for which a row may not be saved, by the names that a function gives

@@ -3,7 +3,7 @@ use Rattle.std.specs.Prelude.{IfOk}
 use Rattle.entities.specs.declared.entity.Entity.{Entity}
 use Rattle.entities.specs.Census.{population}
 use Rattle.storages.specs.ReadView.{found, slot, entities_of}
-use Rattle.saveload.specs.Conversion.{AllNamed, Has}
+use Rattle.saveload.specs.Conversion.{AllNamed}
 use Rattle.saveload.specs.Saved.{IsSavedList, all_marked, marked_read}
 use Rattle.saveload.proofs.Marked.{all_marked_named}
 use Rattle.saveload.proofs.Saving.{if_ok}

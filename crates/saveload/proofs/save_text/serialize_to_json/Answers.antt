@@ -3,7 +3,7 @@ use Rattle.entities.specs.declared.entity.Entity.{Entity}
 use Rattle.entities.specs.Census.{population}
 use Rattle.serde_json.specs.Written.{compact_text}
 use Rattle.storages.specs.ReadView.{found, slot, entities_of}
-use Rattle.saveload.specs.Conversion.{AllNamed, Has}
+use Rattle.saveload.specs.Conversion.{AllNamed}
 use Rattle.saveload.specs.Json.{list_json, list_from}
 use Rattle.saveload.specs.Saved.{IsSavedList, all_marked, marked_read}
 use Rattle.saveload.proofs.Kept.{text_read}
