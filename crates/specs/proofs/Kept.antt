@@ -6,7 +6,7 @@ use Rattle.entities.specs.declared.entity.Entity.{Entity}
 use Rattle.entities.specs.Population.{Population, MarkedIfAlive, index_of, lives, born, born_pending}
 use Rattle.storages.specs.Life.{is_alive}
 use Rattle.specs.specs.Building.{MarksOne}
-use Rattle.specs.specs.Column.{Column, emptied}
+use Rattle.specs.specs.Column.{Column}
 use Rattle.specs.specs.Dropping.{DropsComponents}
 use Rattle.specs.specs.Evolving.{OnePeopleStep}
 use Rattle.specs.specs.Gone.{IsGone, KeepsGone}

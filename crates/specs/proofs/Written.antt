@@ -1,7 +1,6 @@
 -- What a write through a view keeps: the same indices have a value.
 use Rattle.std.proofs.Common.{◌≡◌, ℕ, refl, sym, ap, ◌∙◌, subst, Option, Some, None}
 use Rattle.std.specs.Prelude.{option_map, is_some, ◌⊎◌}
-use Rattle.std.specs.FinMap as map
 use Rattle.entities.specs.Population.{Population, lives}
 use Rattle.specs.specs.Column.{Column}
 use Rattle.specs.specs.Field.{column_of, field_column, values_of}

@@ -1,4 +1,4 @@
-use Rattle.std.proofs.Common.{rules, ◌≡◌, ◌∙◌, ap, Some, None}
+use Rattle.std.proofs.Common.{rules, ◌≡◌, ◌∙◌, ap, None}
 use Rattle.std.specs.Prelude.{option_map}
 use Rattle.specs.specs.Shows.{column_as}
 use Rattle.specs.specs.Field.{field_column, column_of}
