@@ -40,5 +40,5 @@ pub use read_storage::ReadStorage;
 pub use reader_id::{ReaderId, UnknownReader};
 pub use slices::{SliceAccess, SliceAccessMut};
 pub use tracked::Tracked;
-pub use unprotected::{Component, Kind, TryDefault, UnprotectedStorage};
+pub use unprotected::{Component, Kind, Numbered, TryDefault, UnprotectedStorage};
 pub use write_storage::{INSERT, InsertError, WriteStorage};

@@ -104,8 +104,14 @@ pub trait UnprotectedStorage<T>: Kind<T> + TryDefault {
     ghost default_is_new: { (s : Self) → Self.IsDefault s → IsNew (Self.meaning s) };
 }
 
+/// Every type is one, at each number. It says nothing: without a number among its bounds, the check of an `impl Component` for a type that owns
+/// memory does not end well.
+pub trait Numbered<const N: usize> {}
+
+impl<T, const N: usize> Numbered<N> for T {}
+
 /// A type whose values belong to entities, and the storage that they are kept in. Ports `specs::Component`.
-pub trait Component {
+pub trait Component: Numbered<0> {
     /// The kind of storage.
     type Storage: Kind<Self>;
 }
