@@ -1,4 +1,5 @@
 //! Components that are saved: a place, and a link to another entity.
+ghost use Rattle.std.specs.Prelude.{refl};
 ghost use Rattle.saveload.specs.Plain.{plain_conversion, plain_faithful};
 ghost use Rattle.saveload.specs.Wrapped.{link_conversion, link_faithful};
 
@@ -194,5 +195,5 @@ impl<M: Marker> ConvertSaveload<M> for Link {
         }
     }
 
-    ghost faithful = { link_faithful (λ v. v.0) (λ e. record { 0 = e }) };
+    ghost faithful = { link_faithful (λ v. v.0) (λ e. record { 0 = e }) (λ v. refl) (λ e. refl) };
 }

@@ -1,4 +1,5 @@
 //! What is saved of a leader: its name.
+ghost use Rattle.std.specs.Prelude.{refl};
 ghost use Rattle.saveload.specs.Wrapped.{link_conversion, link_faithful};
 
 use crate::game::Leader;
@@ -41,5 +42,5 @@ impl<M: Marker> ConvertSaveload<M> for Leader {
         }
     }
 
-    ghost faithful = { link_faithful (λ v. v.0) (λ e. record { 0 = e }) };
+    ghost faithful = { link_faithful (λ v. v.0) (λ e. record { 0 = e }) (λ v. refl) (λ e. refl) };
 }

@@ -8,6 +8,7 @@ pub mod Saving
 pub mod Sound
 pub mod Loaded
 pub mod Renaming
+pub mod Converting
 pub mod JsonLists
 pub mod JsonTexts
 pub mod Kept

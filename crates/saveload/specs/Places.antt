@@ -29,7 +29,16 @@ place c = record {
 }
 
 pub place_faithful : {M V D : Type 0} (c : Conversion M V D) → IsFaithful c → IsFaithful (place c)
-place_faithful {M} {V} {D} c w = record { mentions_saved = told; loaded_saved = both; saved_same = same_saved; renamed_same = same_renamed; loaded_same = same }
+place_faithful {M} {V} {D} c w = record {
+  mentions_saved = told;
+  loaded_saved = both;
+  saved_same = same_saved;
+  renamed_same = same_renamed;
+  loaded_same = same;
+  renamed_itself = itself;
+  renamed_twice = twice;
+  references_renamed = referred;
+}
   where
     told : (f : Entity → M) (v : Option V) → if_some c.mentions (option_map (c.saved f) v) ≡ map f (if_some c.references v)
     told f None = refl
@@ -50,6 +59,18 @@ place_faithful {M} {V} {D} c w = record { mentions_saved = told; loaded_saved = 
     same : (g h : M → Entity) (d : Option D) → ((m : M) → Has (if_some c.mentions d) m → g m ≡ h m) → option_map (c.loaded g) d ≡ option_map (c.loaded h) d
     same g h None e = refl
     same g h (Some x) e = ap Some (w.loaded_same g h x e)
+
+    itself : (v : Option V) → option_map (c.renamed (λ x. x)) v ≡ v
+    itself None = refl
+    itself (Some x) = ap Some (w.renamed_itself x)
+
+    twice : (r q : Entity → Entity) (v : Option V) → option_map (c.renamed q) (option_map (c.renamed r) v) ≡ option_map (c.renamed (λ x. q (r x))) v
+    twice r q None = refl
+    twice r q (Some x) = ap Some (w.renamed_twice r q x)
+
+    referred : (r : Entity → Entity) (v : Option V) → if_some c.references (option_map (c.renamed r) v) ≡ map r (if_some c.references v)
+    referred r None = refl
+    referred r (Some x) = w.references_renamed r x
 
 -- a first place and the rest of a row
 abbrev pub both : {M V W D E : Type 0} → Conversion M V D → Conversion M W E → Conversion M (V × W) (D × E)
@@ -84,6 +105,9 @@ both_faithful {M} {V} {W} {D} {E} a b u w = record {
   saved_same = λ f h v e. rw (u.saved_same f h v.0 (λ q k. e q (has_left _ (b.references v.1) q k)), w.saved_same f h v.1 (λ q k. e q (has_right (a.references v.0) _ q k))) refl;
   renamed_same = λ r q v e. rw (u.renamed_same r q v.0 (λ x k. e x (has_left _ (b.references v.1) x k)), w.renamed_same r q v.1 (λ x k. e x (has_right (a.references v.0) _ x k))) refl;
   loaded_same = λ g h d e. rw (u.loaded_same g h d.0 (λ q k. e q (has_left _ (b.mentions d.1) q k)), w.loaded_same g h d.1 (λ q k. e q (has_right (a.mentions d.0) _ q k))) refl;
+  renamed_itself = λ v. rw (u.renamed_itself v.0, w.renamed_itself v.1) refl;
+  renamed_twice = λ r q v. rw (u.renamed_twice r q v.0, w.renamed_twice r q v.1) refl;
+  references_renamed = λ r v. rw (u.references_renamed r v.0, w.references_renamed r v.1) (sym (map-append r (a.references v.0) (b.references v.1)));
 }
 
 -- a row of one place
@@ -105,6 +129,9 @@ alone_faithful c w = record {
   saved_same = λ f h v e. rw (w.saved_same f h v.0 e) refl;
   renamed_same = λ r q v e. rw (w.renamed_same r q v.0 e) refl;
   loaded_same = λ g h d e. rw (w.loaded_same g h d.0 e) refl;
+  renamed_itself = λ v. rw (w.renamed_itself v.0) refl;
+  renamed_twice = λ r q v. rw (w.renamed_twice r q v.0) refl;
+  references_renamed = λ r v. w.references_renamed r v.0;
 }
 
 -- a flat tuple is a record of its own, not a pair of pairs
@@ -133,4 +160,7 @@ along_faithful s t c w = record {
   saved_same = λ f h v e. ap t.flat (w.saved_same f h (s.nest v) e);
   renamed_same = λ r q v e. ap s.flat (w.renamed_same r q (s.nest v) e);
   loaded_same = λ g h d e. ap s.flat (w.loaded_same g h (t.nest d) e);
+  renamed_itself = λ v. ap s.flat (w.renamed_itself (s.nest v)) ∙ s.flat_nest v;
+  renamed_twice = λ r q v. ap (λ y. s.flat (c.renamed q y)) (s.nest_flat _) ∙ ap s.flat (w.renamed_twice r q (s.nest v));
+  references_renamed = λ r v. ap c.references (s.nest_flat _) ∙ w.references_renamed r (s.nest v);
 }

@@ -21,6 +21,9 @@ checked_faithful refused = record {
   saved_same = λ f h v same. refl;
   renamed_same = λ r q v same. refl;
   loaded_same = λ g h d same. refl;
+  renamed_itself = λ v. refl;
+  renamed_twice = λ r q v. refl;
+  references_renamed = λ r v. refl;
 }
 
 -- no such value is refused

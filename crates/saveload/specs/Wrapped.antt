@@ -19,13 +19,18 @@ link_conversion target link = record {
   unloaded = λ m. NoCause;
 }
 
-pub link_faithful : {M V : Type 0} → (target : V → Entity) → (link : Entity → V) → IsFaithful (link_conversion {M = M} {V = V} target link)
-link_faithful target link = record {
+-- where the value is its reference and nothing more
+pub link_faithful : {M V : Type 0} → (target : V → Entity) → (link : Entity → V) → ((v : V) → link (target v) ≡ v) → ((e : Entity) → target (link e) ≡ e)
+    → IsFaithful (link_conversion {M = M} {V = V} target link)
+link_faithful target link whole back = record {
   mentions_saved = λ f v. refl;
   loaded_saved = λ f g v. refl;
   saved_same = λ f h v same. same (target v) (inl refl);
   renamed_same = λ r q v same. ap link (same (target v) (inl refl));
   loaded_same = λ g h d same. ap link (same d (inl refl));
+  renamed_itself = whole;
+  renamed_twice = λ r q v. ap (λ x. link (q x)) (back (r (target v)));
+  references_renamed = λ r v. ap (λ x. x ∷ []) (back (r (target v)));
 }
 
 -- a value that is one whole number

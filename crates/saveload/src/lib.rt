@@ -30,7 +30,7 @@ pub use convert::ConvertSaveload;
 pub use entity_data::EntityData;
 pub use error::{LoadError, SaveError};
 pub use json_data::{JsonData, JsonPlaces, from_json, to_json};
-pub use laws::{loads_give_ids, next_number_is_new, one_renaming};
+pub use laws::{loads_give_ids, next_number_is_new, nothing_is_lost, one_renaming};
 pub use load::{DeserializeComponents, deserialize};
 pub use mark_error::MarkError;
 pub use marker::{Marker, MarkerAllocator};

@@ -1,5 +1,5 @@
 //! Components that are saved.
-ghost use Rattle.std.specs.Prelude.{◌≡◌, ◌<ℤ◌, pos, codes};
+ghost use Rattle.std.specs.Prelude.{◌≡◌, ◌<ℤ◌, pos, codes, refl};
 ghost use Rattle.saveload.specs.Plain.{plain_conversion, plain_faithful, checked_conversion, checked_faithful};
 ghost use Rattle.saveload.specs.Wrapped.{link_conversion, link_faithful};
 
@@ -145,7 +145,7 @@ impl<M: Marker> ConvertSaveload<M> for Link {
         }
     }
 
-    ghost faithful = { link_faithful (λ v. v.0) (λ e. record { 0 = e }) };
+    ghost faithful = { link_faithful (λ v. v.0) (λ e. record { 0 = e }) (λ v. refl) (λ e. refl) };
 }
 
 impl JsonData for Position {

@@ -1,4 +1,5 @@
 //! How the program's components are saved: a number as itself, a reference as the marker of its entity.
+ghost use Rattle.std.specs.Prelude.{refl};
 ghost use Rattle.saveload.specs.Plain.{plain_conversion, plain_faithful};
 ghost use Rattle.saveload.specs.Wrapped.{link_conversion, link_faithful};
 
@@ -76,7 +77,7 @@ impl<M: Marker> ConvertSaveload<M> for Link {
         }
     }
 
-    ghost faithful = { link_faithful (λ v. v.0) (λ e. record { 0 = e }) };
+    ghost faithful = { link_faithful (λ v. v.0) (λ e. record { 0 = e }) (λ v. refl) (λ e. refl) };
 }
 
 impl JsonData for Position {
