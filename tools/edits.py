@@ -143,17 +143,3 @@ def applied(folder, edits):
                 return None
             texts[file] = texts[file].replace(old, new)
     return texts
-
-
-def groups_of(crate, edits, most):
-    """The crate's edits in groups that stand together, of which no two change one function."""
-    groups = []
-    for edit in edits:
-        for group in [] if edit.alone else groups:
-            is_free = len(group) < most and all(not it.alone and it.function != edit.function for it in group)
-            if is_free and applied(f"crates/{crate}", [*group, edit]) is not None:
-                group.append(edit)
-                break
-        else:
-            groups.append([edit])
-    return groups

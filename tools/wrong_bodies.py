@@ -1,5 +1,5 @@
 #!/usr/bin/env python3
-"""Tries the wrong bodies crates/NAME/wrong/*.edit and the right ones crates/NAME/right/*.edit in groups: the prover must refuse each wrong one
+"""Tries the wrong bodies crates/NAME/wrong/*.edit and the right ones crates/NAME/right/*.edit, several in a check: the prover must refuse each wrong one
 for the clauses that it breaks, and accept each right one by the same means.
 
     python3 tools/wrong_bodies.py [--anew | --alone | --explain | --list] [NAME..]      NAME: a crate, or a crate and an edit, as hibits or hibits/add_of_a_neighbour
@@ -9,7 +9,7 @@ it breaks what it names, and 'fn: PATH', the function that has to be refused, as
 'clause: WORD', a clause that the body breaks: each has to be left open by the prover's search. WORD is the name of a clause that the function promises; of a promise without
 a name `returns`, or the goal as it begins, as `returns-then-contains`; of what a call wants or a type keeps the goal's name, as `f-requires` or `invariant_of-self`.
 Where the check refuses a function before it looks at its clauses (a loop without an end, a step that a table of shared words forbids), 'says: TEXT'
-stands in the place of the clause: what the check must say. An edit that reaches beyond its function (a constant) has a line 'alone: WHY', and no other edit in its group.
+stands in the place of the clause: what the check must say. An edit that reaches beyond its function (a constant) has a line 'alone: WHY', and is tried alone.
 
 A right variant is the same function in another right form. It has lines 'beside: NAME' in the place of clauses: the wrong bodies of its function beside which
 it stands. None of the clauses that these name may be left open of it: so what refuses them is the clause, and not that the body is another.
@@ -18,12 +18,13 @@ An answer by hand (Answers.antt) fits the body for which it was written. Where o
 again, three times at most. Only a goal that the search then leaves open counts. A name that is lost, an answer that no longer fits or a text that is not read counts nothing.
 
 Edits of one crate that change different functions are applied together, so that one check tries up to sixty of them. It checks the functions of
-the edits and what these call, and no other (`rt check --only`). Each edit is judged by itself, and what a group did not show is tried again alone.
+the edits and what these call, and no other (`rt check --only`). The next check tries those that need another look, and with them edits of functions that are free
+again. Each edit is judged by itself, and what a check of several did not show is tried again alone.
 
 First the libraries below the edited crates are built in the tree, lowest first, each once: what `rt ci` leaves of them may not serve another check, and each room
-would build them again. There are as many lanes as processors, or RT_JOBS. A lane takes the crate that has the most left, makes a room for it (a copy of the tree), and tries
-one group after another there. What a group's check proved and the next did not change is kept in the room. Where every crate has its lane, the next
-lane makes a second room for the crate that has the most left, so that all lanes end at about one time. The verdicts come as they are found.
+would build them again. There are as many lanes as processors, or RT_JOBS. A lane takes the edits of one crate, of which there are most, or half of them where there are many,
+makes a room for them (a copy of the tree), and makes one check after another there. What a check proved and the next did not change is kept in the room. The
+verdicts come as they are found.
 
 What an edit showed is kept on this machine, by the checksum of all that decides it: the kit, these scripts, the edit but for its comments, and the files of its crate and
 of those below. So a later run tries what changed, and what stands above it, as `rt ci` proves it; --anew tries all.
@@ -40,7 +41,7 @@ import sys
 import tempfile
 import threading
 
-from edits import applied, edits_of, groups_of
+from edits import applied, edits_of
 from refusals import Said, answers_of, judge, without
 
 MOST = 60
@@ -71,28 +72,27 @@ def checked(room, crate, edits, out=None):
     return ran.stdout
 
 
-def shown(room, edits):
-    """Each edit with its verdict. Answers by hand that no longer fit are taken out, and the functions that had some are checked again."""
-    crate, told, out = edits[0].crate, {}, {}
-    for _ in range(ROUNDS):
-        text = checked(room, crate, edits, out)
-        again = []
-        for edit in edits:
-            said = Said(text, crate, edit.function)
-            if edit.says:
-                does = edit.says in text and said.is_refused
-                told[edit] = does, f"refused: {edit.says}" if does else f"NOT SHOWN: it does not say {edit.says}", said
-                continue
-            told[edit] = *judge(said, edit), said
-            new = said.erring - out.get(edit.function, set())
-            if new and (edit.is_right or not told[edit][0]) and answers_of(f"{room}/crates/{crate}", edit.function):
-                out[edit.function] = out.get(edit.function, set()) | new
-                again.append(edit)
-        edits = again
-        out = {it.function: out[it.function] for it in again}
-        if not edits:
-            break
-    return told
+class Trial:
+    """An edit that is tried, and the answers by hand that were found not to fit it, which are taken out."""
+
+    def __init__(self, edit):
+        self.edit, self.out, self.rounds = edit, set(), 0
+        self.told = self.said = None
+
+    def is_judged(self, text, folder):
+        """Judges the edit by what the check says; whether it is for good. If it isn't, more answers are out."""
+        self.rounds += 1
+        said = self.said = Said(text, self.edit.crate, self.edit.function)
+        if self.edit.says:
+            does = self.edit.says in text and said.is_refused
+            self.told = does, f"refused: {self.edit.says}" if does else f"NOT SHOWN: it does not say {self.edit.says}"
+            return True
+        self.told = judge(said, self.edit)
+        new = said.erring - self.out
+        if self.rounds == ROUNDS or not new or self.told[0] and not self.edit.is_right or not answers_of(folder, self.edit.function):
+            return True
+        self.out |= new
+        return False
 
 
 @functools.cache
@@ -199,57 +199,68 @@ def room_for(crate, top):
         shutil.copytree(f"crates/{crate}/out/incremental", f"{top}/crates/{crate}/out/incremental")
 
 
-def tried(room, group):
-    """Each edit of the group with its verdict. What the group did not show is tried again alone; a group of which the check looked at no function, in halves."""
-    told = shown(room, group)
-    if len(group) > 1:
-        half = len(group) // 2
-        if all(said.line is None for _, _, said in told.values()):
-            return [*tried(room, group[:half]), *tried(room, group[half:])]
-        for edit in [it for it in group if not told[it][0]]:
-            told |= shown(room, [edit])
-    return [(it, *told[it][:2]) for it in group]
+def next_wave(pending, most):
+    """The first trials that stand together: of different functions, as many as one check takes."""
+    wave = []
+    for it in pending:
+        if it.edit.alone and not wave:
+            return [it]
+        is_free = not it.edit.alone and len(wave) < most and all(it.edit.function != other.edit.function for other in wave)
+        if is_free and applied(f"crates/{it.edit.crate}", [*(other.edit for other in wave), it.edit]) is not None:
+            wave.append(it)
+    return wave
+
+
+def tried(room, edits, most, tell):
+    """Tries edits of one crate, a wave in each check, until each is judged for good. What a wave did not show is tried again alone; a wave of which
+    the check looked at no function, in halves."""
+    pending = [Trial(it) for it in edits]
+    while pending:
+        wave = next_wave(pending, most)
+        pending = [it for it in pending if it not in wave]
+        crate, out = wave[0].edit.crate, {it.edit.function: it.out for it in wave if it.out}
+        text = checked(room, crate, [it.edit for it in wave], out)
+        ended = [it for it in wave if it.is_judged(text, f"{room}/crates/{crate}")]
+        if len(wave) > 1 and all(it.said.line is None for it in wave):
+            half = (len(wave) + 1) // 2
+            for part in wave[:half], wave[half:]:
+                tried(room, [it.edit for it in part], half, tell)
+            continue
+        pending += [it for it in wave if it not in ended]
+        for it in ended:
+            if it.told[0] or len(wave) == 1:
+                tell(it)
+            else:
+                tried(room, [it.edit], 1, tell)
 
 
 class Work:
-    """The groups that no lane has taken yet, by crate."""
+    """The edits that no lane has taken yet, in shares of one crate each, of which no function is in two. Those that take longest come first."""
 
-    def __init__(self, groups):
-        self.groups, self.lanes, self.lock = groups, dict.fromkeys(groups, 0), threading.Lock()
+    def __init__(self, found, lanes):
+        shares = [it for crate, edits in found.items() for it in shares_of(edits, lanes)]
+        self.shares, self.lock = sorted(shares, key=len), threading.Lock()
 
-    def crate(self):
-        """The crate that has the most left for each lane at work in it; none, where nothing is left."""
+    def share(self):
         with self.lock:
-            found = max((it for it in self.groups if self.groups[it]), key=lambda it: self.weight(it) / (self.lanes[it] + 1), default=None)
-            if found:
-                self.lanes[found] += 1
-            return found
-
-    def weight(self, crate):
-        """About how long the crate's groups take."""
-        return sum(len(it) for it in self.groups[crate])
-
-    def group(self, crate):
-        """The crate's next group; none, where none is left."""
-        with self.lock:
-            if self.groups[crate]:
-                return self.groups[crate].pop(0)
-            self.lanes[crate] -= 1
-            return None
+            return self.shares.pop() if self.shares else None
 
 
-def lane(work, look, tell):
-    """Tries the groups of one crate in a room of its own, and then those of the next, until none is left."""
-    while crate := work.crate():
+def shares_of(edits, lanes):
+    """The edits of a crate that has many in two, where there are lanes for both."""
+    functions = list(dict.fromkeys(it.function for it in edits))
+    if lanes < 3 or len(functions) < MOST // 2:
+        return [edits]
+    first = set(functions[: len(functions) // 2])
+    return [[it for it in edits if (it.function in first) == is_first] for is_first in (True, False)]
+
+
+def lane(work, most, tell):
+    """Tries one share after another, each in a room of its own, until none is left."""
+    while share := work.share():
         with tempfile.TemporaryDirectory(prefix="wrong-bodies-") as top:
-            room_for(crate, top)
-            while group := work.group(crate):
-                tell(look(top, group))
-
-
-def explained(room, group):
-    """What each edit of the group leaves open, once the answers that no longer fit are out."""
-    return [(edit, True, f"{text} [open: {', '.join(said.open) or 'none'}; {said.line}]") for edit, (_, text, said) in shown(room, group).items()]
+            room_for(share[0].crate, top)
+            tried(top, share, most, tell)
 
 
 def read_edits(wanted, explains):
@@ -293,20 +304,22 @@ def main(words):
         return 0
     verdicts = []
 
-    def tell(told):
-        for edit, well, text in told:
-            print(f"{edit.label}: {text}", flush=True)
-            verdicts.append(well)
-            if well and how != "--explain":
-                keep(edit, text)
+    def tell(trial):
+        well, text = trial.told
+        if how == "--explain":
+            well, text = True, f"{text} [open: {', '.join(trial.said.open) or 'none'}; {trial.said.line}]"
+        print(f"{trial.edit.label}: {text}", flush=True)
+        verdicts.append(well)
+        if well and how != "--explain":
+            keep(trial.edit, text)
 
     if how == "":
         found = not_kept(found, verdicts)
     build_below(found)
-    work = Work({crate: [[it] for it in edits] if how == "--alone" else groups_of(crate, edits, MOST) for crate, edits in found.items()})
     lanes = int(os.environ.get("RT_JOBS") or len(os.sched_getaffinity(0)))
+    work, most = Work(found, lanes), 1 if how == "--alone" else MOST
     with concurrent.futures.ThreadPoolExecutor(lanes) as pool:
-        for it in [pool.submit(lane, work, explained if how == "--explain" else tried, tell) for _ in range(lanes)]:
+        for it in [pool.submit(lane, work, most, tell) for _ in range(lanes)]:
             it.result()
     passed = sum(verdicts)
     print(f"{passed} passed, {len(verdicts) - passed} failed")
