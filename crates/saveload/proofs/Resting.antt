@@ -5,10 +5,12 @@ use mathlib.Core.Path.{fun_ext}
 use Rattle.entities.specs.declared.entity.Entity.{Entity}
 use Rattle.entities.specs.Population.{index_of}
 use Rattle.saveload.specs.Conversion.{Conversion, GivesEach}
-use Rattle.saveload.specs.Places.{both, has_left, has_right, Shape, along}
+use Rattle.storages.specs.Slot.{Slot}
+use Rattle.saveload.specs.Places.{place, both, has_left, has_right, Shape, along}
 use Rattle.saveload.specs.Loads.{row_put, PutsSaved}
 use Rattle.saveload.specs.declared.error.LoadError.{LoadError}
 use Rattle.saveload.specs.Stops.{IsOfStoring, Partial, PartlyPair, PutsSome}
+use Rattle.saveload.specs.Told.{StoresOnce, StoresSaved, StoresWithRest}
 use Rattle.saveload.proofs.Putting.{put_same}
 use Rattle.saveload.proofs.Rows.{both_put_to}
 
@@ -42,6 +44,16 @@ module _ {X M V W D E : Type 0} (a : Conversion M V D) (b : Conversion M W E) (p
     part = inl (why f (λ m r h k. gives m r (has_left (a.mentions d.0) (b.mentions d.1) m h) k), refl);
     rows = both_put_to old mid rest rest (index_of e) (old (index_of e)) (rest (index_of e)) (put_same old mid (index_of e) same) (put_same rest rest (index_of e) refl);
   }
+
+-- the first place is stored, and then the rest, each once
+pub stores_both : {X Y M T D W E R : Type 0} (a : Conversion M T D) (b : Conversion M W E) (post : M → Option Entity → Type 0) (d : Option D × E) (e : Entity) (Stores : R → ℕ → W → R → Type 0)
+    (first first' : Slot T) (rest rest' : R) → StoresSaved StoresOnce (place a) post d.0 e first first' → (r : Result X Y) → OnOk r (StoresSaved Stores b post d.1 e rest rest')
+    → OnOk r (StoresWithRest Stores a b post d e first rest first' rest')
+stores_both a b post d e Stores first first' rest rest' p (Ok x) q = λ f gives. (
+  p f (λ m r h k. gives m r (has_left ((place a).mentions d.0) (b.mentions d.1) m h) k),
+  q f (λ m r h k. gives m r (has_right ((place a).mentions d.0) (b.mentions d.1) m h) k),
+)
+stores_both a b post d e Stores first first' rest rest' p (Err x) q = tt
 
 module _ {V W : Type 0} (s : Shape W V) (old new : ℕ → W) where
   flat_put : (b : Bool) (v : V) (x : W) → s.flat (cond b v (s.nest x)) ≡ cond b (s.flat v) x

@@ -10,7 +10,8 @@ ghost use Rattle.saveload.specs.Conversion.{Conversion, IsFaithful, GivesEach};
 ghost use Rattle.saveload.specs.Naming.{NamesAllOf};
 ghost use Rattle.saveload.specs.Places.{place, both};
 ghost use Rattle.saveload.specs.Loads.{column, beside, PutsSaved, PutsWithRest, LoadsOneInto, LoadsInto};
-ghost use Rattle.saveload.specs.Told.{IsTold};
+ghost use Rattle.saveload.specs.Told.{IsTold, StoresOnce, StoresSaved, StoresWithRest, StoresRecord, StoresEach};
+ghost use Rattle.storages.specs.Slot.{Puts, Takes};
 ghost use Rattle.saveload.specs.declared.error.LoadError.{LoadError as Refusal};
 ghost use Rattle.saveload.specs.Stops.{IsOfStoring, PutsSome, PutsSomeWithRest, StopsNamingOf, RefusesOneInto, StopsInto};
 
@@ -41,6 +42,9 @@ pub trait DeserializeComponents<M: Marker> {
     // The same storages are lent, and each was changed by insertions and removals alone, of which its readers were told.
     ghost Changes: { Self → Self → Type 0 };
 
+    // Of an index and a row: each place of the row was put there, or what was there was taken out, and the readers of each storage were told of that once, and of nothing else.
+    ghost Stores: { Self → ℕ → Self.Row → Self → Type 0 };
+
     /// The markers that the data mentions, place by place.
     fn mentions(alloc: Global, saved: &Self::Data) -> Result<Vec<M>, AllocError>
         requires { (m n : M) → M.is_clone m n → m ≡ n }
@@ -61,6 +65,7 @@ pub trait DeserializeComponents<M: Marker> {
     ) -> Result<(), LoadError>
         requires { F.IsAlwaysCallable ids }
         ensures changes { Changes self.old self.new }
+        ensures once { is_alive (population entities.now) entity ≡ true → OnOk result (StoresSaved Stores conversion (F.post ids) saved entity self.old self.new) }
         ensures rows { is_alive (population entities.now) entity ≡ true → OnOk result (PutsSaved conversion (F.post ids) saved entity (rows self.old) (rows self.new)) }
         ensures stopped { is_alive (population entities.now) entity ≡ true → IfErr result (λ e. PutsSome Partly conversion (F.post ids) saved entity e (rows self.old) (rows self.new)) }
         ensures refused { (f : M → Being) → GivesEach (F.post ids) (conversion.mentions saved) f → IfErr result (IsOfStoring (conversion.unloaded saved)) }
@@ -110,6 +115,8 @@ pub(crate) fn store_place<
     requires { F.IsAlwaysCallable ids.now }
     ensures stored { is_alive (population entities.now) entity ≡ true
         → OnOk result (PutsSaved (place T.conversion) (F.post ids.now) saved entity (column masked.old) (column masked.new)) }
+    ensures once { is_alive (population entities.now) entity ≡ true
+        → OnOk result (StoresSaved StoresOnce (place T.conversion) (F.post ids.now) saved entity masked.old masked.new) }
     ensures told { IsTold masked.old masked.new }
     ensures err { OnErr result (column masked.new ≡ column masked.old) }
     ensures dead { is_alive (population entities.now) entity ≡ false → column masked.new ≡ column masked.old }
@@ -151,6 +158,8 @@ pub(crate) fn store_with_rest<
     requires { F.IsAlwaysCallable ids }
     ensures told { IsTold first.old first.new }
     ensures changes { R.Changes rest.old rest.new }
+    ensures once { is_alive (population entities.now) entity ≡ true
+        → OnOk result (StoresWithRest R.Stores A.conversion R.conversion (F.post ids) saved entity first.old rest.old first.new rest.new) }
     ensures rows { is_alive (population entities.now) entity ≡ true
         → OnOk result (PutsWithRest A.conversion R.conversion (F.post ids) saved entity first.old (R.rows rest.old) first.new (R.rows rest.new)) }
     ensures stopped { is_alive (population entities.now) entity ≡ true → IfErr result (λ e. PutsSomeWithRest R.Partly A.conversion R.conversion
@@ -174,6 +183,7 @@ fn put_at<T: Component<Storage: UnprotectedStorage<T>> + Drop>(
 ) -> Result<(), AllocError>
     requires alive { is_alive (population entities.now) entity ≡ true }
     ensures ok { OnOk result (masked.new.map ≡ finmap.insert masked.old.map (index_of entity) value) }
+    ensures once { OnOk result (Puts masked.old masked.new (index_of entity) value (is_some (finmap.get masked.old.map (index_of entity)))) }
     ensures told { IsTold masked.old masked.new }
     ensures err { OnErr result (masked.new.map ≡ masked.old.map) }
 {
@@ -191,6 +201,7 @@ fn take_out<T: Component<Storage: UnprotectedStorage<T>> + Drop>(
 ) -> Result<(), AllocError>
     ensures present { is_some (found_in entities.now masked.old entity) ≡ true → OnOk result (masked.new.map ≡ finmap.remove masked.old.map (index_of entity)) }
     ensures absent { found_in entities.now masked.old entity ≡ None → OnOk result (masked.new.map ≡ masked.old.map) }
+    ensures once { is_alive (population entities.now) entity ≡ true → OnOk result (StoresOnce masked.old (index_of entity) None masked.new) }
     ensures told { IsTold masked.old masked.new }
     ensures err { OnErr result (masked.new.map ≡ masked.old.map) }
 {
@@ -218,6 +229,7 @@ where
     M::Allocator: MarkerAllocator<M>,
     requires { (m n : M) → M.is_clone m n → m ≡ n }
     ensures changes { P.Changes masked.old masked.new }
+    ensures each { OnOk result (StoresEach P.Stores P.conversion masked.old list.items masked.new) }
     ensures told { IsTold markers.old markers.new }
     ensures loaded { OnOk result (LoadsInto M.id_of M.Identifier.eq P.conversion M.Allocator.mapping M.Allocator.ids_past P.rows
         entities.old allocator.old markers.old masked.old list.items entities.new allocator.new markers.new masked.new) }
@@ -243,6 +255,7 @@ where
     M::Allocator: MarkerAllocator<M>,
     requires { (m n : M) → M.is_clone m n → m ≡ n }
     ensures changes { P.Changes masked.old masked.new }
+    ensures each { OnOk result (StoresRecord P.Stores P.conversion masked.old saved masked.new) }
     ensures told { IsTold markers.old markers.new }
     ensures loaded { OnOk result (LoadsOneInto M.id_of M.Identifier.eq P.conversion M.Allocator.mapping M.Allocator.ids_past P.rows
         entities.old allocator.old markers.old masked.old saved entities.new allocator.new markers.new masked.new) }

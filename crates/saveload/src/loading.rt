@@ -3,7 +3,7 @@ ghost use Rattle.saveload.specs.Loads.{column};
 ghost use Rattle.saveload.specs.Places.{place};
 ghost use Rattle.saveload.specs.Stops.{PartlyOne, PartlyTwo, PartlyThree, PartlyFour, PartlyFive, PartlySix};
 ghost use Rattle.saveload.specs.Tuples.{one_place, two_places, three_places, four_places, five_places, six_places};
-ghost use Rattle.saveload.specs.Told.{IsFilled, filled_self, filled_both};
+ghost use Rattle.saveload.specs.Told.{IsFilled, StoresOnce, filled_self, filled_both};
 ghost use Rattle.saveload.specs.Tuples.{one_place_faithful, two_places_faithful, three_places_faithful, four_places_faithful, five_places_faithful, six_places_faithful};
 
 use crate::convert::ConvertSaveload;
@@ -29,6 +29,8 @@ where
     ghost Partly = { PartlyOne (one_place A.conversion).unloaded };
 
     ghost Changes = { λ s t. IsFilled s.0 t.0 };
+
+    ghost Stores = { λ s i row t. StoresOnce s.0.now i row.0 t.0.now };
 
     fn mentions(alloc: Global, saved: &Self::Data) -> Result<Vec<M>, AllocError> {
         let mut list = Vec::new(alloc);
@@ -75,6 +77,8 @@ where
     ghost Partly = { PartlyTwo (place A.conversion).unloaded (place B.conversion).unloaded };
 
     ghost Changes = { λ s t. IsFilled s.0 t.0 × IsFilled s.1 t.1 };
+
+    ghost Stores = { λ s i row t. StoresOnce s.0.now i row.0 t.0.now × StoresOnce s.1.now i row.1 t.1.now };
 
     fn mentions(alloc: Global, saved: &Self::Data) -> Result<Vec<M>, AllocError> {
         let mut list = Vec::new(alloc);
@@ -130,6 +134,8 @@ where
     ghost Partly = { PartlyThree (place A.conversion).unloaded (place B.conversion).unloaded (place C.conversion).unloaded };
 
     ghost Changes = { λ s t. IsFilled s.0 t.0 × IsFilled s.1 t.1 × IsFilled s.2 t.2 };
+
+    ghost Stores = { λ s i row t. StoresOnce s.0.now i row.0 t.0.now × StoresOnce s.1.now i row.1 t.1.now × StoresOnce s.2.now i row.2 t.2.now };
 
     fn mentions(alloc: Global, saved: &Self::Data) -> Result<Vec<M>, AllocError> {
         let mut list = Vec::new(alloc);
@@ -197,6 +203,8 @@ where
     ghost Partly = { PartlyFour (place A.conversion).unloaded (place B.conversion).unloaded (place C.conversion).unloaded (place D.conversion).unloaded };
 
     ghost Changes = { λ s t. IsFilled s.0 t.0 × IsFilled s.1 t.1 × IsFilled s.2 t.2 × IsFilled s.3 t.3 };
+
+    ghost Stores = { λ s i row t. StoresOnce s.0.now i row.0 t.0.now × StoresOnce s.1.now i row.1 t.1.now × StoresOnce s.2.now i row.2 t.2.now × StoresOnce s.3.now i row.3 t.3.now };
 
     fn mentions(alloc: Global, saved: &Self::Data) -> Result<Vec<M>, AllocError> {
         let mut list = Vec::new(alloc);
@@ -268,6 +276,8 @@ where
     ghost Partly = { PartlyFive (place A.conversion).unloaded (place B.conversion).unloaded (place C.conversion).unloaded (place D.conversion).unloaded (place E.conversion).unloaded };
 
     ghost Changes = { λ s t. IsFilled s.0 t.0 × IsFilled s.1 t.1 × IsFilled s.2 t.2 × IsFilled s.3 t.3 × IsFilled s.4 t.4 };
+
+    ghost Stores = { λ s i row t. StoresOnce s.0.now i row.0 t.0.now × StoresOnce s.1.now i row.1 t.1.now × StoresOnce s.2.now i row.2 t.2.now × StoresOnce s.3.now i row.3 t.3.now × StoresOnce s.4.now i row.4 t.4.now };
 
     fn mentions(alloc: Global, saved: &Self::Data) -> Result<Vec<M>, AllocError> {
         let mut list = Vec::new(alloc);
@@ -350,6 +360,8 @@ where
     ghost Partly = { PartlySix (place A.conversion).unloaded (place B.conversion).unloaded (place C.conversion).unloaded (place D.conversion).unloaded (place E.conversion).unloaded (place G.conversion).unloaded };
 
     ghost Changes = { λ s t. IsFilled s.0 t.0 × IsFilled s.1 t.1 × IsFilled s.2 t.2 × IsFilled s.3 t.3 × IsFilled s.4 t.4 × IsFilled s.5 t.5 };
+
+    ghost Stores = { λ s i row t. StoresOnce s.0.now i row.0 t.0.now × StoresOnce s.1.now i row.1 t.1.now × StoresOnce s.2.now i row.2 t.2.now × StoresOnce s.3.now i row.3 t.3.now × StoresOnce s.4.now i row.4 t.4.now × StoresOnce s.5.now i row.5 t.5.now };
 
     fn mentions(alloc: Global, saved: &Self::Data) -> Result<Vec<M>, AllocError> {
         let mut list = Vec::new(alloc);

@@ -5,16 +5,18 @@ use Rattle.saveload.specs.Told.{told_both}
 use Rattle.saveload.specs.Told.IsTold.{start}
 use Rattle.saveload.proofs.Named.{loads_more}
 use Rattle.saveload.proofs.Stopped.{split}
+use Rattle.saveload.proofs.Telling.{stores_more}
 use Rattle.saveload.proofs.load.deserialize.Goals as goal
 
 pub loop-saved-init : goal.loop-saved-init
-loop-saved-init g c = (g.met.P.DeserializeComponents.changes_self c.args.masked.now, start, refl)
+loop-saved-init g c = (g.met.P.DeserializeComponents.changes_self c.args.masked.now, start, refl, refl)
 
 pub loop-saved-preserved : goal.loop-saved-preserved
 loop-saved-preserved g c = (
   g.met.P.DeserializeComponents.changes_both _ _ _ c.loop-saved.invariant.0 c.in_ok-load_record.ensures.changes,
   told_both _ _ _ c.loop-saved.invariant.1 c.in_ok-load_record.ensures.told,
   loads_more g.M.Marker.id_of g.M.Identifier.PartialEq.eq g.P.DeserializeComponents.conversion _ _ _ c.loop-saved.yielded c.in-Some.saved c.loop-saved.invariant.2 c.in_ok-load_record.ensures.loaded,
+  stores_more g.P.DeserializeComponents.Stores g.P.DeserializeComponents.conversion _ _ _ c.loop-saved.yielded c.in-Some.saved c.loop-saved.invariant.3 c.in_ok-load_record.ensures.each,
 )
 
 pub returns-in_err-load_record-clause-changes : goal.returns-in_err-load_record-clause-changes

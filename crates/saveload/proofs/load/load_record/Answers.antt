@@ -92,3 +92,21 @@ returns-in_err-name_all-clause-told g c = told_both _ _ _ c.in_ok-entity.ensures
 
 pub returns-clause-told : goal.returns-clause-told
 returns-clause-told g c = told_both _ _ _ c.in_ok-entity.ensures.told c.in_ok-name_all.ensures.told
+
+pub returns-clause-each : goal.returns-clause-each
+returns-clause-each g c =
+    let eq = g.M.Identifier.PartialEq.eq in
+    let mapping = g.M.Allocator.MarkerAllocator.mapping in
+    let past = g.M.Allocator.MarkerAllocator.ids_past in
+    let before = naming g.M.Marker.id_of mapping past c.args.entities.now c.args.allocator.now c.args.markers.now in
+    let mid = naming g.M.Marker.id_of mapping past c.retrieve_entity.new.entities c.retrieve_entity.new.self c.retrieve_entity.new.storage in
+    let after = naming g.M.Marker.id_of mapping past c.name_all.new.entities c.name_all.new.allocator c.name_all.new.markers in
+    let all : NamesAll eq mid (map g.M.Marker.id_of (g.P.DeserializeComponents.conversion.mentions c.args.saved.components)) after =
+    subst (λ (ms : List g.row.M.Denot). NamesAll eq mid (map g.M.Marker.id_of ms) after) c.in_ok-mentioned.ensures c.in_ok-name_all.ensures.named in
+    let life = names_alive eq before mid _ c.in_ok-entity.entity (living_born_in c.args.entities.now) c.in_ok-entity.ensures.named in
+    let alive : is_alive (population c.name_all.new.entities) c.in_ok-entity.entity ≡ true = alive_true (population c.name_all.new.entities) c.in_ok-entity.entity (all_alive eq _ mid after life.0 all c.in_ok-entity.entity life.1) in
+    let f = named g.M.Marker.id_of (mapping c.name_all.new.allocator) in
+    on_ok c.deserialize_entity.result
+    (λ stores. (c.in_ok-entity.entity, f, stores f (λ m r h p. let answered : r ≡ mapping c.name_all.new.allocator (g.M.Marker.id_of m) = search rules in answered
+    ∙ named_entity eq g.met.M.Marker.same_ids _ mid after all (g.M.Marker.id_of m) (has_map g.M.Marker.id_of _ m h))))
+    (c.deserialize_entity.ensures.once alive)

@@ -5,7 +5,7 @@ use Rattle.saveload.specs.Loads.{column}
 use Rattle.saveload.proofs.Lists.{storing_left, storing_right}
 use Rattle.saveload.proofs.Rows.{err_weaker}
 use Rattle.saveload.proofs.Putting.{same_two}
-use Rattle.saveload.proofs.Resting.{put_both, some_both, some_first}
+use Rattle.saveload.proofs.Resting.{put_both, some_both, some_first, stores_both}
 use Rattle.saveload.proofs.load.store_with_rest.Goals as goal
 
 pub returns-in_err-store_place-clause-stopped : goal.returns-in_err-store_place-clause-stopped
@@ -44,3 +44,8 @@ returns-clause-dead g c dead =
 
 pub returns-in_err-store_place-clause-changes : goal.returns-in_err-store_place-clause-changes
 returns-in_err-store_place-clause-changes g c = g.met.R.DeserializeComponents.changes_self c.args.rest.now
+
+pub returns-clause-once : goal.returns-clause-once
+returns-clause-once g c alive =
+    stores_both g.A.ConvertSaveload.conversion g.R.DeserializeComponents.conversion _ c.args.saved c.args.entity g.R.DeserializeComponents.Stores c.args.first.now c.store_place.new.masked c.args.rest.now c.deserialize_entity.new.self
+    (c.in_ok-store_place.ensures.once alive) c.deserialize_entity.result (c.deserialize_entity.ensures.once alive)

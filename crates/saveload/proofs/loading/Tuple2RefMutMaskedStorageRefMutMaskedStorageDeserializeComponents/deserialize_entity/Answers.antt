@@ -76,3 +76,9 @@ returns-in_err-store_place-2-clause-changes g c = (record { loan = refl; told = 
 
 pub returns-clause-changes : goal.returns-clause-changes
 returns-clause-changes g c = (record { loan = refl; told = c.in_ok-store_place.ensures.told }, record { loan = refl; told = c.in_ok-store_place-2.ensures.told })
+
+pub returns-clause-once : goal.returns-clause-once
+returns-clause-once g c alive f gives =
+    let d0 = (place g.A.ConvertSaveload.conversion).mentions c.args.saved.0 in
+    let d1 = (place g.B.ConvertSaveload.conversion).mentions c.args.saved.1 in
+    (c.in_ok-store_place.ensures.once alive f (λ m r h p. gives m r (has_left d0 d1 m h) p), c.in_ok-store_place-2.ensures.once alive f (λ m r h p. gives m r (has_right d0 d1 m h) p))

@@ -2,6 +2,7 @@ use Rattle.std.proofs.Common.{refl}
 use Rattle.saveload.specs.Places.{place, both}
 use Rattle.saveload.specs.Stops.{PartlyPair, PartlyTwo}
 use Rattle.saveload.specs.Tuples.{three, two_places}
+use Rattle.saveload.proofs.Rows.{on_ok}
 use Rattle.saveload.proofs.Resting.{put_along, some_along, same_along}
 use Rattle.saveload.proofs.loading.Tuple3RefMutMaskedStorageRefMutMaskedStorageRefMutMaskedStorageDeserializeComponents.deserialize_entity.Goals as goal
 
@@ -23,3 +24,6 @@ returns-clause-refused g c = c.store_with_rest.ensures.refused
 
 pub returns-clause-dead : goal.returns-clause-dead
 returns-clause-dead g c dead = same_along three _ _ (c.store_with_rest.ensures.dead dead)
+
+pub returns-clause-once : goal.returns-clause-once
+returns-clause-once g c alive = on_ok c.store_with_rest.result (λ stores f gives. let k = stores f gives in (k.0, k.1.0, k.1.1)) (c.store_with_rest.ensures.once alive)
