@@ -374,6 +374,14 @@ class Citations(Tree):
         for line in ("use Rattle.low.proofs.Sums.{sum_is}", "use Rattle.low.proofs.Sums as sums", "use Rattle.low.proofs.TheSendSync.Sums.{sum_is}"):
             self.refuses(self.check(line), "crates/high/specs/Words.antt:2: cites the proofs of low")
 
+    def test_a_field_of_anothers_struct(self):
+        self.write("crates/low/src/lib.rt", "/// A place.\npub struct Spot {\n    /// Where: not told.\n    at: u32,\n    /// What.\n    pub name: u32,\n}\n")
+        declared = "use Rattle.low.specs.declared.Spot.{Spot}\n"
+        for line in ("abbrev pub here : Spot → ℕ\nhere s = s.at", "here = record { at = 0; name = 1 }"):
+            self.refuses(self.check(declared + line), "crates/high/specs/Words.antt: names the field at of low::Spot")
+        for line in ("here s = s.name", "use Rattle.at.specs.Sums.{sum_is}"):
+            self.accepts(self.check(declared + line))
+
 
 class Listings(Tree):
     """tools/listings.py."""

@@ -8,3 +8,4 @@ pub mod Views
 pub mod Walking
 pub mod Walks
 pub mod WalkOf
+pub mod Lasting
