@@ -17,8 +17,8 @@ MADE = ".TheSendSync"
 def citations():
     """The lines of proofs, definitions and sources that cite the proofs of another crate here."""
     crates = set(os.listdir("crates"))
-    for path in sorted(it for end in ("antt", "rt") for it in glob.glob(f"crates/*/**/*.{end}", recursive=True)):
-        own = path.split(os.sep)[1]
+    for path in sorted(it for end in ("antt", "rt") for where in (f"crates/*/**/*.{end}", f"bench/**/*.{end}.src") for it in glob.glob(where, recursive=True)):
+        own = "bench" if path.startswith("bench") else path.split(os.sep)[1]
         if path.split(os.sep)[2] == "out":
             continue
         with open(path, encoding="utf-8") as it:
