@@ -6,11 +6,12 @@ set -euo pipefail
 laid=$(mktemp -d)
 trap 'rm -rf "$laid"' EXIT
 cp crates.txt "$laid"
-for crate in crates/*; do
+for source in crates/*/src; do
+  crate=${source%/src}
   mkdir -p "$laid/$crate"
-  cp -r "$crate/src" "$laid/$crate/src"
+  cp -r "$source" "$laid/$source"
   (cd "$laid/$crate" && rt fmt >/dev/null)
-  diff -rq "$crate/src" "$laid/$crate/src" || {
+  diff -rq "$source" "$laid/$source" || {
     echo "$crate: run rt fmt there"
     exit 1
   }
