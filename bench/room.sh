@@ -24,9 +24,9 @@ files_in() {
   (cd "$1" && find args stdout stdout.5000 src -type f && { [ ! -d proofs ] || find proofs -type f; }) | LC_ALL=C sort
 }
 
-# The sums of the benchmark's files in the room.
-sums() {
-  (cd "$ours" && files_in . | xargs sha256sum)
+# The sums of the benchmark's files in a folder, by their true names.
+sums_of() {
+  (cd "$1" && files_in . | xargs sha256sum) | sed 's/\.src$//' | LC_ALL=C sort -k 2
 }
 
 # Copies the benchmark's sources into the room, without the ending.
@@ -69,12 +69,13 @@ library() {
 
 if [ -n "$back" ]; then
   [ -f "$room/sums" ] || refuse "$room is no room of the benchmark"
+  [ "$(sums_of "$top/bench")" = "$(cat "$room/sums")" ] || refuse "bench/ has changed since $room was made: bring the edits into another room"
   take_back
-  sums >"$room/sums"
+  sums_of "$ours" >"$room/sums"
   exit
 fi
 if [ -f "$room/sums" ]; then
-  [ "$(sums)" = "$(cat "$room/sums")" ] || refuse "the benchmark was edited in $room: take it back by bench/room.sh --back, or remove the room"
+  [ "$(sums_of "$ours")" = "$(cat "$room/sums")" ] || refuse "the benchmark was edited in $room: take it back by bench/room.sh --back, or remove the room"
 elif [ -n "$(ls -A "$room")" ]; then
   refuse "$room has something else in it"
 fi
@@ -88,4 +89,4 @@ done >"$room/crates.txt"
 echo "$uses" >>"$room/crates.txt"
 cp "$top/HANDLES" "$room/HANDLES"
 put
-sums >"$room/sums"
+sums_of "$ours" >"$room/sums"

@@ -556,6 +556,13 @@ class Benchmark(Tree):
         self.assertEqual(self.text("bench/args"), BENCH["args"])
         self.accepts(self.room())
 
+    def test_edits_in_a_room_and_in_the_repository(self):
+        self.accepts(self.room())
+        self.write("room/crates/bench/src/a/b.rt", "fn c() {}\n")
+        self.write("bench/src/main.rt.src", "a\t02\n")
+        self.refuses(self.room("--back"), "has changed since")
+        self.assertEqual(self.text("bench/src/main.rt.src"), "a\t02\n")
+
     def test_another_folder(self):
         self.write("room/letter", "")
         self.refuses(self.room(), "has something else in it")
