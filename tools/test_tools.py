@@ -473,11 +473,11 @@ BENCH = {"args": "--check\n50\n", "stdout": "a\t01\n", "stdout.5000": "a\t02\n",
 
 
 class Benchmark(Tree):
-    """bench/try.sh and bench/room.sh, over a stand-in for `rt` whose `try` prints what stands in src/main.rt, if it is called as it should be, and whose `fmt` writes a file."""
+    """The scripts of bench/, over a stand-in for `rt` whose `try` and `run` print what stands in src/main.rt, if they are called as they should be, and whose `fmt` writes a file."""
 
     def setUp(self):
         super().setUp()
-        self.take("bench/try.sh", "bench/room.sh")
+        self.take("bench/try.sh", "bench/room.sh", "bench/prove.sh")
         self.write("HANDLES", "Handles allowed: Threads, Wait.\n")
         self.write("crates.txt", "low: thiserror\nlower: low\n")
         self.write("crates/low/src/lib.rt", SOURCE)
@@ -485,7 +485,8 @@ class Benchmark(Tree):
         self.write("crates/low/out/other", "")
         for path, text in BENCH.items():
             self.write(f"bench/{path}", text)
-        self.write("bin/rt", "#!/bin/sh\n[ \"$*\" = fmt ] && touch src/laid.rt && exit 0\n[ \"$*\" = 'try --seconds 3600 -- --check 50' ] && [ -f src/a/b.rt ] && cat src/main.rt\n", runs=True)
+        self.write("bin/rt", "#!/bin/sh\ncase \"$*\" in\nfmt) touch src/laid.rt ;;\nlib) touch built ;;\n'run -- --check') printf 'a\\t02\\n' ;;\n"
+                   "'try --seconds 3600 -- --check 50' | 'run -- --check 50') [ -f src/a/b.rt ] && cat src/main.rt ;;\n*) exit 1 ;;\nesac\n", runs=True)
 
     def tried(self):
         return self.run_in("bash", "bench/try.sh")
@@ -530,6 +531,14 @@ class Benchmark(Tree):
     def test_a_run_that_fails(self):
         self.write("bin/rt", "#!/bin/sh\ncat src/main.rt\nexit 1\n", runs=True)
         self.refuses(self.tried(), "the run failed")
+
+    def test_a_proof(self):
+        self.accepts(self.run_in("bash", "bench/prove.sh", "room"))
+        self.assertTrue(os.path.exists(f"{self.top}/crates/low/built"))
+        for path in ("stdout", "stdout.5000"):
+            self.write(f"bench/{path}", "a\t03\n")
+            self.refuses(self.run_in("bash", "bench/prove.sh", "room"), "a\t03")
+            self.write(f"bench/{path}", BENCH[path])
 
     def test_a_room(self):
         self.accepts(self.room())
