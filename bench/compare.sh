@@ -4,7 +4,8 @@
 # A workload of this repository that does one of the others' in another way is named by that one's name, a plus sign and the way.
 # usage: bench/compare.sh [N=100000] [ITERATIONS=15] [ROUNDS=5] [NAME-PREFIX..]
 # Both are kept to one processor, or to two, where the prefix of a line j_ ends in _t1 or _t2.
-# SPECS_BASELINE names the folder with the Rust sources and their assemble.sh; BASELINE_BUILD the folder to build them in.
+# SPECS_BASELINE names the folder with the Rust sources and their assemble.sh; BASELINE_BUILD the folder to build them in;
+# BENCH_ROOM the one where bench/prove.sh proves and builds this repository's.
 set -euo pipefail
 here=$(cd "$(dirname "$0")/.." && pwd)
 baseline=$(cd "$here" && cd "${SPECS_BASELINE:-../shared/baseline}" 2>/dev/null && pwd) || baseline=
@@ -17,9 +18,10 @@ count=${1:-100000} iterations=${2:-15} rounds=${3:-5}
 prefixes=("${@:4}")
 [ ${#prefixes[@]} -gt 0 ] || prefixes=(i_ l_atomic_create l_atomic_maintain a_ g_ m_ z_ k_ e_ f_ b_ c_ h_ n_ o_ j_par_heavy_t1 j_par_heavy_t2 j_par_heavy_t4)
 rust=$build/target/release/bench
-ours=$here/crates/bench/out/bench
+room=${BENCH_ROOM:-${TMPDIR:-/tmp}/specs-bench-$(id -u)}
+ours=$room/crates/bench/out/bench
 [ -x "$rust" ] || bash "$baseline/assemble.sh" "$build" >/dev/null
-(cd "$here/crates/bench" && rt run -- --check >/dev/null 2>&1) || { echo "bench/compare.sh: the benchmark is not built" >&2; exit 1; }
+bash "$here/bench/prove.sh" "$room" >/dev/null 2>&1 || { echo "bench/compare.sh: the benchmark is not built: bench/prove.sh says why" >&2; exit 1; }
 # The command that keeps a program to the processors that a prefix names.
 kept_to() {
   case $1 in

@@ -19,11 +19,13 @@ MADE = ".TheSendSync"
 
 
 def texts(*ends):
-    """The files of the crates with one of these endings, each with its crate and its text."""
-    for path in sorted(it for end in ends for it in glob.glob(f"crates/*/**/*.{end}", recursive=True)):
-        if path.split(os.sep)[2] != "out":
+    """The files of the crates and of the benchmark with one of these endings, each with its crate and its text."""
+    places = [place for it in ends for place in (f"crates/*/**/*.{it}", f"bench/**/*.{it}.src")]
+    for path in sorted(it for place in places for it in glob.glob(place, recursive=True)):
+        folders = path.split(os.sep)
+        if folders[2] != "out":
             with open(path, encoding="utf-8") as it:
-                yield path, path.split(os.sep)[1], it.read()
+                yield path, folders[1] if folders[0] == "crates" else "bench", it.read()
 
 
 def citations():
