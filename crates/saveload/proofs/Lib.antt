@@ -22,3 +22,4 @@ pub mod Turns
 pub mod Writing
 pub mod Telling
 pub mod Giving
+pub mod Joined

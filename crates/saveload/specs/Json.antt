@@ -96,6 +96,11 @@ Writes json from x old new = (new ≡ old ++ compact_text (json x)) × IsRead js
 abbrev pub Takes : {D : Type 0} → (D → Data) → (Data → Option D) → List ℕ → D → List ℕ → Type 0
 Takes json from text x rest = (text ≡ compact_text (json x) ++ rest) × IsRead json from x
 
+-- the compact text of an array of a first place and of those behind it stands at the front of a text, and a rest behind it; what is said of those behind it holds
+abbrev pub TakesRow : {X R : Type 0} → (X → Data) → (Data → Option X) → (R → List Data) → (R → Type 0) → List ℕ → X × R → List ℕ → Type 0
+TakesRow json from places Back text x rest =
+    (text ≡ compact_text (array (items_of (json x.0 ∷ places x.1))) ++ rest) × IsKept (array (items_of (json x.0 ∷ places x.1))) × (from (json x.0) ≡ Some x.0) × Back x.1
+
 -- a text is that of a saved list, and is read as that list
 pub record IsTextOf {M D : Type 0} (mj : M → Data) (mf : Data → Option M) (pj : D → List Data) (pf : Data → Option D) (IsSaved : List (EntityData M D) → Type 0) (text : List ℕ) : Type 0 where
   pub list : List (EntityData M D)

@@ -1,8 +1,9 @@
 //! Tuples of one to six places as JSON values.
 ghost use Rattle.std.specs.Prelude.{◌≡◌};
 
-use crate::json_data::{JsonData, JsonPlaces, is_array_of, read_place};
-use crate::json_text::{after_byte, take_next, take_place, write_next, write_place};
+use crate::json_chain::{JsonChain, take_array};
+use crate::json_data::{JsonData, JsonPlaces, is_array_of};
+use crate::json_text::{write_next, write_place};
 use serde_json::Value;
 use std::alloc::{AllocError, Global};
 
@@ -21,25 +22,21 @@ impl<A: JsonData + Drop> JsonPlaces for (Option<A>,) {
     }
 
     fn take<'t>(alloc: Global, text: &'t [u8]) -> Result<Option<(Self, &'t [u8])>, AllocError> {
-        let Some(inner) = after_byte(text, b'[') else {
+        let Some((row, rest)) = take_array(alloc, text)? else {
             return Ok(None);
         };
-        let Some((first, rest)) = take_place(alloc, inner)? else {
-            return Ok(None);
-        };
-        match after_byte(rest, b']') {
-            Some(rest) => Ok(Some(((first,), rest))),
-            None => Ok(None),
-        }
+        let (first, ()) = row;
+        Ok(Some(((first,), rest)))
     }
 
     fn from_value(alloc: Global, value: &Value) -> Result<Option<Self>, AllocError> {
         if !is_array_of(value, 1) {
             return Ok(None);
         }
-        let Some(first) = read_place(alloc, value, 0)? else {
+        let Some(row) = JsonChain::read_rest(alloc, value, 0)? else {
             return Ok(None);
         };
+        let (first, ()) = row;
         Ok(Some((first,)))
     }
 
@@ -64,31 +61,21 @@ impl<A: JsonData + Drop, B: JsonData + Drop> JsonPlaces for (Option<A>, Option<B
     }
 
     fn take<'t>(alloc: Global, text: &'t [u8]) -> Result<Option<(Self, &'t [u8])>, AllocError> {
-        let Some(inner) = after_byte(text, b'[') else {
+        let Some((row, rest)) = take_array(alloc, text)? else {
             return Ok(None);
         };
-        let Some((first, rest)) = take_place(alloc, inner)? else {
-            return Ok(None);
-        };
-        let Some((second, rest)) = take_next(alloc, rest)? else {
-            return Ok(None);
-        };
-        match after_byte(rest, b']') {
-            Some(rest) => Ok(Some(((first, second), rest))),
-            None => Ok(None),
-        }
+        let (first, (second, ())) = row;
+        Ok(Some(((first, second), rest)))
     }
 
     fn from_value(alloc: Global, value: &Value) -> Result<Option<Self>, AllocError> {
         if !is_array_of(value, 2) {
             return Ok(None);
         }
-        let Some(first) = read_place(alloc, value, 0)? else {
+        let Some(row) = JsonChain::read_rest(alloc, value, 0)? else {
             return Ok(None);
         };
-        let Some(second) = read_place(alloc, value, 1)? else {
-            return Ok(None);
-        };
+        let (first, (second, ())) = row;
         Ok(Some((first, second)))
     }
 
@@ -115,37 +102,21 @@ impl<A: JsonData + Drop, B: JsonData + Drop, C: JsonData + Drop> JsonPlaces
     }
 
     fn take<'t>(alloc: Global, text: &'t [u8]) -> Result<Option<(Self, &'t [u8])>, AllocError> {
-        let Some(inner) = after_byte(text, b'[') else {
+        let Some((row, rest)) = take_array(alloc, text)? else {
             return Ok(None);
         };
-        let Some((first, rest)) = take_place(alloc, inner)? else {
-            return Ok(None);
-        };
-        let Some((second, rest)) = take_next(alloc, rest)? else {
-            return Ok(None);
-        };
-        let Some((third, rest)) = take_next(alloc, rest)? else {
-            return Ok(None);
-        };
-        match after_byte(rest, b']') {
-            Some(rest) => Ok(Some(((first, second, third), rest))),
-            None => Ok(None),
-        }
+        let (first, (second, (third, ()))) = row;
+        Ok(Some(((first, second, third), rest)))
     }
 
     fn from_value(alloc: Global, value: &Value) -> Result<Option<Self>, AllocError> {
         if !is_array_of(value, 3) {
             return Ok(None);
         }
-        let Some(first) = read_place(alloc, value, 0)? else {
+        let Some(row) = JsonChain::read_rest(alloc, value, 0)? else {
             return Ok(None);
         };
-        let Some(second) = read_place(alloc, value, 1)? else {
-            return Ok(None);
-        };
-        let Some(third) = read_place(alloc, value, 2)? else {
-            return Ok(None);
-        };
+        let (first, (second, (third, ()))) = row;
         Ok(Some((first, second, third)))
     }
 
@@ -173,43 +144,21 @@ impl<A: JsonData + Drop, B: JsonData + Drop, C: JsonData + Drop, D: JsonData + D
     }
 
     fn take<'t>(alloc: Global, text: &'t [u8]) -> Result<Option<(Self, &'t [u8])>, AllocError> {
-        let Some(inner) = after_byte(text, b'[') else {
+        let Some((row, rest)) = take_array(alloc, text)? else {
             return Ok(None);
         };
-        let Some((first, rest)) = take_place(alloc, inner)? else {
-            return Ok(None);
-        };
-        let Some((second, rest)) = take_next(alloc, rest)? else {
-            return Ok(None);
-        };
-        let Some((third, rest)) = take_next(alloc, rest)? else {
-            return Ok(None);
-        };
-        let Some((fourth, rest)) = take_next(alloc, rest)? else {
-            return Ok(None);
-        };
-        match after_byte(rest, b']') {
-            Some(rest) => Ok(Some(((first, second, third, fourth), rest))),
-            None => Ok(None),
-        }
+        let (first, (second, (third, (fourth, ())))) = row;
+        Ok(Some(((first, second, third, fourth), rest)))
     }
 
     fn from_value(alloc: Global, value: &Value) -> Result<Option<Self>, AllocError> {
         if !is_array_of(value, 4) {
             return Ok(None);
         }
-        let Some(first) = read_place(alloc, value, 0)? else {
+        let Some(row) = JsonChain::read_rest(alloc, value, 0)? else {
             return Ok(None);
         };
-        let Some(second) = read_place(alloc, value, 1)? else {
-            return Ok(None);
-        };
-        let Some(third) = read_place(alloc, value, 2)? else {
-            return Ok(None);
-        };
-        let Some(fourth) = read_place(alloc, value, 3)? else {
-            return Ok(None);
-        };
+        let (first, (second, (third, (fourth, ())))) = row;
         Ok(Some((first, second, third, fourth)))
     }
 
@@ -243,49 +192,21 @@ impl<
     }
 
     fn take<'t>(alloc: Global, text: &'t [u8]) -> Result<Option<(Self, &'t [u8])>, AllocError> {
-        let Some(inner) = after_byte(text, b'[') else {
+        let Some((row, rest)) = take_array(alloc, text)? else {
             return Ok(None);
         };
-        let Some((first, rest)) = take_place(alloc, inner)? else {
-            return Ok(None);
-        };
-        let Some((second, rest)) = take_next(alloc, rest)? else {
-            return Ok(None);
-        };
-        let Some((third, rest)) = take_next(alloc, rest)? else {
-            return Ok(None);
-        };
-        let Some((fourth, rest)) = take_next(alloc, rest)? else {
-            return Ok(None);
-        };
-        let Some((fifth, rest)) = take_next(alloc, rest)? else {
-            return Ok(None);
-        };
-        match after_byte(rest, b']') {
-            Some(rest) => Ok(Some(((first, second, third, fourth, fifth), rest))),
-            None => Ok(None),
-        }
+        let (first, (second, (third, (fourth, (fifth, ()))))) = row;
+        Ok(Some(((first, second, third, fourth, fifth), rest)))
     }
 
     fn from_value(alloc: Global, value: &Value) -> Result<Option<Self>, AllocError> {
         if !is_array_of(value, 5) {
             return Ok(None);
         }
-        let Some(first) = read_place(alloc, value, 0)? else {
+        let Some(row) = JsonChain::read_rest(alloc, value, 0)? else {
             return Ok(None);
         };
-        let Some(second) = read_place(alloc, value, 1)? else {
-            return Ok(None);
-        };
-        let Some(third) = read_place(alloc, value, 2)? else {
-            return Ok(None);
-        };
-        let Some(fourth) = read_place(alloc, value, 3)? else {
-            return Ok(None);
-        };
-        let Some(fifth) = read_place(alloc, value, 4)? else {
-            return Ok(None);
-        };
+        let (first, (second, (third, (fourth, (fifth, ()))))) = row;
         Ok(Some((first, second, third, fourth, fifth)))
     }
 
@@ -329,55 +250,21 @@ impl<
     }
 
     fn take<'t>(alloc: Global, text: &'t [u8]) -> Result<Option<(Self, &'t [u8])>, AllocError> {
-        let Some(inner) = after_byte(text, b'[') else {
+        let Some((row, rest)) = take_array(alloc, text)? else {
             return Ok(None);
         };
-        let Some((first, rest)) = take_place(alloc, inner)? else {
-            return Ok(None);
-        };
-        let Some((second, rest)) = take_next(alloc, rest)? else {
-            return Ok(None);
-        };
-        let Some((third, rest)) = take_next(alloc, rest)? else {
-            return Ok(None);
-        };
-        let Some((fourth, rest)) = take_next(alloc, rest)? else {
-            return Ok(None);
-        };
-        let Some((fifth, rest)) = take_next(alloc, rest)? else {
-            return Ok(None);
-        };
-        let Some((sixth, rest)) = take_next(alloc, rest)? else {
-            return Ok(None);
-        };
-        match after_byte(rest, b']') {
-            Some(rest) => Ok(Some(((first, second, third, fourth, fifth, sixth), rest))),
-            None => Ok(None),
-        }
+        let (first, (second, (third, (fourth, (fifth, (sixth, ())))))) = row;
+        Ok(Some(((first, second, third, fourth, fifth, sixth), rest)))
     }
 
     fn from_value(alloc: Global, value: &Value) -> Result<Option<Self>, AllocError> {
         if !is_array_of(value, 6) {
             return Ok(None);
         }
-        let Some(first) = read_place(alloc, value, 0)? else {
+        let Some(row) = JsonChain::read_rest(alloc, value, 0)? else {
             return Ok(None);
         };
-        let Some(second) = read_place(alloc, value, 1)? else {
-            return Ok(None);
-        };
-        let Some(third) = read_place(alloc, value, 2)? else {
-            return Ok(None);
-        };
-        let Some(fourth) = read_place(alloc, value, 3)? else {
-            return Ok(None);
-        };
-        let Some(fifth) = read_place(alloc, value, 4)? else {
-            return Ok(None);
-        };
-        let Some(sixth) = read_place(alloc, value, 5)? else {
-            return Ok(None);
-        };
+        let (first, (second, (third, (fourth, (fifth, (sixth, ())))))) = row;
         Ok(Some((first, second, third, fourth, fifth, sixth)))
     }
 

@@ -6,6 +6,7 @@ mod building;
 mod convert;
 mod entity_data;
 mod error;
+mod json_chain;
 mod json_data;
 mod json_numbers;
 mod json_text;

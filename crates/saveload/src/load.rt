@@ -99,6 +99,43 @@ pub(crate) fn add_mentions<M: Marker, T: ConvertSaveload<M>>(
     Ok(())
 }
 
+// The same of two places.
+pub(crate) fn add_two<M: Marker, A: ConvertSaveload<M>, B: ConvertSaveload<M>>(
+    alloc: Global,
+    list: &mut Vec<M>,
+    first: &Option<A::Data>,
+    second: &Option<B::Data>,
+) -> Result<(), AllocError>
+    requires { (m n : M) → M.is_clone m n → m ≡ n }
+    ensures { OnOk result (list.new.items ≡ list.old.items ++ ((place A.conversion).mentions first.now ++ (place B.conversion).mentions second.now)) }
+{
+    add_mentions::<M, A>(alloc, list, first)?;
+    add_mentions::<M, B>(alloc, list, second)?;
+    Ok(())
+}
+
+// The same of three places.
+pub(crate) fn add_three<
+    M: Marker,
+    A: ConvertSaveload<M>,
+    B: ConvertSaveload<M>,
+    C: ConvertSaveload<M>,
+>(
+    alloc: Global,
+    list: &mut Vec<M>,
+    first: &Option<A::Data>,
+    second: &Option<B::Data>,
+    third: &Option<C::Data>,
+) -> Result<(), AllocError>
+    requires { (m n : M) → M.is_clone m n → m ≡ n }
+    ensures { OnOk result (list.new.items ≡ list.old.items
+        ++ ((place A.conversion).mentions first.now ++ ((place B.conversion).mentions second.now ++ (place C.conversion).mentions third.now))) }
+{
+    add_mentions::<M, A>(alloc, list, first)?;
+    add_two::<M, B, C>(alloc, list, second, third)?;
+    Ok(())
+}
+
 // Stores a place of an entity, if that is alive.
 pub(crate) fn store_place<
     M: Marker,

@@ -8,7 +8,9 @@ ghost use Rattle.saveload.specs.Tuples.{one_place_faithful, two_places_faithful,
 
 use crate::convert::ConvertSaveload;
 use crate::error::LoadError;
-use crate::load::{DeserializeComponents, add_mentions, store_place, store_with_rest};
+use crate::load::{
+    DeserializeComponents, add_mentions, add_three, add_two, store_place, store_with_rest,
+};
 use crate::marker::Marker;
 use entities::{EntitiesRes, Entity};
 use std::alloc::{AllocError, Global};
@@ -82,8 +84,7 @@ where
 
     fn mentions(alloc: Global, saved: &Self::Data) -> Result<Vec<M>, AllocError> {
         let mut list = Vec::new(alloc);
-        add_mentions::<M, A>(alloc, &mut list, &saved.0)?;
-        add_mentions::<M, B>(alloc, &mut list, &saved.1)?;
+        add_two::<M, A, B>(alloc, &mut list, &saved.0, &saved.1)?;
         Ok(list)
     }
 
@@ -139,9 +140,7 @@ where
 
     fn mentions(alloc: Global, saved: &Self::Data) -> Result<Vec<M>, AllocError> {
         let mut list = Vec::new(alloc);
-        add_mentions::<M, A>(alloc, &mut list, &saved.0)?;
-        add_mentions::<M, B>(alloc, &mut list, &saved.1)?;
-        add_mentions::<M, C>(alloc, &mut list, &saved.2)?;
+        add_three::<M, A, B, C>(alloc, &mut list, &saved.0, &saved.1, &saved.2)?;
         Ok(list)
     }
 
@@ -209,9 +208,7 @@ where
     fn mentions(alloc: Global, saved: &Self::Data) -> Result<Vec<M>, AllocError> {
         let mut list = Vec::new(alloc);
         add_mentions::<M, A>(alloc, &mut list, &saved.0)?;
-        add_mentions::<M, B>(alloc, &mut list, &saved.1)?;
-        add_mentions::<M, C>(alloc, &mut list, &saved.2)?;
-        add_mentions::<M, D>(alloc, &mut list, &saved.3)?;
+        add_three::<M, B, C, D>(alloc, &mut list, &saved.1, &saved.2, &saved.3)?;
         Ok(list)
     }
 
@@ -281,11 +278,8 @@ where
 
     fn mentions(alloc: Global, saved: &Self::Data) -> Result<Vec<M>, AllocError> {
         let mut list = Vec::new(alloc);
-        add_mentions::<M, A>(alloc, &mut list, &saved.0)?;
-        add_mentions::<M, B>(alloc, &mut list, &saved.1)?;
-        add_mentions::<M, C>(alloc, &mut list, &saved.2)?;
-        add_mentions::<M, D>(alloc, &mut list, &saved.3)?;
-        add_mentions::<M, E>(alloc, &mut list, &saved.4)?;
+        add_two::<M, A, B>(alloc, &mut list, &saved.0, &saved.1)?;
+        add_three::<M, C, D, E>(alloc, &mut list, &saved.2, &saved.3, &saved.4)?;
         Ok(list)
     }
 
@@ -365,12 +359,8 @@ where
 
     fn mentions(alloc: Global, saved: &Self::Data) -> Result<Vec<M>, AllocError> {
         let mut list = Vec::new(alloc);
-        add_mentions::<M, A>(alloc, &mut list, &saved.0)?;
-        add_mentions::<M, B>(alloc, &mut list, &saved.1)?;
-        add_mentions::<M, C>(alloc, &mut list, &saved.2)?;
-        add_mentions::<M, D>(alloc, &mut list, &saved.3)?;
-        add_mentions::<M, E>(alloc, &mut list, &saved.4)?;
-        add_mentions::<M, G>(alloc, &mut list, &saved.5)?;
+        add_three::<M, A, B, C>(alloc, &mut list, &saved.0, &saved.1, &saved.2)?;
+        add_three::<M, D, E, G>(alloc, &mut list, &saved.3, &saved.4, &saved.5)?;
         Ok(list)
     }
 
