@@ -1,5 +1,5 @@
 #!/usr/bin/env bash
-# Whether each crate's sources are in the layout of `rt fmt`: `rt ci` asks for it too, but only once it comes to the crate, which may be after half an hour.
+# Whether each crate's sources, definitions and proofs are in the layout of `rt fmt`: `rt ci` asks for it too, but only once it comes to the crate, which may be after half an hour.
 # It formats a copy, and names the files that differ. Of the benchmark, which `rt ci` does not see, too. Run at the top of the repository.
 set -euo pipefail
 
@@ -9,17 +9,21 @@ cp crates.txt "$laid"
 for source in crates/*/src; do
   crate=${source%/src}
   mkdir -p "$laid/$crate"
-  cp -r "$source" "$laid/$source"
+  for part in src specs proofs; do
+    [ ! -d "$crate/$part" ] || cp -r "$crate/$part" "$laid/$crate/$part"
+  done
   (cd "$laid/$crate" && rt fmt >/dev/null)
-  diff -rq "$source" "$laid/$source" || {
-    echo "$crate: run rt fmt there"
-    exit 1
-  }
+  for part in src specs proofs; do
+    [ ! -d "$crate/$part" ] || diff -rq "$crate/$part" "$laid/$crate/$part" || {
+      echo "$crate: run rt fmt there"
+      exit 1
+    }
+  done
 done
 bash bench/room.sh "$laid/room"
-cp -r "$laid/room/crates/bench/src" "$laid/bench"
+cp -r "$laid/room/crates/bench" "$laid/bench"
 (cd "$laid/room/crates/bench" && rt fmt >/dev/null)
-diff -rq "$laid/bench" "$laid/room/crates/bench/src" || {
+diff -rq "$laid/bench" "$laid/room/crates/bench" || {
   echo "the benchmark: bench/room.sh ROOM, and bench/room.sh --back ROOM, which lays it out"
   exit 1
 }

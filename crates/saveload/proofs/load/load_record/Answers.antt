@@ -107,6 +107,10 @@ returns-clause-each g c =
     let alive : is_alive (population c.name_all.new.entities) c.in_ok-entity.entity ≡ true = alive_true (population c.name_all.new.entities) c.in_ok-entity.entity (all_alive eq _ mid after life.0 all c.in_ok-entity.entity life.1) in
     let f = named g.M.Marker.id_of (mapping c.name_all.new.allocator) in
     on_ok c.deserialize_entity.result
-    (λ stores. (c.in_ok-entity.entity, f, stores f (λ m r h p. let answered : r ≡ mapping c.name_all.new.allocator (g.M.Marker.id_of m) = search rules in answered
-    ∙ named_entity eq g.met.M.Marker.same_ids _ mid after all (g.M.Marker.id_of m) (has_map g.M.Marker.id_of _ m h))))
+    (λ stores. (
+      c.in_ok-entity.entity,
+      f,
+      stores f (λ m r h p. let answered : r ≡ mapping c.name_all.new.allocator (g.M.Marker.id_of m) = search rules in answered
+          ∙ named_entity eq g.met.M.Marker.same_ids _ mid after all (g.M.Marker.id_of m) (has_map g.M.Marker.id_of _ m h)),
+    ))
     (c.deserialize_entity.ensures.once alive)
