@@ -56,7 +56,7 @@ class Tree(unittest.TestCase):
         self.assertEqual(ran.returncode, 0, ran.stdout)
 
 
-GATE_TOOLS = ("test_tools.py", "citations.py", "api.py", "chart.py", "listings.py", "wrong_bodies.py", "keep_libraries.py")
+GATE_TOOLS = ("test_tools.py", "test_bench.py", "citations.py", "api.py", "chart.py", "listings.py", "wrong_bodies.py", "keep_libraries.py")
 
 
 class Gate(Tree):
@@ -474,116 +474,6 @@ class Program(Tree):
     def test_a_build_that_fails(self):
         self.write("bin/rt", "#!/bin/sh\nexit 1\n", runs=True)
         self.refuses(self.run_in("./specs-run"), "was not built")
-
-
-BENCH = {"args": "--check\n50\n", "stdout": "a\t01\n", "stdout.5000": "a\t02\n", "uses": "bench: low thiserror\n", "src/main.rt.src": "a\t01\n",
-         "src/a/b.rt.src": "fn b() {}\n", "proofs/b/Answers.antt.src": "use it\n"}
-
-
-class Benchmark(Tree):
-    """The scripts of bench/, over a stand-in for `rt` whose `try` and `run` print what stands in src/main.rt, if they are called as they should be, and whose `fmt` writes a file."""
-
-    def setUp(self):
-        super().setUp()
-        self.take("bench/try.sh", "bench/room.sh", "bench/prove.sh")
-        self.write("HANDLES", "Handles allowed: Threads, Wait.\n")
-        self.write("crates.txt", "low: thiserror\nlower: low\n")
-        self.write("crates/low/src/lib.rt", SOURCE)
-        self.write("crates/low/out/rlib/stamp", "sum\n")
-        self.write("crates/low/out/other", "")
-        for path, text in BENCH.items():
-            self.write(f"bench/{path}", text)
-        self.write("bin/rt", "#!/bin/sh\ncase \"$*\" in\nfmt) touch src/laid.rt ;;\nlib) touch built ;;\n'run -- --check') printf 'a\\t02\\n' ;;\n"
-                   "'try --seconds 3600 -- --check 50' | 'run -- --check 50') [ -f src/a/b.rt ] && cat src/main.rt ;;\n*) exit 1 ;;\nesac\n", runs=True)
-
-    def tried(self):
-        return self.run_in("bash", "bench/try.sh")
-
-    def room(self, *words):
-        return self.run_in("bash", "bench/room.sh", *words, "room")
-
-    def text(self, path):
-        with open(f"{self.top}/{path}", encoding="utf-8") as it:
-            return it.read()
-
-    def test_it_passes(self):
-        ran = self.tried()
-        self.accepts(ran)
-        self.assertEqual(ran.stdout, "1 passed, 0 failed\n")
-
-    def test_another_checksum(self):
-        for path in ("stdout", "src/main.rt.src"):
-            for text in ("a\t02\n", "a\t01\nb\t01\n", ""):
-                self.write(f"bench/{path}", text)
-                self.refuses(self.tried(), "0 passed, 1 failed")
-                self.write(f"bench/{path}", BENCH[path])
-
-    def test_no_checksum_at_all(self):
-        self.write("bench/stdout", "")
-        self.write("bench/src/main.rt.src", "")
-        self.refuses(self.tried(), "has no checksum")
-
-    def test_a_lost_file(self):
-        for path in BENCH:
-            if not path.startswith("proofs"):
-                os.remove(f"{self.top}/bench/{path}")
-                self.refuses(self.tried(), "0 passed, 1 failed")
-                self.write(f"bench/{path}", BENCH[path])
-        os.remove(f"{self.top}/bench/room.sh")
-        self.refuses(self.tried(), "there is no room")
-
-    def test_a_library_that_is_not_named(self):
-        self.write("crates.txt", "lower: low\n")
-        self.refuses(self.tried(), "there is no room")
-
-    def test_a_run_that_fails(self):
-        self.write("bin/rt", "#!/bin/sh\ncat src/main.rt\nexit 1\n", runs=True)
-        self.refuses(self.tried(), "the run failed")
-
-    def test_a_proof(self):
-        self.accepts(self.run_in("bash", "bench/prove.sh", "room"))
-        self.assertTrue(os.path.exists(f"{self.top}/crates/low/built"))
-        for path in ("stdout", "stdout.5000"):
-            self.write(f"bench/{path}", "a\t03\n")
-            self.refuses(self.run_in("bash", "bench/prove.sh", "room"), "a\t03")
-            self.write(f"bench/{path}", BENCH[path])
-
-    def test_a_room(self):
-        self.accepts(self.room())
-        self.assertEqual(self.text("room/crates.txt"), "low: thiserror\nbench: low thiserror\n")
-        self.assertEqual(self.text("room/crates/low/out/rlib/stamp"), "sum\n")
-        self.assertFalse(os.path.exists(f"{self.top}/room/crates/low/out/other"))
-        self.write("room/crates/bench/out/kept", "")
-        self.write("room/crates/low/src/more.rt", "")
-        self.write("bench/src/a/b.rt.src", "fn c() {}\n")
-        self.accepts(self.room())
-        self.assertEqual(self.text("room/crates/bench/src/a/b.rt"), "fn c() {}\n")
-        self.assertTrue(os.path.exists(f"{self.top}/room/crates/bench/out/kept"))
-        self.assertFalse(os.path.exists(f"{self.top}/room/crates/low/src/more.rt"))
-
-    def test_edits_in_a_room(self):
-        self.accepts(self.room())
-        self.write("room/crates/bench/src/a/b.rt", "fn c() {}\n")
-        os.remove(f"{self.top}/room/crates/bench/proofs/b/Answers.antt")
-        self.refuses(self.room(), "was edited")
-        self.accepts(self.room("--back"))
-        self.assertEqual(self.text("bench/src/a/b.rt.src"), "fn c() {}\n")
-        self.assertTrue(os.path.exists(f"{self.top}/bench/src/laid.rt.src"))
-        self.assertFalse(os.path.exists(f"{self.top}/bench/proofs/b/Answers.antt.src"))
-        self.assertEqual(self.text("bench/args"), BENCH["args"])
-        self.accepts(self.room())
-
-    def test_edits_in_a_room_and_in_the_repository(self):
-        self.accepts(self.room())
-        self.write("room/crates/bench/src/a/b.rt", "fn c() {}\n")
-        self.write("bench/src/main.rt.src", "a\t02\n")
-        self.refuses(self.room("--back"), "has changed since")
-        self.assertEqual(self.text("bench/src/main.rt.src"), "a\t02\n")
-
-    def test_another_folder(self):
-        self.write("room/letter", "")
-        self.refuses(self.room(), "has something else in it")
-        self.refuses(self.room("--back"), "is no room")
 
 
 KIT = """import hashlib, os
