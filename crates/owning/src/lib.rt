@@ -1,4 +1,4 @@
-//! Components that own memory, as a user's crate declares them: each type, in each kind of storage, and what is proved of their calls.
+//! Components that own memory, as a user's crate declares them: each type in each kind of storage that needs no default value, one in a kind that does, and what is proved of three calls.
 #![tactic(auto)]
 
 pub mod boxes;
