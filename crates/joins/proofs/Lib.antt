@@ -1,4 +1,7 @@
 pub mod BesideLemmas
+pub mod CallLemmas
 pub mod CursorLemmas
+pub mod FoldLemmas
 pub mod Holding
 pub mod PassedLemmas
+pub mod TakeLemmas

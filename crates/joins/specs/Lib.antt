@@ -16,3 +16,5 @@ pub mod Keys
 pub mod Next
 pub mod Restricted
 pub mod Restricting
+pub mod Taking
+pub mod Visits

@@ -2,6 +2,8 @@
 
 pub(crate) mod change_join;
 pub(crate) mod drain;
+pub(crate) mod each;
+pub(crate) mod each_error;
 pub(crate) mod entry_join;
 pub(crate) mod join_living;
 pub(crate) mod join_mut;

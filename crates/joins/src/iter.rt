@@ -1,6 +1,7 @@
 //! The values of a join.
 ghost use Rattle.std.specs.Prelude.{◌≡◌, ℕ, ◌+◌, ◌-◌, ◌*◌, ◌≤◌, ◌<◌, true, false, MatchOption, IfSome, IfNone, [], ⊤};
 ghost use Rattle.std.specs.Iterator.{item_count, MakesProgress};
+ghost use Rattle.std.specs.List.{FoldsTo, fold};
 ghost use Rattle.hibits.specs.Left.{left};
 ghost use Rattle.entities.specs.Census.{population};
 ghost use Rattle.entities.specs.Population.{index_of, IsAlive};
@@ -62,6 +63,31 @@ impl<J: Join> JoinIter<J> {
     {
         let id = self.keys.next()?;
         Some(J::get(&mut self.values, id))
+    }
+
+    /// Calls `f` with what the join has at each index that is left, ascending. It has the name and the order of an iterator's `for_each`, and
+    /// says more: which values `f` was called with, one call after another.
+    pub fn for_each<F: FnMut(J::Type)>(mut self, mut f: F)
+        requires called { (state : F) (i : ℕ) (r : J.Type) → J.value_gives self.values i r → F.pre state r }
+        ensures calls { (last : F) × FoldsTo (λ p i q. (r : J.Type) × J.value_gives self.values i r × F.step p r tt q) f (left (J.Mask.has self.keys.mask 0) self.keys.position) last }
+    {
+        while let Some(item) = self.next() {
+            f(item);
+        }
+    }
+
+    /// What `f` makes of `init` and of what the join has at each index that is left, ascending. It has the name and the order of an iterator's
+    /// `fold`; `f` keeps what it captured as it is, which callers' proofs then know in each call.
+    pub fn fold<B: Drop, F: Fn(B, J::Type) -> B>(mut self, init: B, f: F) -> B
+        requires called { (b : B) (i : ℕ) (r : J.Type) → J.value_gives self.values i r → F.pre f b r }
+        ensures calls { FoldsTo (λ b i c. (r : J.Type) × J.value_gives self.values i r × F.post f b r c) init (left (J.Mask.has self.keys.mask 0) self.keys.position) result }
+        ensures becomes { (to : B → ℕ → B) → ((b : B) (i : ℕ) (r : J.Type) (c : B) → J.value_gives self.values i r → F.post f b r c → c ≡ to b i) → result ≡ fold to init (left (J.Mask.has self.keys.mask 0) self.keys.position) }
+    {
+        let mut sum = init;
+        while let Some(item) = self.next() {
+            sum = f(sum, item);
+        }
+        sum
     }
 }
 

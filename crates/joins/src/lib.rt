@@ -25,6 +25,8 @@ pub use change_set::{ChangeError, ChangeSet};
 pub use combine::{Combine, Refused};
 pub use cursors::change_join::ChangeJoin;
 pub use cursors::drain::Drain;
+pub use cursors::each::ForEach;
+pub use cursors::each_error::EachError;
 pub use cursors::entry_join::EntryJoin;
 pub use cursors::join_living::JoinLiving;
 pub use cursors::join_mut::JoinMut;

@@ -6,6 +6,10 @@ mod asserts;
 #[cfg(test)]
 mod change_set_tests;
 #[cfg(test)]
+mod closure_tests;
+#[cfg(test)]
+mod closure_walks;
+#[cfg(test)]
 mod cursor_tests;
 #[cfg(test)]
 mod cursor_walks;

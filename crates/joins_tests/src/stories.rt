@@ -1,7 +1,8 @@
 //! The stories that are told of yards.
+use crate::closure_walks::Looped;
 use crate::worlds::{Number, Numbered, Place, Position, Velocity, World, new_world, populate};
 use crate::yard::{Joined, Told, Viewed};
-use crate::{change_set_tests, cursor_tests, getting_tests};
+use crate::{change_set_tests, closure_tests, cursor_tests, getting_tests};
 use std::alloc::Global;
 use std::process::Abort;
 use std::test::Fail;
@@ -30,6 +31,9 @@ pub enum Story {
     TwoHaveBoth,
     JoinedFromNoneToOne,
     BesideItsAbsence,
+    EachIsCalled,
+    ACallRefuses,
+    AllAreRead,
 }
 
 /// The same, of a yard whose first storage tells of each change.
@@ -38,6 +42,7 @@ pub enum TrackedStory {
     LowOnesAreTold,
     AllAreTold,
     ToldAreJoined,
+    CallsAreTold,
 }
 
 // Tells of change sets and of what joins give.
@@ -60,8 +65,24 @@ fn tell_of_joins<R: Abort, Y: Joined>(
     }
 }
 
-// Tells of cursors, or else of joins.
-fn tell<R: Abort, Y: Viewed + Joined>(
+// Tells of loops by closures, or else of joins.
+fn tell_of_loops<R: Abort, Y: Joined + Looped>(
+    rt: &R,
+    alloc: Global,
+    story: Story,
+    yard: &mut Y,
+) -> Result<(), Fail> {
+    match story {
+        Story::EachIsCalled => closure_tests::each_is_called(rt, yard),
+        Story::ACallRefuses => closure_tests::a_call_refuses(rt, yard),
+        Story::AllAreRead => closure_tests::all_are_read(rt, alloc, yard)?,
+        _ => tell_of_joins(rt, alloc, story, yard)?,
+    }
+    Ok(())
+}
+
+// Tells of cursors, or else of loops and joins.
+fn tell<R: Abort, Y: Viewed + Joined + Looped>(
     rt: &R,
     alloc: Global,
     story: Story,
@@ -79,7 +100,7 @@ fn tell<R: Abort, Y: Viewed + Joined>(
         Story::Exchanged => cursor_tests::are_exchanged(rt, yard),
         Story::LendsWhereItStands => cursor_tests::lends_only_where_it_stands(rt, yard),
         Story::ByAView => cursor_tests::by_a_view(rt, yard)?,
-        _ => tell_of_joins(rt, alloc, story, yard)?,
+        _ => tell_of_loops(rt, alloc, story, yard)?,
     }
     Ok(())
 }
@@ -117,7 +138,7 @@ pub fn told_of_defaults<R: Abort>(
 }
 
 // Tells of a yard whose first storage tells of each change.
-fn tell_tracked<R: Abort, Y: Told>(
+fn tell_tracked<R: Abort, Y: Told + Looped>(
     rt: &R,
     alloc: Global,
     story: TrackedStory,
@@ -127,6 +148,7 @@ fn tell_tracked<R: Abort, Y: Told>(
         TrackedStory::LowOnesAreTold => cursor_tests::low_ones_are_told(rt, yard),
         TrackedStory::AllAreTold => cursor_tests::all_are_told(rt, yard),
         TrackedStory::ToldAreJoined => cursor_tests::told_are_joined(rt, alloc, yard)?,
+        TrackedStory::CallsAreTold => closure_tests::calls_are_told(rt, yard),
     }
     Ok(())
 }

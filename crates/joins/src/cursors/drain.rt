@@ -1,5 +1,5 @@
 //! A cursor that takes components out.
-ghost use Rattle.std.specs.Prelude.{◌≡◌, ℕ, ◌&&◌, ◌||◌, not, true, false, None, Ok, IfSome, IfNone, IfOk, IsOk, OnOk, OnErr, IsSome, [], ◌∷◌, MatchOption, is_some};
+ghost use Rattle.std.specs.Prelude.{◌≡◌, ℕ, ◌&&◌, ◌||◌, not, true, false, Some, None, Ok, IfSome, IfNone, IfOk, IsOk, OnOk, OnErr, IsSome, [], ◌∷◌, MatchOption, is_some, length};
 ghost use Rattle.std.specs.FinMap as map;
 ghost use Rattle.hibits.specs.Sets.{has_part};
 ghost use Rattle.hibits.specs.WalkOf.{IsWalkOf};
@@ -28,6 +28,8 @@ pub struct Drain<'a, T: Component, J: Join> {
 impl<'a, T: Component, J: Join> Drain<'a, T, J> {
     ghost use Rattle.hibits.specs.Left.{left};
     ghost use Rattle.joins.specs.Draining.{slot, storage_name, here, component, is_given, rest, gives};
+    ghost use Rattle.joins.specs.Each.{each_gone};
+    ghost use Rattle.joins.specs.Taking.{TakenAtEach, TakingStopped};
     ghost use Rattle.storages.specs.Meaning.{HasRoom};
     ghost use Rattle.storages.specs.Slot.{IsSame, Takes};
 
@@ -108,5 +110,35 @@ impl<'a, T: Component, J: Join> Drain<'a, T, J> {
         ensures gives { (i : ℕ) (r : J.Type) → gives self.new i r → gives self.old i r }
     {
         self.steps.beside()
+    }
+
+    /// Takes the component out at each index that is left, ascending, and calls `f` with it and with what the join has beside it. It stands for
+    /// `for (component, item) in (storage.drain(), join).join()` of specs, and costs what that walk and the calls cost.
+    ///
+    /// `Err` where memory was refused for the event of the next index: what was taken out before it stays so, and the cursor stands at that
+    /// index, whose component is there.
+    pub fn for_each<F: FnMut(T, J::Type)>(&mut self, mut f: F) -> Result<(), AllocError>
+    where
+        T::Storage: UnprotectedStorage<T>,
+        J::Type: Drop,
+        requires called { (state : F) (i : ℕ) (x : T) (z : J.Type) → map.get (slot self.old).map i ≡ Some x → gives self.old i z → F.pre state x z }
+        ensures same_reference { storage_name self.new ≡ storage_name self.old }
+        ensures calls { OnOk result ((last : F) × TakenAtEach (gives self.old) F.step (rest self.old) f (slot self.old) last (slot self.new)) }
+        ensures gone { OnOk result ((slot self.new).map ≡ each_gone (rest self.old) (slot self.old).map) }
+        ensures err { OnErr result (TakingStopped (gives self.old) F.step (rest self.old) f (slot self.old) (slot self.new)) }
+        ensures succeeds { HasRoom (slot self.old).room (length (rest self.old)) → IsOk result }
+        ensures room { is_some (slot self.new).room ≡ is_some (slot self.old).room }
+    {
+        while let Some(_id) = self.next() {
+            let Some(item) = self.beside() else {
+                unreachable!()
+            };
+            match self.item() {
+                Ok(Some(component)) => f(component, item),
+                Ok(None) => unreachable!(),
+                Err(e) => return Err(e),
+            }
+        }
+        Ok(())
     }
 }

@@ -1,6 +1,7 @@
 //! A cursor that lends components for writing.
-ghost use Rattle.std.specs.Prelude.{◌≡◌, ℕ, Bool, ◌&&◌, ◌||◌, not, true, false, Some, None, Err, IfSome, IfNone, IfOk, IsOk, IsSome, [], ◌∷◌, MatchOption, is_some, ◌↔◌};
-ghost use Rattle.std.specs.Borrow.{sem};
+ghost use Rattle.std.specs.Prelude.{◌≡◌, ◌≢◌, ℕ, Bool, ◌&&◌, ◌||◌, not, true, false, Some, None, Ok, Err, IfSome, IfNone, IfOk, IsOk, OnOk, OnErr, IsSome, [], ◌∷◌, MatchOption, is_some, ◌↔◌, length};
+ghost use Rattle.std.specs.Borrow.{sem, MutBor};
+ghost use Rattle.std.specs.List.{Contains};
 ghost use Rattle.std.specs.FinMap as map;
 ghost use Rattle.std.specs.Option.{ForSome};
 ghost use Rattle.hibits.specs.Sets.{has_part};
@@ -8,9 +9,11 @@ ghost use Rattle.hibits.specs.WalkOf.{IsWalkOf};
 ghost use Rattle.joins.specs.Keys.{keys_of};
 ghost use Rattle.storages.specs.Limit.{IsIndex};
 
+use crate::cursors::each_error::EachError;
 use crate::cursors::steps::Steps;
 use crate::join::Join;
 use hibits::{Index, Layers};
+use std::alloc::AllocError;
 use storages::{Component, MaskedStorage, NotLent, UnprotectedStorage};
 
 /// Walks the indices that a storage and a join share, ascending, and lends the storage's component for writing.
@@ -29,6 +32,8 @@ pub struct WriteJoin<'a, T: Component, J: Join> {
 impl<'a, T: Component, J: Join> WriteJoin<'a, T, J> {
     ghost use Rattle.hibits.specs.Left.{left};
     ghost use Rattle.joins.specs.Cursor.{slot, storage_name, here, is_given, rest, gives, lends_item};
+    ghost use Rattle.joins.specs.Each.{each_becomes};
+    ghost use Rattle.joins.specs.Visits.{CalledAtEach, ChangedAt, StoppedIn, RefusedIn, EachCalled, ChangedOnce, EachStopped};
     ghost use Rattle.storages.specs.Meaning.{HasRoom};
 
     /// Before the first index.
@@ -42,6 +47,17 @@ impl<'a, T: Component, J: Join> WriteJoin<'a, T, J> {
     {
         let steps = Steps::new(storage.mask(), join);
         WriteJoin { storage, steps }
+    }
+
+    /// The storage, with what was written to it. A caller that is generic over the join ends the cursor so: of a cursor that is only dropped
+    /// its proof does not know what the storage ends as.
+    #[inline(always)]
+    pub fn into_storage(self) -> &'a mut MaskedStorage<T>
+        ensures same_reference { result.ghost_name ≡ storage_name self.entry }
+        ensures slot { result.now ≡ slot self.entry }
+    {
+        let WriteJoin { storage, steps: _ } = self;
+        storage
     }
 
     /// Goes on to the next index, which it answers.
@@ -89,5 +105,98 @@ impl<'a, T: Component, J: Join> WriteJoin<'a, T, J> {
         ensures gives { (i : ℕ) (r : J.Type) → gives self.new i r → gives self.old i r }
     {
         self.steps.beside()
+    }
+
+    /// Calls `f` at each index that is left, ascending, with a `&mut` to the component there and with what the join has beside it. It stands for
+    /// `for (component, item) in (&mut storage, join).join()` of specs, and costs what that walk and the calls cost.
+    ///
+    /// `Err` where memory was refused for the event of the next index: the calls before it stay made, and the cursor stands at that index. A
+    /// storage of which nobody reads events is never refused. `for_each_with` of a storage, or of a view, says the same of what that ends as.
+    pub fn for_each<F: FnMut(&mut T, J::Type)>(&mut self, mut f: F) -> Result<(), AllocError>
+    where
+        T::Storage: UnprotectedStorage<T>,
+        J::Type: Drop,
+        requires called { (state : F) (i : ℕ) (x : MutBor T) (z : J.Type) → map.get (slot self.old).map i ≡ Some x.now → gives self.old i z → F.pre state x z }
+        ensures same_reference { storage_name self.new ≡ storage_name self.old }
+        ensures calls { OnOk result ((last : F) × CalledAtEach (gives self.old) F.step tt (rest self.old) f (slot self.old) last (slot self.new)) }
+        ensures each { OnOk result ((i : ℕ) → Contains (rest self.old) i → ChangedAt (gives self.old) F.step tt (slot self.old) (slot self.new) i) }
+        ensures others { OnOk result ((i : ℕ) → (Contains (rest self.old) i → ⊥) → map.get (slot self.new).map i ≡ map.get (slot self.old).map i) }
+        ensures becomes { OnOk result ((to : ℕ → T → T) → ((i : ℕ) (state next : F) (x : MutBor T) (z : J.Type) (y : MutBor T) → gives self.old i z → F.step state x z tt y next → y.now ≡ to i x.now) → (slot self.new).map ≡ each_becomes to (rest self.old) (slot self.old).map) }
+        ensures err { OnErr result (StoppedIn (gives self.old) F.step tt (rest self.old) f (slot self.old) (slot self.new)) }
+        ensures succeeds { HasRoom (slot self.old).room (length (rest self.old)) → IsOk result }
+        ensures room { is_some (slot self.new).room ≡ is_some (slot self.old).room }
+    {
+        while let Some(_id) = self.next() {
+            let Some(item) = self.beside() else {
+                unreachable!()
+            };
+            match self.item() {
+                Ok(component) => f(component, item),
+                Err(_) => return Err(AllocError),
+            }
+        }
+        Ok(())
+    }
+
+    /// `for_each` of a closure that keeps what it captured as it is, which callers' proofs then know in each call.
+    pub fn update_each<F: Fn(&mut T, J::Type)>(&mut self, f: F) -> Result<(), AllocError>
+    where
+        T::Storage: UnprotectedStorage<T>,
+        J::Type: Drop,
+        requires called { (i : ℕ) (x : MutBor T) (z : J.Type) → map.get (slot self.old).map i ≡ Some x.now → gives self.old i z → F.pre f x z }
+        ensures same_reference { storage_name self.new ≡ storage_name self.old }
+        ensures calls { OnOk result (EachCalled (gives self.old) (F.post f) (rest self.old) (slot self.old) (slot self.new)) }
+        ensures each { OnOk result ((i : ℕ) → Contains (rest self.old) i → ChangedOnce (gives self.old) (F.post f) (slot self.old) (slot self.new) i) }
+        ensures others { OnOk result ((i : ℕ) → (Contains (rest self.old) i → ⊥) → map.get (slot self.new).map i ≡ map.get (slot self.old).map i) }
+        ensures becomes { OnOk result ((to : ℕ → T → T) → ((i : ℕ) (x : MutBor T) (z : J.Type) (y : MutBor T) → gives self.old i z → F.post f x z tt y → y.now ≡ to i x.now) → (slot self.new).map ≡ each_becomes to (rest self.old) (slot self.old).map) }
+        ensures err { OnErr result (EachStopped (gives self.old) (F.post f) (rest self.old) (slot self.old) (slot self.new)) }
+        ensures succeeds { HasRoom (slot self.old).room (length (rest self.old)) → IsOk result }
+        ensures room { is_some (slot self.new).room ≡ is_some (slot self.old).room }
+    {
+        while let Some(_id) = self.next() {
+            let Some(item) = self.beside() else {
+                unreachable!()
+            };
+            match self.item() {
+                Ok(place) => f(place, item),
+                Err(_refused) => return Err(AllocError),
+            }
+        }
+        Ok(())
+    }
+
+    /// `for_each` of a closure that may refuse, which ends the loop: the calls before it stay made, as does what it wrote to its component, and
+    /// the cursor stands at its index.
+    pub fn try_for_each<E, F: FnMut(&mut T, J::Type) -> Result<(), E>>(
+        &mut self,
+        mut f: F,
+    ) -> Result<(), EachError<E>>
+    where
+        T::Storage: UnprotectedStorage<T>,
+        J::Type: Drop,
+        requires called { (state : F) (i : ℕ) (x : MutBor T) (z : J.Type) → map.get (slot self.old).map i ≡ Some x.now → gives self.old i z → F.pre state x z }
+        ensures same_reference { storage_name self.new ≡ storage_name self.old }
+        ensures calls { OnOk result ((last : F) × CalledAtEach (gives self.old) F.step (Ok tt) (rest self.old) f (slot self.old) last (slot self.new)) }
+        ensures each { OnOk result ((i : ℕ) → Contains (rest self.old) i → ChangedAt (gives self.old) F.step (Ok tt) (slot self.old) (slot self.new) i) }
+        ensures others { OnOk result ((i : ℕ) → (Contains (rest self.old) i → ⊥) → map.get (slot self.new).map i ≡ map.get (slot self.old).map i) }
+        ensures becomes { OnOk result ((to : ℕ → T → T) → ((i : ℕ) (state next : F) (x : MutBor T) (z : J.Type) (y : MutBor T) → gives self.old i z → F.step state x z (Ok tt) y next → y.now ≡ to i x.now) → (slot self.new).map ≡ each_becomes to (rest self.old) (slot self.old).map) }
+        ensures memory { (result ≡ Err EachError.OutOfMemory) → StoppedIn (gives self.old) F.step (Ok tt) (rest self.old) f (slot self.old) (slot self.new) }
+        ensures refused { (e : E) → result ≡ Err (EachError.Refused e) → RefusedIn (gives self.old) F.step (Ok tt) (Err e) (rest self.old) f (slot self.old) (slot self.new) }
+        ensures succeeds { HasRoom (slot self.old).room (length (rest self.old)) → result ≢ Err EachError.OutOfMemory }
+        ensures room { is_some (slot self.new).room ≡ is_some (slot self.old).room }
+    {
+        while let Some(_id) = self.next() {
+            let Some(item) = self.beside() else {
+                unreachable!()
+            };
+            match self.item() {
+                Ok(component) => match f(component, item) {
+                    Ok(()) => {}
+                    Err(e) => return Err(EachError::Refused(e)),
+                },
+                Err(_) => return Err(EachError::OutOfMemory),
+            }
+        }
+        Ok(())
     }
 }
