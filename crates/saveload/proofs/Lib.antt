@@ -12,6 +12,8 @@ pub mod Converting
 pub mod JsonLists
 pub mod JsonTexts
 pub mod Kept
+pub mod Parts
+pub mod Floats
 pub mod KeptTuples
 pub mod Remapped
 pub mod Stopped

@@ -17,6 +17,12 @@ pub mod Told
 pub mod Giving
 pub mod Json
 pub mod JsonNumbers
+pub mod JsonParts
+pub mod JsonFields
+pub mod JsonScalars
+pub mod JsonFloats
+pub mod JsonValues
+pub mod PartsKept
 pub mod Wrapped
 pub mod JsonTuples
 pub mod Uuids

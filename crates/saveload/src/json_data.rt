@@ -14,7 +14,7 @@ use std::alloc::{AllocError, Global};
 
 /// A marker, or a component's data, as a JSON value.
 ///
-/// What serde derives for specs is written by hand here, for each type.
+/// What serde derives for specs is written by hand here: for each type, or as its fields, by [`JsonFields`](crate::JsonFields).
 pub trait JsonData: Sized {
     // The value that it is written as.
     ghost json: { Self → Data };

@@ -14,6 +14,8 @@ mod own_marker_tests;
 #[cfg(test)]
 mod saving_tests;
 #[cfg(test)]
+mod shape_tests;
+#[cfg(test)]
 mod single_tests;
 #[cfg(test)]
 mod stopped_tests;

@@ -1,0 +1,9 @@
+use Rattle.std.proofs.Common.{◌≡◌, subst, rules}
+use Rattle.saveload.specs.JsonParts.{AllSplit}
+use Rattle.saveload.proofs.Parts.{list_back}
+use Rattle.saveload.proofs.saved_vec.SavedVecJsonParts.push_parts.Goals as goal
+
+pub returns-clause-back : goal.returns-clause-back
+returns-clause-back g c =
+    let e : c.as_slice.result.now ≡ c.args.self.now = search rules in
+    list_back g.T.JsonParts.parts g.T.JsonParts.split c.args.self.now (subst (AllSplit g.T.JsonParts.parts g.T.JsonParts.split) e c.in_ok-push_all.ensures.back)
