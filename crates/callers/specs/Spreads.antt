@@ -9,6 +9,7 @@ use Rattle.specs.specs.declared.job.Job.{Job}
 use Rattle.specs.specs.Evolving.{Evolves, ValuesLive}
 use Rattle.specs.specs.Following.{IsFollowed, IsListening, Advances, JobSpares, AllSpare, Spared, Tells}
 use Rattle.specs.specs.Lawful.{still_grows, still_lives, still_tells, born_lives, inserted_tells}
+use Rattle.specs.specs.Clones.{no_clones}
 use Rattle.specs.specs.Living.{keeps_step}
 use Rattle.specs.specs.People.{Births}
 use Rattle.specs.specs.Reached.{OnlyLiving}
@@ -49,7 +50,7 @@ pub spreads_lives : {J K V : Type 0} (place : V → K) (value : V) (old new : St
 spreads_lives {J} {K} {V} place value old new more d w = both d.1
   where
     after : (mid : State K V) (e : Entity) → Given place e value mid new → OnlyLiving mid → OnlyLiving new
-    after mid e (inl s) w = keeps_step {S = ℕ} {J = ℕ} place (λ _. true) mid (Insert e value) (Value s.0) new s.1 w
+    after mid e (inl s) w = keeps_step {S = ℕ} {J = ℕ} place no_clones mid (Insert e value) (Value s.0) new s.1 w
     after mid e (inr same) w = subst (λ (s : State K V). OnlyLiving s) (sym same) w
 
     both : (new ≡ old) ⊎ Spreads place value old new → ValuesLive new

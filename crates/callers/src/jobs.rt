@@ -13,7 +13,7 @@ use specs::{
     Core, CreateError, Entity, Held, Job, JobList, LazyUpdate, Maintained, Parts, Storages, World,
     WorldJob,
 };
-use std::alloc::{AllocError, Global};
+use std::alloc::{AllocError, AllocFailed, Global};
 
 /// Queues itself, so it runs again at each turn.
 #[derive(Drop)]
@@ -39,7 +39,10 @@ impl<S: Held> WorldJob<S> for Again {
         _core: &mut Core<S>,
         queue: &mut LazyUpdate<S, Self>,
     ) -> Result<(), (Self, AllocError)> {
-        queue.exec(self)
+        match queue.exec(self) {
+            Ok(()) => Ok(()),
+            Err(failed) => Err((failed.value, AllocError)),
+        }
     }
 
     ghost grows = { λ j old new more s. still_grows old new s.1 };
@@ -78,7 +81,10 @@ impl<S: Held> WorldJob<S> for Late<S> {
         let Late { entity, value } = self;
         match queue.insert(entity, value) {
             Ok(()) => Ok(()),
-            Err((value, refused)) => Err((Late { entity, value }, refused)),
+            Err(failed) => {
+                let value = failed.value;
+                Err((Late { entity, value }, AllocError))
+            }
         }
     }
 
@@ -150,7 +156,7 @@ fn give<S: Storages>(core: &mut Core<S>, e: Entity, value: S::Value)
 pub fn queue<S: Storages, J: WorldJob<S>>(
     world: &mut World<S, J>,
     job: J,
-) -> Result<(), (J, AllocError)>
+) -> Result<(), AllocFailed<J>>
     ensures ok { OnOk result ((world_state S.table S.ids world.new).jobs ≡ (world_state S.table S.ids world.old).jobs ++ Own job ∷ []) }
     ensures core { (world_state S.table S.ids world.new).core ≡ (world_state S.table S.ids world.old).core }
     ensures err { OnErr result (world_state S.table S.ids world.new ≡ world_state S.table S.ids world.old) }
@@ -183,19 +189,20 @@ pub fn queue_both<S: Held, J: Drop>(
     ensures err { OnErr result (queued queue.new ≡ queued queue.old) }
 {
     let mut list = JobList::new(alloc);
-    if let Err((job, refused)) = list.push(Job::Insert(entity, first)) {
-        return Err((value_in(Some(job)), second, refused));
+    if let Err(failed) = list.push(Job::Insert(entity, first)) {
+        return Err((value_in(Some(failed.value)), second, AllocError));
     }
-    if let Err((job, refused)) = list.push(Job::Insert(entity, second)) {
+    if let Err(failed) = list.push(Job::Insert(entity, second)) {
         let first = value_in(list.pop_front());
-        return Err((first, value_in(Some(job)), refused));
+        return Err((first, value_in(Some(failed.value)), AllocError));
     }
     match queue.append(list) {
         Ok(()) => Ok(()),
-        Err((mut list, refused)) => {
+        Err(failed) => {
+            let mut list = failed.value;
             let first = value_in(list.pop_front());
             let second = value_in(list.pop_front());
-            Err((first, second, refused))
+            Err((first, second, AllocError))
         }
     }
 }
@@ -210,9 +217,7 @@ pub fn is_done<S: Storages, J: WorldJob<S>>(
     ensures goes_on { IfOk result (λ m. m.stopped ≡ false) }
     ensures done { IfOk result (λ m. m.ran ≡ 1) }
 {
-    if let Err((_job, refused)) = queue(world, job) {
-        return Err(refused);
-    }
+    queue(world, job)?;
     let kept = world.maintain(1)?;
     Ok(kept)
 }

@@ -9,9 +9,9 @@ ghost use Rattle.specs.specs.State.{core_state, state_of};
 ghost use Rattle.specs.specs.Steps.{world_state};
 
 use specs::{
-    Builder, Command, Component, Core, DeserializeComponents, EntitiesRes, Entity, EntityData, Has,
-    Marker, MarkerAllocator, MaskedStorage, ReaderId, Reply, Storages, UnprotectedStorage, World,
-    WorldJob, deserialize, loads_keep, phases_keep,
+    Builder, CloneStorages, Command, Component, Core, DeserializeComponents, EntitiesRes, Entity,
+    EntityData, Has, Marker, MarkerAllocator, MaskedStorage, ReaderId, Reply, Storages,
+    UnprotectedStorage, World, WorldJob, deserialize, loads_keep, phases_keep,
 };
 use std::alloc::Global;
 
@@ -41,7 +41,7 @@ where
 }
 
 /// What a run of commands that leave a reader be gives the reader leads from the values before to those after.
-pub fn followed<S: Storages, J: WorldJob<S>>(
+pub fn followed<S: CloneStorages, J: WorldJob<S>>(
     world: &mut World<S, J>,
     slot: S::Slot,
     reader: ReaderId,
@@ -60,7 +60,7 @@ pub fn followed<S: Storages, J: WorldJob<S>>(
 }
 
 /// A world in which that may be asked: calls that are no commands came before.
-pub fn lives_after_calls<T: Component + Drop, I, S: Storages + Has<T, I>, J: WorldJob<S>>(
+pub fn lives_after_calls<T: Component + Drop, I, S: CloneStorages + Has<T, I>, J: WorldJob<S>>(
     world: &mut World<S, J>,
     component: T,
     list: &[Entity],
@@ -85,7 +85,7 @@ fn born<S: Storages>(core: &mut Core<S>)
 }
 
 /// An entity that died is dead after each other call.
-pub fn dead_for_good<S: Storages, J: WorldJob<S>>(world: &mut World<S, J>, e: Entity) -> bool
+pub fn dead_for_good<S: CloneStorages, J: WorldJob<S>>(world: &mut World<S, J>, e: Entity) -> bool
     ensures { result ≡ true → ⊥ }
 {
     if world.delete_entity(e).is_err() {
@@ -144,7 +144,7 @@ pub fn through_a_phase<S: Storages>(alloc: Global, core: &mut Core<S>, e: Entity
 }
 
 /// All of that, one after another, and then a run: each component belongs to a living entity at the end.
-pub fn lives_through_all<T: Component + Drop, I, S: Storages + Has<T, I>, J: WorldJob<S>>(
+pub fn lives_through_all<T: Component + Drop, I, S: CloneStorages + Has<T, I>, J: WorldJob<S>>(
     alloc: Global,
     world: &mut World<S, J>,
     component: T,

@@ -8,12 +8,13 @@ ghost use Rattle.specs.specs.State.{state_of};
 use composed::{Both, Either, Empty, Only, Sole};
 use slots::Position;
 use specs::{
-    Command, DeleteError, EntitiesRes, Entity, Refusal, Reply, Storages, World, component,
+    CloneStorages, Command, DeleteError, EntitiesRes, Entity, Refusal, Reply, Storages, World,
+    component,
 };
 use std::alloc::{AllocError, Global};
 
 /// Whatever a new world is asked to do, each component belongs to a living entity.
-pub fn lived<S: Empty + Storages + Drop>(
+pub fn lived<S: Empty + CloneStorages + Drop>(
     alloc: Global,
     commands: Vec<Command<S>>,
 ) -> Result<World<S>, AllocError>
@@ -25,7 +26,7 @@ pub fn lived<S: Empty + Storages + Drop>(
 }
 
 /// A deleted entity is not alive, and has no component.
-pub fn deleted_is_gone<S: Storages>(
+pub fn deleted_is_gone<S: CloneStorages>(
     world: &mut World<S>,
     slot: S::Slot,
     e: Entity,
@@ -53,7 +54,7 @@ pub fn is_back<S: Storages>(world: &World<S>, e: Entity) -> bool
 pub type Placed<B> = Both<Only<Position>, B>;
 
 /// The position of an entity, if it is alive and has one. It is read without memory, since copies of positions take none.
-pub fn position<B: Storages>(world: &mut World<Placed<B>>, e: Entity) -> Option<Position> {
+pub fn position<B: CloneStorages>(world: &mut World<Placed<B>>, e: Entity) -> Option<Position> {
     match world.apply(Command::Get(Either::First(Sole::Sole), e)) {
         Reply::Value(Some(found)) => component::<Position, Placed<B>, _>(found).ok(),
         Reply::Value(None) | Reply::Refused(Refusal::Unregistered) => None,

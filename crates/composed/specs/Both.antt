@@ -1,6 +1,7 @@
 -- The table that two make.
 use Rattle.std.specs.Prelude.{ℕ, Option}
 use Rattle.std.specs.Option.{option_map}
+use Rattle.specs.specs.Clones.{Clones}
 use Rattle.specs.specs.Marks.{Markers}
 use Rattle.specs.specs.Shows.{column_as}
 use Rattle.specs.specs.Table.{Table}
@@ -29,3 +30,17 @@ comes_of_both f g (Rest l) left (Rest w) = g l left w
 
 abbrev pub markers_of_both : {K L V W : Type 0} → Markers K V → Markers L W → Markers (Either K L) (Either V W)
 markers_of_both m n = record { holds = of_either m.holds n.holds; comes = comes_of_both m.comes n.comes }
+
+-- a clone of a value of the one part is one of that part's
+abbrev pub clone_of_both : {V W : Type 0} → (V → V → Type 0) → (W → W → Type 0) → Either V W → Either V W → Type 0
+clone_of_both f g (First v) (First v') = f v v'
+clone_of_both f g (First v) (Rest w) = ⊥
+clone_of_both f g (Rest w) (First v) = ⊥
+clone_of_both f g (Rest w) (Rest w') = g w w'
+
+abbrev pub free_of_both : {K L : Type 0} → (K → Type 0) → (L → Type 0) → Either K L → Type 0
+free_of_both f g (First k) = f k
+free_of_both f g (Rest l) = g l
+
+abbrev pub clones_of_both : {K L V W : Type 0} → Clones K V → Clones L W → Clones (Either K L) (Either V W)
+clones_of_both c d = record { is_clone = clone_of_both c.is_clone d.is_clone; is_free = free_of_both c.is_free d.is_free }

@@ -1,3 +1,5 @@
 pub mod Both
 pub mod Places
 pub mod Exact
+pub mod Two
+pub mod Three

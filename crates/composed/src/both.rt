@@ -5,7 +5,10 @@ ghost use Rattle.composed.specs.declared.either.Either.TheVariants.{First, Rest}
 
 use crate::either::Either;
 use hibits::BitSet;
-use specs::{ChannelCall, ChannelReply, EntitiesRes, Entity, Held, MarkError, Refusal, Storages};
+use specs::{
+    ChannelCall, ChannelReply, CloneStorages, EntitiesRes, Entity, Held, MarkError, Refusal,
+    Storages,
+};
 use std::alloc::{AllocError, Global};
 
 /// The storages of both. A call goes to the part that its slot or its value names, and costs what it costs there.
@@ -49,8 +52,6 @@ impl<A: Storages, B: Storages> Storages for Both<A, B> {
 
     ghost room = { λ s. of_either (A.room s.first) (B.room s.rest) };
 
-    ghost allocates = { of_either A.allocates B.allocates };
-
     ghost exact = { exact_by _ A.Slot.eq B.Slot.eq (λ x y. refl) (λ x y. refl) (λ x y. refl) (λ x y. refl) A.exact B.exact };
 
     ghost idless = { λ s. idless_of_both A.marks.holds B.marks.holds (A.ids s.first) (B.ids s.rest) (A.idless s.first) (B.idless s.rest) };
@@ -91,18 +92,6 @@ impl<A: Storages, B: Storages> Storages for Both<A, B> {
                 Ok(before) => Ok(rest(before)),
                 Err((refusal, value)) => Err((refusal, Either::Rest(value))),
             },
-        }
-    }
-
-    fn get(
-        &self,
-        entities: &EntitiesRes,
-        slot: Self::Slot,
-        e: Entity,
-    ) -> Result<Option<Self::Value>, Refusal> {
-        match slot {
-            Either::First(slot) => Ok(first(self.first.get(entities, slot, e)?)),
-            Either::Rest(slot) => Ok(rest(self.rest.get(entities, slot, e)?)),
         }
     }
 
@@ -156,6 +145,24 @@ impl<A: Storages, B: Storages> Storages for Both<A, B> {
     fn drop_all(&mut self, es: &[Entity]) {
         self.first.drop_all(es);
         self.rest.drop_all(es);
+    }
+}
+
+impl<A: CloneStorages, B: CloneStorages> CloneStorages for Both<A, B> {
+    ghost use Rattle.composed.specs.Both.{clones_of_both};
+
+    ghost clones = { clones_of_both A.clones B.clones };
+
+    fn get(
+        &self,
+        entities: &EntitiesRes,
+        slot: Self::Slot,
+        e: Entity,
+    ) -> Result<Option<Self::Value>, Refusal> {
+        match slot {
+            Either::First(slot) => Ok(first(self.first.get(entities, slot, e)?)),
+            Either::Rest(slot) => Ok(rest(self.rest.get(entities, slot, e)?)),
+        }
     }
 }
 

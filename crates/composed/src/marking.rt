@@ -3,8 +3,8 @@ use crate::only::{Only, Sole};
 use hibits::BitSet;
 use saveload::{Marker, MarkerAllocator, SimpleMarker, SimpleMarkerAllocator};
 use specs::{
-    ChannelCall, ChannelReply, Duplicate, EntitiesRes, Entity, Held, MarkError, Refusal, Storages,
-    field_marks,
+    ChannelCall, ChannelReply, CloneStorages, EntitiesRes, Entity, Held, MarkError, Refusal,
+    Storages, field_marks,
 };
 use std::alloc::{AllocError, Global};
 use storages::MaybeTracked;
@@ -61,7 +61,7 @@ impl<M: Marker, A: MarkerAllocator<M>> Held for Marking<M, A> {
     ghost ids = { λ s _. A.ids s.allocator };
 }
 
-impl<M: Marker + Duplicate, A: MarkerAllocator<M>> Storages for Marking<M, A>
+impl<M: Marker, A: MarkerAllocator<M>> Storages for Marking<M, A>
 where
     M::Storage: MaybeTracked<M>,
 {
@@ -71,8 +71,6 @@ where
     ghost use Rattle.specs.specs.Field.{field_room};
 
     ghost room = { λ s _. field_room s.markers.field };
-
-    ghost allocates = { λ _. M.allocates };
 
     ghost exact = { λ a b. (λ _. sole_is a b, λ _. refl) };
 
@@ -97,10 +95,6 @@ where
         value: M,
     ) -> Result<Option<M>, (Refusal, M)> {
         self.markers.insert(entities, e, value)
-    }
-
-    fn get(&self, entities: &EntitiesRes, slot: Sole, e: Entity) -> Result<Option<M>, Refusal> {
-        self.markers.get(entities, slot, e)
     }
 
     fn remove(
@@ -135,5 +129,16 @@ where
 
     fn drop_all(&mut self, es: &[Entity]) {
         self.markers.drop_all(es);
+    }
+}
+
+impl<M: Marker + Clone, A: MarkerAllocator<M>> CloneStorages for Marking<M, A>
+where
+    M::Storage: MaybeTracked<M>,
+{
+    ghost clones = { record { is_clone = M.is_clone; is_free = λ _. (m : M) → M.is_infallible m } };
+
+    fn get(&self, entities: &EntitiesRes, slot: Sole, e: Entity) -> Result<Option<M>, Refusal> {
+        self.markers.get(entities, slot, e)
     }
 }

@@ -1,8 +1,8 @@
 //! A struct of storages for one component type.
 use hibits::BitSet;
 use specs::{
-    ChannelCall, ChannelReply, Duplicate, EntitiesRes, Entity, Held, MarkError, Refusal, Storages,
-    field,
+    ChannelCall, ChannelReply, CloneStorages, EntitiesRes, Entity, Held, MarkError, Refusal,
+    Storages, field,
 };
 use std::alloc::{AllocError, Global};
 use storages::{Component, MaskedStorage, MaybeTracked};
@@ -56,7 +56,7 @@ impl<T: Component + Drop> Held for Only<T> {
     ghost ids = { λ _ _. Some 0 };
 }
 
-impl<T: Component + Duplicate> Storages for Only<T>
+impl<T: Component + Drop> Storages for Only<T>
 where
     T::Storage: MaybeTracked<T>,
 {
@@ -65,8 +65,6 @@ where
     ghost use Rattle.specs.specs.Field.{field_room};
 
     ghost room = { λ s _. field_room s.field };
-
-    ghost allocates = { λ _. T.allocates };
 
     ghost exact = { λ a b. (λ _. sole_is a b, λ _. refl) };
 
@@ -94,10 +92,6 @@ where
         value: T,
     ) -> Result<Option<T>, (Refusal, T)> {
         field::insert(&mut self.field, entities, e, value)
-    }
-
-    fn get(&self, entities: &EntitiesRes, _slot: Sole, e: Entity) -> Result<Option<T>, Refusal> {
-        field::get(&self.field, entities, e)
     }
 
     fn remove(
@@ -155,5 +149,16 @@ where
 
     fn drop_all(&mut self, es: &[Entity]) {
         field::drop_all(&mut self.field, es);
+    }
+}
+
+impl<T: Component + Clone + Drop> CloneStorages for Only<T>
+where
+    T::Storage: MaybeTracked<T>,
+{
+    ghost clones = { record { is_clone = T.is_clone; is_free = λ _. (t : T) → T.is_infallible t } };
+
+    fn get(&self, entities: &EntitiesRes, _slot: Sole, e: Entity) -> Result<Option<T>, Refusal> {
+        field::get_clone(&self.field, entities, e)
     }
 }

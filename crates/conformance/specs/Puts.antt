@@ -6,6 +6,7 @@ use Rattle.specs.specs.declared.command.Command.TheVariants.{Insert}
 use Rattle.specs.specs.declared.command.Reply.TheVariants.{Value}
 use Rattle.specs.specs.Evolving.{Evolves, ValuesLive}
 use Rattle.specs.specs.Lawful.{still_grows, still_lives}
+use Rattle.specs.specs.Clones.{no_clones}
 use Rattle.specs.specs.Living.{keeps_step}
 use Rattle.specs.specs.Reached.{OnlyLiving}
 use Rattle.specs.specs.State.{State, OnTable}
@@ -21,5 +22,5 @@ module _ {K V : Type 0} where
   given_grows place e value old new (inr same) = still_grows old new same
 
   pub given_lives : (place : V → K) (e : Entity) (value : V) (old new : State K V) → Given place e value old new → OnlyLiving old → ValuesLive new
-  given_lives place e value old new (inl s) w = (keeps_step {S = ℕ} {J = ℕ} place (λ _. true) old (Insert e value) (Value s.0) new s.1 w).values
+  given_lives place e value old new (inl s) w = (keeps_step {S = ℕ} {J = ℕ} place no_clones old (Insert e value) (Value s.0) new s.1 w).values
   given_lives place e value old new (inr same) w = still_lives old new same w

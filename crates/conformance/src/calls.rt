@@ -3,8 +3,8 @@
 use composed::Empty;
 use slots::{Health, Position};
 use specs::{
-    Command, Entity, Has, Index, Job, JobList, Maintained, Reply, SetExpr, Storages, World,
-    WorldJob, component, slot, value,
+    CloneStorages, Command, Entity, Has, Index, Job, JobList, Maintained, Reply, SetExpr, Storages,
+    World, WorldJob, component, slot, value,
 };
 use std::alloc::{AllocError, Global};
 use std::test::Fail;
@@ -49,7 +49,7 @@ pub fn fresh<S: Storages + Empty, J: WorldJob<S>>(alloc: Global) -> World<S, J> 
 }
 
 /// The reply to a command.
-pub fn does<S: Storages, J: WorldJob<S>>(
+pub fn does<S: CloneStorages, J: WorldJob<S>>(
     world: &mut World<S, J>,
     command: Command<S, J>,
 ) -> Reply<S::Value> {
@@ -57,7 +57,7 @@ pub fn does<S: Storages, J: WorldJob<S>>(
 }
 
 /// Whether a command is done, and nothing is replied but that.
-pub fn is_done<S: Storages, J: WorldJob<S>>(
+pub fn is_done<S: CloneStorages, J: WorldJob<S>>(
     world: &mut World<S, J>,
     command: Command<S, J>,
 ) -> bool {
@@ -65,7 +65,7 @@ pub fn is_done<S: Storages, J: WorldJob<S>>(
 }
 
 /// The entity that is born by a command.
-pub fn born<S: Storages, J: WorldJob<S>>(
+pub fn born<S: CloneStorages, J: WorldJob<S>>(
     world: &mut World<S, J>,
     birth: Command<S, J>,
 ) -> Option<Entity> {
@@ -76,7 +76,7 @@ pub fn born<S: Storages, J: WorldJob<S>>(
 }
 
 /// Puts a value at an entity that has none of its slot, and answers whether it went so.
-pub fn put<S: Storages, J: WorldJob<S>>(
+pub fn put<S: CloneStorages, J: WorldJob<S>>(
     world: &mut World<S, J>,
     e: Entity,
     value: S::Value,
@@ -85,7 +85,7 @@ pub fn put<S: Storages, J: WorldJob<S>>(
 }
 
 /// The value of an entity in a slot, or none.
-pub fn got<S: Storages, J: WorldJob<S>>(
+pub fn got<S: CloneStorages, J: WorldJob<S>>(
     world: &mut World<S, J>,
     slot: S::Slot,
     e: Entity,
@@ -97,12 +97,16 @@ pub fn got<S: Storages, J: WorldJob<S>>(
 }
 
 /// Whether an entity has a value in a slot.
-pub fn has<S: Storages, J: WorldJob<S>>(world: &mut World<S, J>, slot: S::Slot, e: Entity) -> bool {
+pub fn has<S: CloneStorages, J: WorldJob<S>>(
+    world: &mut World<S, J>,
+    slot: S::Slot,
+    e: Entity,
+) -> bool {
     got(world, slot, e).is_some()
 }
 
 /// The position of an entity, by a command.
-pub fn position_at<P, S: Storages + Has<Position, P>, J: WorldJob<S>>(
+pub fn position_at<P, S: CloneStorages + Has<Position, P>, J: WorldJob<S>>(
     world: &mut World<S, J>,
     e: Entity,
 ) -> Option<i64> {
@@ -113,7 +117,7 @@ pub fn position_at<P, S: Storages + Has<Position, P>, J: WorldJob<S>>(
 }
 
 /// The replies to commands.
-pub fn run<S: Storages>(
+pub fn run<S: CloneStorages>(
     world: &mut World<S>,
     commands: Vec<Command<S>>,
 ) -> Result<Vec<Reply<S::Value>>, AllocError> {

@@ -5,7 +5,7 @@ use crate::listed::Listed;
 use crate::own_jobs::{listing, lists};
 use crate::stories::{self, told};
 use composed::Empty;
-use specs::{Command, Core, Entity, LazyUpdate, Storages, World, WorldJob};
+use specs::{CloneStorages, Command, Core, Entity, LazyUpdate, Storages, World, WorldJob};
 use std::alloc::{AllocError, Global};
 use std::process::Abort;
 use std::test::Fail;
@@ -78,7 +78,10 @@ impl<S: Storages> WorldJob<Listed<S>> for Ask {
 }
 
 /// A merged entity and a pending one live until the job runs, and an index of theirs is born again then.
-fn ends_all<R: Abort, S: Storages>(rt: &R, world: &mut World<S, DeleteAll>) -> Result<(), Fail> {
+fn ends_all<R: Abort, S: CloneStorages>(
+    rt: &R,
+    world: &mut World<S, DeleteAll>,
+) -> Result<(), Fail> {
     let (first, again) = (entity(0, 1)?, entity(1, 2)?);
     equal!(rt; born(world, Command::Create), Some(first));
     let second = raised(world)?;
@@ -112,7 +115,7 @@ pub enum Story {
     Asks,
 }
 
-fn ends_all_of_new<R: Abort, S: Storages + Empty + Drop>(
+fn ends_all_of_new<R: Abort, S: CloneStorages + Empty + Drop>(
     rt: &R,
     alloc: Global,
 ) -> Result<(), Fail> {
@@ -126,7 +129,7 @@ fn asks_new<R: Abort, S: Storages + Empty + Drop>(rt: &R, alloc: Global) -> Resu
 }
 
 /// Tells a story of a new world.
-pub fn tell_of_new<R: Abort, S: Storages + Empty + Drop>(
+pub fn tell_of_new<R: Abort, S: CloneStorages + Empty + Drop>(
     rt: &R,
     alloc: Global,
     story: Story,

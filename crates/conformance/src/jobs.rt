@@ -7,7 +7,7 @@ use crate::calls::{
 use crate::stories::{self, told};
 use composed::Empty;
 use slots::{Health, Position};
-use specs::{Command, Entity, Has, Job, Storages, World, WorldJob};
+use specs::{CloneStorages, Command, Entity, Has, Job, Storages, World, WorldJob};
 use specs_run::ScriptJob;
 use std::alloc::{AllocError, Global};
 use std::process::Abort;
@@ -16,7 +16,7 @@ use std::test::Fail;
 type Busy<S> = World<S, ScriptJob>;
 
 /// Two entities, and storages for both component types.
-fn begin<R: Abort, P, H, S: Storages + Has<Position, P> + Has<Health, H>>(
+fn begin<R: Abort, P, H, S: CloneStorages + Has<Position, P> + Has<Health, H>>(
     rt: &R,
     world: &mut Busy<S>,
 ) -> Result<(Entity, Entity), Fail> {
@@ -44,7 +44,7 @@ fn repeats<R: Abort, S: Storages>(rt: &R, world: &mut Busy<S>) {
 }
 
 /// The lists of two workers, of which the second has the last word.
-fn appends<R: Abort, P, H, S: Storages + Has<Position, P> + Has<Health, H>>(
+fn appends<R: Abort, P, H, S: CloneStorages + Has<Position, P> + Has<Health, H>>(
     rt: &R,
     alloc: Global,
     world: &mut Busy<S>,
@@ -73,7 +73,7 @@ fn three<V: Drop>(
 }
 
 /// The first pairs of a list are of entities that are alive.
-fn all_at_once<R: Abort, P, H, S: Storages + Has<Position, P> + Has<Health, H>>(
+fn all_at_once<R: Abort, P, H, S: CloneStorages + Has<Position, P> + Has<Health, H>>(
     rt: &R,
     alloc: Global,
     world: &mut Busy<S>,
@@ -92,7 +92,7 @@ fn all_at_once<R: Abort, P, H, S: Storages + Has<Position, P> + Has<Health, H>>(
     Ok(())
 }
 
-fn takes_out<R: Abort, P, H, S: Storages + Has<Position, P> + Has<Health, H>>(
+fn takes_out<R: Abort, P, H, S: CloneStorages + Has<Position, P> + Has<Health, H>>(
     rt: &R,
     world: &mut Busy<S>,
 ) -> Result<(), Fail> {
@@ -107,7 +107,7 @@ fn takes_out<R: Abort, P, H, S: Storages + Has<Position, P> + Has<Health, H>>(
     Ok(())
 }
 
-fn marks_nobody<R: Abort, P, H, S: Storages + Has<Position, P> + Has<Health, H>>(
+fn marks_nobody<R: Abort, P, H, S: CloneStorages + Has<Position, P> + Has<Health, H>>(
     rt: &R,
     world: &mut Busy<S>,
 ) -> Result<(), Fail> {
@@ -128,7 +128,7 @@ pub enum Story {
     MarksNobody,
 }
 
-fn tell<R: Abort, P, H, S: Storages + Has<Position, P> + Has<Health, H>>(
+fn tell<R: Abort, P, H, S: CloneStorages + Has<Position, P> + Has<Health, H>>(
     rt: &R,
     alloc: Global,
     story: Story,
@@ -147,11 +147,12 @@ fn tell<R: Abort, P, H, S: Storages + Has<Position, P> + Has<Health, H>>(
 }
 
 /// Tells a story of a new world.
-pub fn tell_of_new<R: Abort, P, H, S: Storages + Empty + Has<Position, P> + Has<Health, H> + Drop>(
-    rt: &R,
-    alloc: Global,
-    story: Story,
-) -> Result<(), Fail> {
+pub fn tell_of_new<
+    R: Abort,
+    P,
+    H,
+    S: CloneStorages + Empty + Has<Position, P> + Has<Health, H> + Drop,
+>(rt: &R, alloc: Global, story: Story) -> Result<(), Fail> {
     let mut world = fresh::<S, _>(alloc);
     tell(rt, alloc, story, &mut world)
 }

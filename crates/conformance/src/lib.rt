@@ -2,6 +2,8 @@
 #![tactic(auto)]
 
 #[cfg(test)]
+mod acts;
+#[cfg(test)]
 mod asserts;
 #[cfg(test)]
 mod callers;
@@ -31,6 +33,8 @@ mod scripts;
 mod selections;
 #[cfg(test)]
 mod stories;
+#[cfg(test)]
+mod two_at_once;
 #[cfg(test)]
 mod typed_worlds;
 #[cfg(test)]

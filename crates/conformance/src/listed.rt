@@ -1,6 +1,9 @@
 //! A struct of storages with a further field, of which its slots know nothing.
 use hibits::BitSet;
-use specs::{ChannelCall, ChannelReply, EntitiesRes, Entity, Held, MarkError, Refusal, Storages};
+use specs::{
+    ChannelCall, ChannelReply, CloneStorages, EntitiesRes, Entity, Held, MarkError, Refusal,
+    Storages,
+};
 use std::alloc::{AllocError, Global};
 
 /// Storages, and beside them a list of numbers. Each call goes to the storages.
@@ -29,8 +32,6 @@ impl<S: Held> Held for Listed<S> {
 impl<S: Storages> Storages for Listed<S> {
     ghost room = { λ s. S.room s.storages };
 
-    ghost allocates = { S.allocates };
-
     ghost exact = { S.exact };
 
     ghost idless = { λ s. S.idless s.storages };
@@ -54,15 +55,6 @@ impl<S: Storages> Storages for Listed<S> {
         value: Self::Value,
     ) -> Result<Option<Self::Value>, (Refusal, Self::Value)> {
         self.storages.insert(entities, e, value)
-    }
-
-    fn get(
-        &self,
-        entities: &EntitiesRes,
-        slot: Self::Slot,
-        e: Entity,
-    ) -> Result<Option<Self::Value>, Refusal> {
-        self.storages.get(entities, slot, e)
     }
 
     fn remove(
@@ -101,5 +93,18 @@ impl<S: Storages> Storages for Listed<S> {
 
     fn drop_all(&mut self, es: &[Entity]) {
         self.storages.drop_all(es);
+    }
+}
+
+impl<S: CloneStorages> CloneStorages for Listed<S> {
+    ghost clones = { S.clones };
+
+    fn get(
+        &self,
+        entities: &EntitiesRes,
+        slot: Self::Slot,
+        e: Entity,
+    ) -> Result<Option<Self::Value>, Refusal> {
+        self.storages.get(entities, slot, e)
     }
 }

@@ -1,10 +1,11 @@
 //! The stories that are told of new worlds, and the one function that names their storages.
 use crate::{
-    composed_slots, doc_jobs, jobs, own_jobs, typed_worlds, upstream_births, upstream_lazy, worlds,
+    acts, composed_slots, doc_jobs, jobs, own_jobs, typed_worlds, upstream_births, upstream_lazy,
+    worlds,
 };
 use composed::{Empty, Of2};
 use slots::{Health, Position};
-use specs::{Has, Storages};
+use specs::{CloneStorages, Has, Storages};
 use std::alloc::Global;
 use std::process::Abort;
 use std::test::Fail;
@@ -22,6 +23,8 @@ pub enum Story {
     Jobs(jobs::Story),
     /// Of a user's own jobs.
     Own(own_jobs::Story),
+    /// Of jobs without laws of their own.
+    Acts(acts::Story),
     /// Of jobs of doc examples.
     Doc(doc_jobs::Story),
     /// Of lazy updates.
@@ -33,7 +36,7 @@ pub enum Story {
 }
 
 /// Tells a story over whatever storages have positions and healths.
-fn tell_of_new<R: Abort, P, H, S: Storages + Empty + Has<Position, P> + Has<Health, H> + Drop>(
+fn tell_of_new<R: Abort, P, H, S: CloneStorages + Empty + Has<Position, P> + Has<Health, H> + Drop>(
     rt: &R,
     alloc: Global,
     story: Story,
@@ -50,6 +53,7 @@ fn tell_of_new<R: Abort, P, H, S: Storages + Empty + Has<Position, P> + Has<Heal
             own_jobs::tell_of_new::<R, S>(rt, alloc, story);
             Ok(())
         }
+        Story::Acts(story) => acts::tell_of_new::<R, P, H, S>(rt, alloc, story),
         Story::Doc(story) => doc_jobs::tell_of_new::<R, S>(rt, alloc, story),
         Story::Lazy(story) => upstream_lazy::tell_of_new::<R, P, H, S>(rt, alloc, story),
         Story::Worlds(story) => worlds::tell_of_new::<R, P, H, S>(rt, alloc, story),

@@ -4,7 +4,7 @@ use crate::calls::{delete, die, fresh, lives, register_both};
 use crate::stories::{self, told};
 use composed::Empty;
 use slots::{Health, Position};
-use specs::{Builder, Entity, Has, Storages, Unregistered, World};
+use specs::{Builder, CloneStorages, Entity, Has, Storages, Unregistered, World};
 use std::alloc::Global;
 use std::process::Abort;
 use std::test::Fail;
@@ -204,7 +204,7 @@ fn refused<P, S: Storages + Has<Position, P>>(world: &mut World<S>) -> Option<(E
     let e = builder.entity();
     match builder.with(Position(5)) {
         Ok(_builder) => None,
-        Err((_refusal, position)) => Some((e, position)),
+        Err(refused) => Some((e, refused.component)),
     }
 }
 
@@ -272,7 +272,7 @@ pub enum Story {
     LoseComponents,
 }
 
-fn tell<R: Abort, P, H, S: Storages + Has<Position, P> + Has<Health, H>>(
+fn tell<R: Abort, P, H, S: CloneStorages + Has<Position, P> + Has<Health, H>>(
     rt: &R,
     alloc: Global,
     story: Story,
@@ -294,11 +294,12 @@ fn tell<R: Abort, P, H, S: Storages + Has<Position, P> + Has<Health, H>>(
 }
 
 /// Tells a story of a new world.
-pub fn tell_of_new<R: Abort, P, H, S: Storages + Empty + Has<Position, P> + Has<Health, H> + Drop>(
-    rt: &R,
-    alloc: Global,
-    story: Story,
-) -> Result<(), Fail> {
+pub fn tell_of_new<
+    R: Abort,
+    P,
+    H,
+    S: CloneStorages + Empty + Has<Position, P> + Has<Health, H> + Drop,
+>(rt: &R, alloc: Global, story: Story) -> Result<(), Fail> {
     let mut world = fresh::<S, _>(alloc);
     tell(rt, alloc, story, &mut world)
 }

@@ -7,7 +7,7 @@ use crate::calls::{
 use crate::stories::{Story, told};
 use composed::Empty;
 use slots::Position;
-use specs::{Command, Entity, Has, SetExpr, Storages, World};
+use specs::{CloneStorages, Command, Entity, Has, SetExpr, Storages, World};
 use std::alloc::{AllocError, Global};
 use std::collections::HashSet;
 use std::process::Abort;
@@ -36,7 +36,7 @@ impl Nursery {
 }
 
 /// A birth, at once or pending. It answers whether the entity was never given before.
-fn bear<S: Storages>(world: &mut World<S>, nursery: &mut Nursery, birth: Command<S>) -> bool {
+fn bear<S: CloneStorages>(world: &mut World<S>, nursery: &mut Nursery, birth: Command<S>) -> bool {
     match born(world, birth) {
         Some(e) => nursery.take(e),
         None => false,
@@ -44,7 +44,7 @@ fn bear<S: Storages>(world: &mut World<S>, nursery: &mut Nursery, birth: Command
 }
 
 /// A birth, and a death at once.
-fn bear_in_vain<S: Storages>(world: &mut World<S>) -> bool {
+fn bear_in_vain<S: CloneStorages>(world: &mut World<S>) -> bool {
     match born(world, Command::Create) {
         Some(e) => delete(world, e),
         None => false,
@@ -52,7 +52,7 @@ fn bear_in_vain<S: Storages>(world: &mut World<S>) -> bool {
 }
 
 /// Rounds of births at once and pending, in a fixed order, each with a maintain at its end.
-fn bear_round<R: Abort, S: Storages>(
+fn bear_round<R: Abort, S: CloneStorages>(
     rt: &R,
     world: &mut World<S>,
     nursery: &mut Nursery,
@@ -68,7 +68,7 @@ fn bear_round<R: Abort, S: Storages>(
     holds!(rt; maintained(world, 0).is_ok());
 }
 
-fn bear_rounds<R: Abort, S: Storages>(
+fn bear_rounds<R: Abort, S: CloneStorages>(
     rt: &R,
     world: &mut World<S>,
     nursery: &mut Nursery,
@@ -95,7 +95,11 @@ fn delete_all<R: Abort, S: Storages>(rt: &R, world: &mut World<S>, nursery: &mut
     nursery.living.clear();
 }
 
-fn bears_and_merges<R: Abort, S: Storages>(rt: &R, world: &mut World<S>, nursery: &mut Nursery) {
+fn bears_and_merges<R: Abort, S: CloneStorages>(
+    rt: &R,
+    world: &mut World<S>,
+    nursery: &mut Nursery,
+) {
     bear_rounds(rt, world, nursery, 10);
     mark_all(rt, world, nursery);
     bear_rounds(rt, world, nursery, 20);
@@ -104,7 +108,7 @@ fn bears_and_merges<R: Abort, S: Storages>(rt: &R, world: &mut World<S>, nursery
 }
 
 /// Tells of births and deaths, mixed with merges.
-pub fn merges<R: Abort, S: Storages + Empty + Drop>(rt: &R, alloc: Global) {
+pub fn merges<R: Abort, S: CloneStorages + Empty + Drop>(rt: &R, alloc: Global) {
     let mut world = fresh::<S, _>(alloc);
     let mut nursery = empty_nursery(alloc);
     bears_and_merges(rt, &mut world, &mut nursery);
@@ -132,7 +136,7 @@ impl Random {
 }
 
 /// A birth with a position.
-fn bear_at<R: Abort, P, S: Storages + Has<Position, P>>(
+fn bear_at<R: Abort, P, S: CloneStorages + Has<Position, P>>(
     rt: &R,
     world: &mut World<S>,
     birth: Command<S>,
@@ -144,7 +148,7 @@ fn bear_at<R: Abort, P, S: Storages + Has<Position, P>>(
 }
 
 /// The positions of the entities that have one, by index.
-fn placed<P, S: Storages + Has<Position, P>>(
+fn placed<P, S: CloneStorages + Has<Position, P>>(
     alloc: Global,
     world: &mut World<S>,
 ) -> Result<Vec<(Entity, i64)>, Fail> {
@@ -186,7 +190,7 @@ fn mark_last<R: Abort, S: Storages>(
 }
 
 /// Births of entities that wait for a merge.
-fn bear_some<R: Abort, P, S: Storages + Has<Position, P>>(
+fn bear_some<R: Abort, P, S: CloneStorages + Has<Position, P>>(
     rt: &R,
     world: &mut World<S>,
     random: &mut Random,
@@ -199,7 +203,7 @@ fn bear_some<R: Abort, P, S: Storages + Has<Position, P>>(
 }
 
 /// The first hundred, born at once.
-fn bear_first<R: Abort, P, S: Storages + Has<Position, P>>(
+fn bear_first<R: Abort, P, S: CloneStorages + Has<Position, P>>(
     rt: &R,
     world: &mut World<S>,
     random: &mut Random,
@@ -210,7 +214,7 @@ fn bear_first<R: Abort, P, S: Storages + Has<Position, P>>(
     Ok(())
 }
 
-fn bears_in_vain<R: Abort, P, S: Storages + Has<Position, P>>(
+fn bears_in_vain<R: Abort, P, S: CloneStorages + Has<Position, P>>(
     rt: &R,
     alloc: Global,
     world: &mut World<S>,
@@ -228,7 +232,7 @@ fn bears_in_vain<R: Abort, P, S: Storages + Has<Position, P>>(
 }
 
 /// Tells of births and deaths before a merge.
-pub fn are_stillborn<R: Abort, P, S: Storages + Empty + Has<Position, P> + Drop>(
+pub fn are_stillborn<R: Abort, P, S: CloneStorages + Empty + Has<Position, P> + Drop>(
     rt: &R,
     alloc: Global,
 ) -> Result<(), Fail> {

@@ -14,7 +14,8 @@ use crate::stories::{self, told};
 use composed::Empty;
 use slots::{Health, Position};
 use specs::{
-    Builder, Command, Core, Entity, Has, LazyUpdate, Parts, Refusal, Storages, World, WorldJob,
+    Builder, CloneStorages, Command, Core, Entity, Has, LazyUpdate, Parts, Refusal, Storages,
+    World, WorldJob,
 };
 use specs_run::ScriptJob;
 use std::alloc::{AllocError, Global};
@@ -84,7 +85,7 @@ struct Nested<S: Storages> {
     value: S::Value,
 }
 
-impl<S: Storages> WorldJob<Listed<S>> for Nested<S> {
+impl<S: CloneStorages> WorldJob<Listed<S>> for Nested<S> {
     ghost use Rattle.std.specs.Prelude.{◌≡◌};
     ghost use Rattle.conformance.specs.Puts.{Given, given_grows, given_lives};
 
@@ -116,8 +117,9 @@ impl<S: Storages> WorldJob<Listed<S>> for Nested<S> {
                     entity,
                     value,
                 };
-                if let Err((inner, refused)) = queue.exec(inner) {
-                    return Err((Nested { turn, ..inner }, refused));
+                if let Err(failed) = queue.exec(inner) {
+                    let inner = failed.value;
+                    return Err((Nested { turn, ..inner }, AllocError));
                 }
                 let Parts { entities, storages } = core.parts();
                 let found = storages.get(entities, slot, entity);
@@ -143,7 +145,7 @@ fn counted<V>(found: &Result<Option<V>, Refusal>) -> u32 {
 }
 
 /// Storages for both component types, and two entities whose births are pending.
-fn begin<R: Abort, P, H, S: Storages + Has<Position, P> + Has<Health, H>>(
+fn begin<R: Abort, P, H, S: CloneStorages + Has<Position, P> + Has<Health, H>>(
     rt: &R,
     world: &mut Busy<S>,
 ) -> Result<(Entity, Entity), Fail> {
@@ -170,7 +172,7 @@ fn two<V: Drop>(
     Ok(pairs)
 }
 
-fn inserts<R: Abort, P, H, S: Storages + Has<Position, P> + Has<Health, H>>(
+fn inserts<R: Abort, P, H, S: CloneStorages + Has<Position, P> + Has<Health, H>>(
     rt: &R,
     alloc: Global,
     world: &mut Busy<S>,
@@ -187,7 +189,7 @@ fn inserts<R: Abort, P, H, S: Storages + Has<Position, P> + Has<Health, H>>(
     Ok(())
 }
 
-fn removes<R: Abort, P, H, S: Storages + Has<Position, P> + Has<Health, H>>(
+fn removes<R: Abort, P, H, S: CloneStorages + Has<Position, P> + Has<Health, H>>(
     rt: &R,
     world: &mut Busy<S>,
 ) -> Result<(), Fail> {
@@ -201,7 +203,7 @@ fn removes<R: Abort, P, H, S: Storages + Has<Position, P> + Has<Health, H>>(
 }
 
 /// A job that creates an entity; one more lives afterwards than before.
-fn executes<R: Abort, P, H, S: Storages + Has<Position, P> + Has<Health, H>>(
+fn executes<R: Abort, P, H, S: CloneStorages + Has<Position, P> + Has<Health, H>>(
     rt: &R,
     world: &mut Busy<S>,
 ) -> Result<(), Fail> {
@@ -215,7 +217,7 @@ fn executes<R: Abort, P, H, S: Storages + Has<Position, P> + Has<Health, H>>(
 }
 
 /// A job that puts a position at an entity by itself.
-fn puts<R: Abort, P, S: Storages + Has<Position, P>>(
+fn puts<R: Abort, P, S: CloneStorages + Has<Position, P>>(
     rt: &R,
     world: &mut World<S, Put<S>>,
 ) -> Result<(), Fail> {
@@ -230,7 +232,7 @@ fn puts<R: Abort, P, S: Storages + Has<Position, P>>(
 }
 
 /// A job that queues a job which puts a position by itself, and sees none then: both run at one maintain.
-fn puts_nested<R: Abort, P, S: Storages + Has<Position, P>>(
+fn puts_nested<R: Abort, P, S: CloneStorages + Has<Position, P>>(
     rt: &R,
     world: &mut World<Listed<S>, Nested<S>>,
 ) -> Result<(), Fail> {
@@ -262,7 +264,7 @@ fn built<S: Storages>(world: &mut Busy<S>, value: S::Value) -> Option<Entity> {
 }
 
 /// The value comes with the next maintain.
-fn builds<R: Abort, P, H, S: Storages + Has<Position, P> + Has<Health, H>>(
+fn builds<R: Abort, P, H, S: CloneStorages + Has<Position, P> + Has<Health, H>>(
     rt: &R,
     world: &mut Busy<S>,
 ) -> Result<(), Fail> {
@@ -282,7 +284,7 @@ fn unbuilt<S: Storages>(world: &mut Busy<S>) -> Option<Entity> {
 }
 
 /// Such an entity dies with the next maintain.
-fn drops<R: Abort, P, H, S: Storages + Has<Position, P> + Has<Health, H>>(
+fn drops<R: Abort, P, H, S: CloneStorages + Has<Position, P> + Has<Health, H>>(
     rt: &R,
     world: &mut Busy<S>,
 ) -> Result<(), Fail> {
@@ -306,7 +308,7 @@ pub enum Story {
     Drops,
 }
 
-fn tell<R: Abort, P, H, S: Storages + Has<Position, P> + Has<Health, H>>(
+fn tell<R: Abort, P, H, S: CloneStorages + Has<Position, P> + Has<Health, H>>(
     rt: &R,
     alloc: Global,
     story: Story,
@@ -321,7 +323,7 @@ fn tell<R: Abort, P, H, S: Storages + Has<Position, P> + Has<Health, H>>(
     }
 }
 
-fn put_in_new<R: Abort, P, S: Storages + Empty + Has<Position, P> + Drop>(
+fn put_in_new<R: Abort, P, S: CloneStorages + Empty + Has<Position, P> + Drop>(
     rt: &R,
     alloc: Global,
 ) -> Result<(), Fail> {
@@ -329,7 +331,7 @@ fn put_in_new<R: Abort, P, S: Storages + Empty + Has<Position, P> + Drop>(
     puts(rt, &mut world)
 }
 
-fn put_nested_in_new<R: Abort, P, S: Storages + Empty + Has<Position, P> + Drop>(
+fn put_nested_in_new<R: Abort, P, S: CloneStorages + Empty + Has<Position, P> + Drop>(
     rt: &R,
     alloc: Global,
 ) -> Result<(), Fail> {
@@ -338,11 +340,12 @@ fn put_nested_in_new<R: Abort, P, S: Storages + Empty + Has<Position, P> + Drop>
 }
 
 /// Tells a story of a new world.
-pub fn tell_of_new<R: Abort, P, H, S: Storages + Empty + Has<Position, P> + Has<Health, H> + Drop>(
-    rt: &R,
-    alloc: Global,
-    story: Story,
-) -> Result<(), Fail> {
+pub fn tell_of_new<
+    R: Abort,
+    P,
+    H,
+    S: CloneStorages + Empty + Has<Position, P> + Has<Health, H> + Drop,
+>(rt: &R, alloc: Global, story: Story) -> Result<(), Fail> {
     if let Story::Puts = story {
         return put_in_new::<R, P, S>(rt, alloc);
     }

@@ -4,7 +4,7 @@ use crate::calls::{die, got, is_done, maintained};
 use composed::Sole;
 use saveload::{Marker, SimpleMarker};
 use slots::{Labels, Saved};
-use specs::{Builder, Command, Entity, MarkError, Storages, World};
+use specs::{Builder, CloneStorages, Command, Entity, MarkError, Storages, World};
 use std::alloc::Global;
 use std::process::Abort;
 use std::test::Fail;
@@ -27,7 +27,7 @@ fn built_lazily<S: Storages>(world: &mut World<S>, slot: S::Slot) -> Option<Enti
 }
 
 /// The id of an entity's marker.
-fn id_of<S: Storages<Value = SimpleMarker<Saved>>>(
+fn id_of<S: CloneStorages<Value = SimpleMarker<Saved>>>(
     world: &mut World<S>,
     slot: S::Slot,
     e: Entity,
@@ -39,7 +39,7 @@ fn id_of<S: Storages<Value = SimpleMarker<Saved>>>(
 }
 
 /// Two are built lazily, and then two at once, which get the first two ids. The lazy ones have none before the next maintain, and the next two after it.
-fn are_marked_later<R: Abort, S: Storages<Value = SimpleMarker<Saved>>>(
+fn are_marked_later<R: Abort, S: CloneStorages<Value = SimpleMarker<Saved>>>(
     rt: &R,
     world: &mut World<S>,
     slot: S::Slot,
@@ -65,7 +65,7 @@ fn are_marked_later<R: Abort, S: Storages<Value = SimpleMarker<Saved>>>(
 }
 
 /// A birth before the slot is registered is refused its marker, and dies next. Those after it are given theirs.
-fn are_marked<R: Abort, S: Storages<Value = SimpleMarker<Saved>>>(
+fn are_marked<R: Abort, S: CloneStorages<Value = SimpleMarker<Saved>>>(
     rt: &R,
     world: &mut World<S>,
     slot: S::Slot,
@@ -78,7 +78,7 @@ fn are_marked<R: Abort, S: Storages<Value = SimpleMarker<Saved>>>(
 }
 
 /// The same of a new world over these storages.
-fn are_marked_in_new<R: Abort, S: Storages<Value = SimpleMarker<Saved>> + Drop>(
+fn are_marked_in_new<R: Abort, S: CloneStorages<Value = SimpleMarker<Saved>> + Drop>(
     rt: &R,
     alloc: Global,
     storages: S,

@@ -8,12 +8,14 @@ use crate::calls::{
 use crate::stories::{self, told};
 use composed::Empty;
 use slots::{Health, Position};
-use specs::{Command, DeleteError, Entity, Has, Refusal, Reply, SetExpr, Storages, World};
+use specs::{
+    CloneStorages, Command, DeleteError, Entity, Has, Refusal, Reply, SetExpr, Storages, World,
+};
 use std::alloc::{AllocError, Global};
 use std::process::Abort;
 use std::test::Fail;
 
-fn bears_again<R: Abort, S: Storages>(rt: &R, world: &mut World<S>) -> Result<(), Fail> {
+fn bears_again<R: Abort, S: CloneStorages>(rt: &R, world: &mut World<S>) -> Result<(), Fail> {
     let (first, second) = (entity(0, 1)?, entity(0, 2)?);
     equal!(rt; born(world, Command::Create), Some(first));
     holds!(rt; delete(world, first));
@@ -47,7 +49,7 @@ fn are_the_six<R: Abort, V>(rt: &R, replies: &[Reply<V>]) {
     holds!(rt; matches!(&replies[5], Reply::Refused(Refusal::Unregistered)));
 }
 
-fn answers_six<R: Abort, P, H, S: Storages + Has<Position, P> + Has<Health, H>>(
+fn answers_six<R: Abort, P, H, S: CloneStorages + Has<Position, P> + Has<Health, H>>(
     rt: &R,
     alloc: Global,
     world: &mut World<S>,
@@ -57,7 +59,7 @@ fn answers_six<R: Abort, P, H, S: Storages + Has<Position, P> + Has<Health, H>>(
     Ok(())
 }
 
-fn answers_nothing<R: Abort, S: Storages>(
+fn answers_nothing<R: Abort, S: CloneStorages>(
     rt: &R,
     alloc: Global,
     world: &mut World<S>,
@@ -68,7 +70,7 @@ fn answers_nothing<R: Abort, S: Storages>(
 }
 
 /// Two merged entities, of which the first has a position and both have a health, and a pending one.
-fn populate<P, H, S: Storages + Has<Position, P> + Has<Health, H>>(
+fn populate<P, H, S: CloneStorages + Has<Position, P> + Has<Health, H>>(
     world: &mut World<S>,
 ) -> Result<(), Fail> {
     let (e, f) = (entity(0, 1)?, entity(1, 1)?);
@@ -92,7 +94,7 @@ fn refuses_positions<R: Abort, P, S: Storages + Has<Position, P>>(rt: &R, world:
     holds!(rt; is_unregistered(world, &SetExpr::Slot(positions::<P, S>())));
 }
 
-fn living_and_slots<R: Abort, P, H, S: Storages + Has<Position, P> + Has<Health, H>>(
+fn living_and_slots<R: Abort, P, H, S: CloneStorages + Has<Position, P> + Has<Health, H>>(
     rt: &R,
     world: &mut World<S>,
 ) -> Result<(), Fail> {
@@ -143,7 +145,7 @@ fn living_without_position<K: Copy>(alloc: Global, position: K) -> Result<SetExp
 }
 
 /// The first entity has both components, and the second the health.
-fn selects_each<R: Abort, P, H, S: Storages + Has<Position, P> + Has<Health, H>>(
+fn selects_each<R: Abort, P, H, S: CloneStorages + Has<Position, P> + Has<Health, H>>(
     rt: &R,
     alloc: Global,
     world: &mut World<S>,
@@ -171,7 +173,7 @@ fn delete_list<S: Storages>(world: &mut World<S>, list: &[Entity]) -> bool {
     world.delete_entities(list).is_ok()
 }
 
-fn refuses_the_first_stale<R: Abort, S: Storages>(
+fn refuses_the_first_stale<R: Abort, S: CloneStorages>(
     rt: &R,
     world: &mut World<S>,
 ) -> Result<(), Fail> {
@@ -199,7 +201,7 @@ fn ends_at_maintain<R: Abort, S: Storages>(rt: &R, world: &mut World<S>) -> Resu
     Ok(())
 }
 
-fn takes_up_a_phase<R: Abort, P, H, S: Storages + Has<Position, P> + Has<Health, H>>(
+fn takes_up_a_phase<R: Abort, P, H, S: CloneStorages + Has<Position, P> + Has<Health, H>>(
     rt: &R,
     alloc: Global,
     world: &mut World<S>,
@@ -231,7 +233,7 @@ pub enum Story {
     TakesUpAPhase,
 }
 
-fn tell<R: Abort, P, H, S: Storages + Has<Position, P> + Has<Health, H>>(
+fn tell<R: Abort, P, H, S: CloneStorages + Has<Position, P> + Has<Health, H>>(
     rt: &R,
     alloc: Global,
     story: Story,
@@ -254,11 +256,12 @@ fn tell<R: Abort, P, H, S: Storages + Has<Position, P> + Has<Health, H>>(
 }
 
 /// Tells a story of a new world.
-pub fn tell_of_new<R: Abort, P, H, S: Storages + Empty + Has<Position, P> + Has<Health, H> + Drop>(
-    rt: &R,
-    alloc: Global,
-    story: Story,
-) -> Result<(), Fail> {
+pub fn tell_of_new<
+    R: Abort,
+    P,
+    H,
+    S: CloneStorages + Empty + Has<Position, P> + Has<Health, H> + Drop,
+>(rt: &R, alloc: Global, story: Story) -> Result<(), Fail> {
     let mut world = fresh::<S, _>(alloc);
     tell(rt, alloc, story, &mut world)
 }

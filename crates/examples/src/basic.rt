@@ -1,37 +1,32 @@
 //! Entities that move: two component types, a system over their storages, and a few steps.
 use crate::game::{Parts, Position, Velocity};
-use anyhow::{Result, bail};
-use composed::{Both, Builder, Empty, Entity, Has, Join, JoinMut, MaskedStorage, World};
-use std::alloc::Global;
+use anyhow::Result;
+use composed::{Builder, Empty, Entity, ForEach, Has, Join, MaskedStorage, TwoFields, World};
+use std::alloc::{AllocError, Global};
 
 /// Moves each entity that has a velocity by one step.
-pub fn move_all(positions: &mut MaskedStorage<Position>, velocities: &MaskedStorage<Velocity>) {
-    let mut cursor = positions.join_mut(velocities);
-    while let Some(_id) = cursor.next() {
-        if let Some(velocity) = cursor.beside() {
-            if let Ok(position) = cursor.item() {
-                position.x += velocity.x;
-                position.y += velocity.y;
-            }
-        }
-    }
+pub fn move_all(
+    positions: &mut MaskedStorage<Position>,
+    velocities: &MaskedStorage<Velocity>,
+) -> Result<(), AllocError> {
+    positions.for_each_with(velocities, |position: &mut Position, velocity: &Velocity| {
+        position.x += velocity.x;
+        position.y += velocity.y;
+    })
 }
 
 /// Storages of entities that move.
 pub trait Moves {
     /// One step.
-    fn step(&mut self);
+    fn step(&mut self) -> Result<(), AllocError>;
 }
 
 impl Moves for Parts {
-    fn step(&mut self) {
-        let Both {
-            first: positions,
-            rest: velocities,
-        } = self;
-        if let (Some(positions), Some(velocities)) = (&mut positions.field, &velocities.field) {
-            move_all(positions, velocities);
-        }
+    fn step(&mut self) -> Result<(), AllocError> {
+        let moved = self.with_two(|positions: &mut MaskedStorage<
+            Position,
+        >, velocities: &mut MaskedStorage<Velocity>| { move_all(positions, velocities) });
+        moved.unwrap_or(Ok(()))
     }
 }
 
@@ -41,13 +36,8 @@ pub fn place<P, V, S: Has<Position, P> + Has<Velocity, V>>(
     position: Position,
     velocity: Option<Velocity>,
 ) -> Result<Entity> {
-    let Ok(builder) = world.create_entity()?.with(position) else {
-        bail!("no position was inserted");
-    };
-    let Ok(builder) = builder.maybe_with(velocity) else {
-        bail!("no velocity was inserted");
-    };
-    Ok(builder.build())
+    let builder = world.create_entity()?.with(position)?;
+    Ok(builder.maybe_with(velocity)?.build())
 }
 
 /// Where each entity is, to the end of a line.
@@ -92,7 +82,7 @@ fn walk<P, V, S: Has<Position, P> + Has<Velocity, V> + Moves>(
 ) -> Result<()> {
     begin(world)?;
     for step in 1..=3 {
-        world.parts().core.parts().storages.step();
+        world.parts().core.parts().storages.step()?;
         write!(text, "step {step}:")?;
         show(text, world)?;
     }

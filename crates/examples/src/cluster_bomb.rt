@@ -1,7 +1,7 @@
 //! Bombs that burst: births and deaths wait for `maintain`, since storages are lent while their entities are walked.
 use crate::basic::{Moves, place, show};
 use crate::game::{Fuse, Position, Velocity};
-use anyhow::{Result, bail};
+use anyhow::Result;
 use composed::{
     Component, EntitiesRes, Entity, Field, Has, JoinMut, LazyUpdate, MaskedStorage, Parts,
     Storages, World, WorldParts, WriteStorage, value,
@@ -21,9 +21,7 @@ fn queue<T: Component, S: Has<T, I>, I>(
     entity: Entity,
     component: T,
 ) -> Result<()> {
-    if lazy.insert(entity, value::<T, S, I>(component)).is_err() {
-        bail!("out of memory");
-    }
+    lazy.insert(entity, value::<T, S, I>(component))?;
     Ok(())
 }
 
@@ -75,7 +73,7 @@ fn turn<P, V, S: Storages + Has<Position, P> + Has<Velocity, V> + Moves>(
     if let Some(positions) = Field::<MaskedStorage<Position>, P>::field(storages) {
         burn(entities, fuses, positions, lazy)?;
     }
-    storages.step();
+    storages.step()?;
     let done = world.maintain(u64::MAX)?;
     let died = done.deleted.len();
     write!(text, "step {step}: {died} died, {} jobs;", done.ran)?;

@@ -85,7 +85,7 @@ pub fn fly<P, V, S: Has<Position, P> + Has<Velocity, V> + Pulls>(
     writeln!(picture, "<circle r=\"8\" fill=\"orange\"/>")?;
     for _step in 0..steps {
         world.parts().core.parts().storages.pull();
-        world.parts().core.parts().storages.step();
+        world.parts().core.parts().storages.step()?;
         draw(picture, world)?;
     }
     writeln!(picture, "</svg>")?;

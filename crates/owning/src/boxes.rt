@@ -36,7 +36,7 @@ impl Component for InBTree {
 }
 
 /// A number in a box, kept with events.
-#[derive(Drop)]
+#[derive(Clone, Drop)]
 pub struct InFlagged(pub Box<u32>);
 
 impl Component for InFlagged {

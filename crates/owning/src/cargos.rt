@@ -12,7 +12,7 @@ impl Component for InVec {
 }
 
 /// A list of goods, kept side by side.
-#[derive(Drop)]
+#[derive(Clone, Drop)]
 pub struct InDenseVec(pub Vec<u32>);
 
 impl Component for InDenseVec {

@@ -21,7 +21,7 @@ impl Component for InDenseVec {
 }
 
 /// A number that others may hold too, kept by hash.
-#[derive(Drop)]
+#[derive(Clone, Drop)]
 pub struct InHashMap(pub Rc<u32>);
 
 impl Component for InHashMap {

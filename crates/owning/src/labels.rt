@@ -44,7 +44,7 @@ impl Component for InHashMap {
 }
 
 /// A label or none, kept in a tree.
-#[derive(Drop)]
+#[derive(Clone, Drop)]
 pub enum InBTree {
     /// Nothing is known.
     Unknown,

@@ -9,5 +9,9 @@ pub mod labels;
 pub mod names;
 #[cfg(test)]
 mod tests;
+mod world;
+#[cfg(test)]
+mod world_tests;
 
 pub use calls::{goods_of, named, unloaded};
+pub use world::{Ledger, Store, called, ledger, told};

@@ -4,7 +4,7 @@ use storages::{
 };
 
 /// A name, kept by index.
-#[derive(Drop)]
+#[derive(Clone, Drop)]
 pub struct InVec(pub String);
 
 impl Component for InVec {

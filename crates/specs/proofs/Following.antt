@@ -14,6 +14,7 @@ use Rattle.storages.specs.declared.event.ComponentEvent.{ComponentEvent}
 use Rattle.storages.specs.Channel.{Channel}
 use Rattle.storages.specs.Tracking.{without_reader, switched}
 use Rattle.storages.specs.Unread.{unread_of, dropped}
+use Rattle.specs.specs.Clones.{Clones, no_clones}
 use Rattle.specs.specs.declared.command.Command.{Command}
 use Rattle.specs.specs.declared.command.Command.TheVariants.{Register, Create, CreatePending, Delete, DeleteAll, MarkDead, IsAlive as AskAlive, IsLiving as AskLiving, EntityAt, Insert, Get, Remove, Clear, Count as AskCount, Select, Queue, Maintain, Reader, Events, DropReader, Emit}
 use Rattle.specs.specs.declared.command.Reply.{Reply}
@@ -67,49 +68,49 @@ module _ {K V : Type 0} (slot : K) (n : ℕ) (here : K → Bool) (tells : Tells 
   deaths : (es : List Entity) (old new : State K V) → new.table slot ≡ option_map (without_values es) (old.table slot) → IsListening n (old.table slot) → KeepsAt slot n old.table new.table []
   deaths es old new is l = subst (λ (o : Option (Column V)). Keeps n (old.table slot) o []) (sym is) (loses n es (old.table slot) l)
 
-  pub keeps_following : {S J : Type 0} (spares : J → K → ℕ → Type 0) (place : V → K) (allocates : K → Bool) (old : State K V) (c : Command S J K V) (r : Reply V) (new : State K V) → CoreStep place allocates old c r new → IsQuiet spares slot n c → IsFollowed slot n old → Keeps n (old.table slot) (new.table slot) (given_by here n c r)
-  keeps_following spares place allocates old command (Refused r) new s q l = same_table slot n old.table new.table (ap (λ (t : State K V). t.table) s.1) l
-  keeps_following spares place allocates old (Register slot') Done new s q l = starts slot' old.table new.table (old.table slot') refl s.table l
-  keeps_following spares place allocates old Create (Told e) new s q l = same_table slot n old.table new.table s.table l
-  keeps_following spares place allocates old CreatePending (Told e) new s q l = same_table slot n old.table new.table s.table l
-  keeps_following spares place allocates old (Delete es) Done new s q l = deaths es.items old new (s.table slot) l
-  keeps_following spares place allocates old DeleteAll Done new s q l = deaths (the_living old.people) old new (s.table slot) l
-  keeps_following spares place allocates old (MarkDead e) Done new s q l = same_table slot n old.table new.table s.table l
-  keeps_following spares place allocates old (AskAlive e) (Yes b) new s q l = same_table slot n old.table new.table (ap (λ (t : State K V). t.table) s.1) l
-  keeps_following spares place allocates old (AskLiving e) (Yes b) new s q l = same_table slot n old.table new.table (ap (λ (t : State K V). t.table) s.1) l
-  keeps_following spares place allocates old (EntityAt i) (Told e) new s q l = same_table slot n old.table new.table (ap (λ (t : State K V). t.table) s.1) l
-  keeps_following spares place allocates old (Insert e value) (Value before) new s q l = one_quiet slot n here tells (place value) old.table new.table s.table.column _ s.table.registered s.table.put l (λ same. puts n s.table.column (index_of e) value)
-  keeps_following spares place allocates old (Insert e value) (InsertRefused r back) new s q l = same_table slot n old.table new.table (ap (λ (t : State K V). t.table) s.2) l
-  keeps_following spares place allocates old (Get k e) (Value found) new s q l = same_table slot n old.table new.table (ap (λ (t : State K V). t.table) s.1) l
-  keeps_following spares place allocates old (Remove k e) (Value found) new s q l = removes old.people k e found old.table new.table s.table l
-  keeps_following spares place allocates old (Clear k) Done new s q l = one_quiet slot n here tells k old.table new.table s.table.column _ s.table.registered s.table.cleared l (λ same. empties n s.table.column)
-  keeps_following spares place allocates old (AskCount k) (Count m) new s q l = same_table slot n old.table new.table (ap (λ (t : State K V). t.table) s.1) l
-  keeps_following spares place allocates old (Select x) (Indices is) new s q l = same_table slot n old.table new.table (ap (λ (t : State K V). t.table) s.1) l
-  keeps_following spares place allocates old (Reader k) (NewReader m) new s q l = one_quiet slot n here tells k old.table new.table s.table.column _ s.table.registered s.table.becomes l (λ same. registers n s.table.column)
-  keeps_following spares place allocates old (Events k m) (Given es) new s q l = one_slot slot n here tells k old.table new.table s.table.column _ _ s.table.registered s.table.becomes l
+  pub keeps_following : {S J : Type 0} (spares : J → K → ℕ → Type 0) (place : V → K) (clones : Clones K V) (old : State K V) (c : Command S J K V) (r : Reply V) (new : State K V) → CoreStep place clones old c r new → IsQuiet spares slot n c → IsFollowed slot n old → Keeps n (old.table slot) (new.table slot) (given_by here n c r)
+  keeps_following spares place clones old command (Refused r) new s q l = same_table slot n old.table new.table (ap (λ (t : State K V). t.table) s.1) l
+  keeps_following spares place clones old (Register slot') Done new s q l = starts slot' old.table new.table (old.table slot') refl s.table l
+  keeps_following spares place clones old Create (Told e) new s q l = same_table slot n old.table new.table s.table l
+  keeps_following spares place clones old CreatePending (Told e) new s q l = same_table slot n old.table new.table s.table l
+  keeps_following spares place clones old (Delete es) Done new s q l = deaths es.items old new (s.table slot) l
+  keeps_following spares place clones old DeleteAll Done new s q l = deaths (the_living old.people) old new (s.table slot) l
+  keeps_following spares place clones old (MarkDead e) Done new s q l = same_table slot n old.table new.table s.table l
+  keeps_following spares place clones old (AskAlive e) (Yes b) new s q l = same_table slot n old.table new.table (ap (λ (t : State K V). t.table) s.1) l
+  keeps_following spares place clones old (AskLiving e) (Yes b) new s q l = same_table slot n old.table new.table (ap (λ (t : State K V). t.table) s.1) l
+  keeps_following spares place clones old (EntityAt i) (Told e) new s q l = same_table slot n old.table new.table (ap (λ (t : State K V). t.table) s.1) l
+  keeps_following spares place clones old (Insert e value) (Value before) new s q l = one_quiet slot n here tells (place value) old.table new.table s.table.column _ s.table.registered s.table.put l (λ same. puts n s.table.column (index_of e) value)
+  keeps_following spares place clones old (Insert e value) (InsertRefused r back) new s q l = same_table slot n old.table new.table (ap (λ (t : State K V). t.table) s.2) l
+  keeps_following spares place clones old (Get k e) (Value found) new s q l = same_table slot n old.table new.table (ap (λ (t : State K V). t.table) s.1) l
+  keeps_following spares place clones old (Remove k e) (Value found) new s q l = removes old.people k e found old.table new.table s.table l
+  keeps_following spares place clones old (Clear k) Done new s q l = one_quiet slot n here tells k old.table new.table s.table.column _ s.table.registered s.table.cleared l (λ same. empties n s.table.column)
+  keeps_following spares place clones old (AskCount k) (Count m) new s q l = same_table slot n old.table new.table (ap (λ (t : State K V). t.table) s.1) l
+  keeps_following spares place clones old (Select x) (Indices is) new s q l = same_table slot n old.table new.table (ap (λ (t : State K V). t.table) s.1) l
+  keeps_following spares place clones old (Reader k) (NewReader m) new s q l = one_quiet slot n here tells k old.table new.table s.table.column _ s.table.registered s.table.becomes l (λ same. registers n s.table.column)
+  keeps_following spares place clones old (Events k m) (Given es) new s q l = one_slot slot n here tells k old.table new.table s.table.column _ _ s.table.registered s.table.becomes l
       (λ same. rw ((tells k).1 same) (reads n s.table.column m es.items s.table.said))
       (λ other. rw (off k other) refl)
     where
       off : (k : K) → k ≢ slot → here k ≡ false
       off k other = elim (cases_Bool (here k)) [ inl on ↦ absurd (other ((tells k).0 on)) | inr f ↦ f ]
-  keeps_following spares place allocates old (DropReader k m) Done new s q l = one_quiet slot n here tells k old.table new.table s.table.column _ s.table.registered s.table.becomes l (λ same. drops n s.table.column m (q same))
-  keeps_following spares place allocates old (Emit k on) Done new s q l = one_quiet slot n here tells k old.table new.table s.table.column _ s.table.registered s.table.becomes l (λ same. switches n s.table.column on (q same))
-  keeps_following spares place allocates old command reply new s q l = absurd s
+  keeps_following spares place clones old (DropReader k m) Done new s q l = one_quiet slot n here tells k old.table new.table s.table.column _ s.table.registered s.table.becomes l (λ same. drops n s.table.column m (q same))
+  keeps_following spares place clones old (Emit k on) Done new s q l = one_quiet slot n here tells k old.table new.table s.table.column _ s.table.registered s.table.becomes l (λ same. switches n s.table.column on (q same))
+  keeps_following spares place clones old command reply new s q l = absurd s
 
   -- the events are on after it, and the reader is registered, so it switched none off and dropped another
-  follows_step : {S J : Type 0} (spares : J → K → ℕ → Type 0) (place : V → K) (allocates : K → Bool) (old : State K V) (c : Command S J K V) (r : Reply V) (new : State K V) → CoreStep place allocates old c r new → OnlyLiving old → IsFollowed slot n old → IsFollowed slot n new → Follows slot n old new (given_by here n c r)
-  follows_step spares place allocates old command (Refused r) new s w l after = (same_table slot n old.table new.table (ap (λ (t : State K V). t.table) s.1) l).advances (living_below slot old w)
-  follows_step spares place allocates old (DropReader k m) Done new s w l after = (keeps_following {S = ℕ} spares place allocates old (DropReader k m) Done new s (λ same own. dropped_is_gone k m s.table.column s.table.column.channel new.table (subst (λ (t : K). new.table t ≡ Some (with_channel s.table.column (without_reader m s.table.column.channel))) same s.table.becomes.here) own after) l).advances (living_below slot old w)
+  follows_step : {S J : Type 0} (spares : J → K → ℕ → Type 0) (place : V → K) (clones : Clones K V) (old : State K V) (c : Command S J K V) (r : Reply V) (new : State K V) → CoreStep place clones old c r new → OnlyLiving old → IsFollowed slot n old → IsFollowed slot n new → Follows slot n old new (given_by here n c r)
+  follows_step spares place clones old command (Refused r) new s w l after = (same_table slot n old.table new.table (ap (λ (t : State K V). t.table) s.1) l).advances (living_below slot old w)
+  follows_step spares place clones old (DropReader k m) Done new s w l after = (keeps_following {S = ℕ} spares place clones old (DropReader k m) Done new s (λ same own. dropped_is_gone k m s.table.column s.table.column.channel new.table (subst (λ (t : K). new.table t ≡ Some (with_channel s.table.column (without_reader m s.table.column.channel))) same s.table.becomes.here) own after) l).advances (living_below slot old w)
     where
       dropped_is_gone : (k : K) (m : ℕ) (c : Column V) (channel : Channel) (t : Table K V) → t slot ≡ Some (with_channel c (without_reader m channel)) → m ≡ n → IsListening n (t slot) → ⊥
       dropped_is_gone k m c channel t is own listens =
           let l : IsListening n (Some (with_channel c (without_reader m channel))) = subst (IsListening n) is listens in
           false≢true (subst (λ (o : Option (List ComponentEvent)). is_some o ≡ true) (subst (λ j. unread_of n (dropped j channel.readers) ≡ None) (sym own) (dropped_gone n channel.readers)) l.1)
-  follows_step spares place allocates old (DropReader k m) reply new s w l after = absurd s
-  follows_step spares place allocates old (Emit k on) Done new s w l after = (keeps_following {S = ℕ} spares place allocates old (Emit k on) Done new s (λ same. (subst (IsListening n) (subst (λ (t : K). new.table t ≡ Some (with_channel s.table.column (switched on s.table.column.channel))) same s.table.becomes.here) after).0) l).advances (living_below slot old w)
-  follows_step spares place allocates old (Emit k on) reply new s w l after = absurd s
-  follows_step spares place allocates old (Queue job) r new s w l after = absurd s
-  follows_step spares place allocates old c r new s w l after = (keeps_following spares place allocates old c r new s tt l).advances (living_below slot old w)
+  follows_step spares place clones old (DropReader k m) reply new s w l after = absurd s
+  follows_step spares place clones old (Emit k on) Done new s w l after = (keeps_following {S = ℕ} spares place clones old (Emit k on) Done new s (λ same. (subst (IsListening n) (subst (λ (t : K). new.table t ≡ Some (with_channel s.table.column (switched on s.table.column.channel))) same s.table.becomes.here) after).0) l).advances (living_below slot old w)
+  follows_step spares place clones old (Emit k on) reply new s w l after = absurd s
+  follows_step spares place clones old (Queue job) r new s w l after = absurd s
+  follows_step spares place clones old c r new s w l after = (keeps_following spares place clones old c r new s tt l).advances (living_below slot old w)
 
   -- what follows one part of a run and then the other follows both
   follows_more : (a b c : State K V) (g h : List ComponentEvent) → Follows slot n a b g → Follows slot n b c h → Follows slot n a c (g ++ h)
@@ -123,7 +124,7 @@ module _ {K V : Type 0} (slot : K) (n : ℕ) (here : K → Bool) (tells : Tells 
 
   -- what the removal of a job leaves the reader
   removed_keeps : (place : V → K) (old new : State K V) (k : K) (e : Entity) (found : Option V) → OnTable (λ t t'. Removes old.people t k e found t') old new → IsFollowed slot n old → KeepsAt slot n old.table new.table []
-  removed_keeps place old new k e found s l = keeps_following {S = ℕ} {J = ℕ} (λ _ _ _. Unit {0}) place (λ _. false) old (Remove k e) (Value found) new s tt l
+  removed_keeps place old new k e found s l = keeps_following {S = ℕ} {J = ℕ} (λ _ _ _. Unit {0}) place no_clones old (Remove k e) (Value found) new s tt l
 
   -- a state in the middle of a run of jobs, to which what followed leads from the first one
   record GoesOn (first s : State K V) : Type 0 where
@@ -141,7 +142,7 @@ module _ {K V : Type 0} (slot : K) (n : ℕ) (here : K → Bool) (tells : Tells 
   goes_on : (first old new : State K V) → GoesOn first old → OnlyLiving new → KeepsAt slot n old.table new.table [] → GoesOn first new
   goes_on first old new h living k = record { living = living; followed = k.listening; follows = follows_more first old new [] [] h.follows (k.advances (living_below slot old h.living)) }
 
-  module _ {S J : Type 0} (place : V → K) (allocates : K → Bool) (marks : Markers K V) (does : J → State K V → List (Job S J K V) → State K V → Type 0) (wants : J → State K V → Type 0) (spares : J → K → ℕ → Type 0)
+  module _ {S J : Type 0} (place : V → K) (clones : Clones K V) (marks : Markers K V) (does : J → State K V → List (Job S J K V) → State K V → Type 0) (wants : J → State K V → Type 0) (spares : J → K → ℕ → Type 0)
       (law : (j : J) (slot : K) (n : ℕ) (old new : State K V) (more : List (Job S J K V)) → does j old more new → spares j slot n → IsFollowed slot n old → Spared spares slot n old more new) where
     -- jobs that spare a reader let it follow the slot
     followed_jobs : (stopped : Bool) (limit count counted : ℕ) (old new : State K V) (jobs left : List (Job S J K V)) → RunsJobs place marks does wants stopped limit count counted old jobs new left → AllSpare spares slot n jobs → IsFollowed slot n old → IsFollowed slot n new × AllSpare spares slot n left
@@ -151,7 +152,7 @@ module _ {K V : Type 0} (slot : K) (n : ℕ) (here : K → Bool) (tells : Tells 
         (λ j old new more q s l. ((law j slot n old new more s q l).followed, (law j slot n old new more s q l).added))
         (λ pairs rest q. tt)
 
-    watched_step : (old : WorldState S J K V) (c : Command S J K V) (r : Reply V) (new : WorldState S J K V) → Step place allocates marks does wants old c r new → IsQuiet spares slot n c → IsWatched spares slot n old → IsWatched spares slot n new
+    watched_step : (old : WorldState S J K V) (c : Command S J K V) (r : Reply V) (new : WorldState S J K V) → Step place clones marks does wants old c r new → IsQuiet spares slot n c → IsWatched spares slot n old → IsWatched spares slot n new
     watched_step old (Queue job) Done new s q h = record {
       followed = subst (IsFollowed slot n) (sym s.core) h.followed;
       spared = subst (AllSpare spares slot n) (sym s.jobs) (each_more (JobSpares spares slot n) old.jobs (job ∷ []) h.spared (q, tt));
@@ -160,17 +161,17 @@ module _ {K V : Type 0} (slot : K) (n : ℕ) (here : K → Bool) (tells : Tells 
         let after = followed_jobs m.stopped limit m.ran m.refused (merged old.core) new.core old.jobs new.jobs s.jobs h.spared (deaths (the_marked old.core.people) old.core (merged old.core) refl h.followed).listening in
         record { followed = after.0; spared = after.1 }
     watched_step old c r new s q h = record {
-      followed = (keeps_following spares place allocates old.core c r new.core s.core q h.followed).listening;
+      followed = (keeps_following spares place clones old.core c r new.core s.core q h.followed).listening;
       spared = subst (AllSpare spares slot n) (sym s.jobs) h.spared;
     }
 
-    pub followed_run : (cs : List (Command S J K V)) (rs : List (Reply V)) (old new : WorldState S J K V) (run : Run place allocates marks does wants old cs rs new) → AreQuiet spares slot n cs → IsWatched spares slot n old → Throughout place allocates marks does wants (IsWatched spares slot n) old cs rs new run
+    pub followed_run : (cs : List (Command S J K V)) (rs : List (Reply V)) (old new : WorldState S J K V) (run : Run place clones marks does wants old cs rs new) → AreQuiet spares slot n cs → IsWatched spares slot n old → Throughout place clones marks does wants (IsWatched spares slot n) old cs rs new run
     followed_run [] [] old new run q h = h
     followed_run [] (r ∷ rs) old new run q h = absurd run
     followed_run (c ∷ cs) [] old new run q h = absurd run
     followed_run (c ∷ cs) (r ∷ rs) old new run q h = (h, followed_run cs rs run.0 new run.2 q.1 (watched_step old c r run.0 run.1 q.0 h))
 
-    at_first : (cs : List (Command S J K V)) (rs : List (Reply V)) (old new : WorldState S J K V) (run : Run place allocates marks does wants old cs rs new) → Throughout place allocates marks does wants (IsWatched spares slot n) old cs rs new run → IsWatched spares slot n old
+    at_first : (cs : List (Command S J K V)) (rs : List (Reply V)) (old new : WorldState S J K V) (run : Run place clones marks does wants old cs rs new) → Throughout place clones marks does wants (IsWatched spares slot n) old cs rs new run → IsWatched spares slot n old
     at_first [] [] old new run t = t
     at_first [] (r ∷ rs) old new run t = absurd t
     at_first (c ∷ cs) [] old new run t = absurd t
@@ -196,12 +197,12 @@ module _ {K V : Type 0} (slot : K) (n : ℕ) (here : K → Bool) (tells : Tells 
             follows = follows_more first a b [] [] h.follows ((law j slot n a b more s q h.followed).follows h.living);
           }
 
-      world_follows : (old : WorldState S J K V) (c : Command S J K V) (r : Reply V) (new : WorldState S J K V) → Step place allocates marks does wants old c r new → OnlyLiving old.core → IsWatched spares slot n old → IsWatched spares slot n new → Follows slot n old.core new.core (given_by here n c r)
+      world_follows : (old : WorldState S J K V) (c : Command S J K V) (r : Reply V) (new : WorldState S J K V) → Step place clones marks does wants old c r new → OnlyLiving old.core → IsWatched spares slot n old → IsWatched spares slot n new → Follows slot n old.core new.core (given_by here n c r)
       world_follows old (Queue job) Done new s w h after = (same_table slot n old.core.table new.core.table (ap (λ (t : State K V). t.table) s.core) h.followed).advances (living_below slot old.core w)
       world_follows old (Maintain limit) (Kept m) new s w h after = maintain_follows old new limit m s w h
-      world_follows old c r new s w h after = follows_step spares place allocates old.core c r new.core s.core w h.followed after.followed
+      world_follows old c r new s w h after = follows_step spares place clones old.core c r new.core s.core w h.followed after.followed
 
-      pub follows_run : (cs : List (Command S J K V)) (rs : List (Reply V)) (old new : WorldState S J K V) (run : Run place allocates marks does wants old cs rs new) → Throughout place allocates marks does wants (IsWatched spares slot n) old cs rs new run → OnlyLiving old.core → Follows slot n old.core new.core (given here n cs rs)
+      pub follows_run : (cs : List (Command S J K V)) (rs : List (Reply V)) (old new : WorldState S J K V) (run : Run place clones marks does wants old cs rs new) → Throughout place clones marks does wants (IsWatched spares slot n) old cs rs new run → OnlyLiving old.core → Follows slot n old.core new.core (given here n cs rs)
       follows_run [] [] old new run t w = (same_table slot n old.core.table new.core.table (ap (λ (s : WorldState S J K V). s.core.table) run) t.followed).advances (living_below slot old.core w)
       follows_run [] (r ∷ rs) old new run t w = absurd run
       follows_run (c ∷ cs) [] old new run t w = absurd run
@@ -209,7 +210,7 @@ module _ {K V : Type 0} (slot : K) (n : ℕ) (here : K → Bool) (tells : Tells 
           let mid : WorldState S J K V = run.0 in
           follows_more old.core mid.core new.core (given_by here n c r) (given here n cs rs)
           (world_follows old c r mid run.1 w t.0 (at_first cs rs mid new run.2 t.1))
-          (follows_run cs rs mid new run.2 t.1 (living_step place allocates marks does wants grows lives_on old c r mid run.1 w))
+          (follows_run cs rs mid new run.2 t.1 (living_step place clones marks does wants grows lives_on old c r mid run.1 w))
 
   pub replays : (old new : State K V) (given : List ComponentEvent) → Follows slot n old new given → Replays slot n old new given
   replays old new given f = record {

@@ -10,6 +10,7 @@ use Rattle.entities.specs.declared.entity.Entity.{Entity}
 use Rattle.entities.specs.Population.{Population, IsAlive, index_of, lives, born, born_pending, mark}
 use Rattle.entities.specs.Deaths.{has_index, all_dead}
 use Rattle.entities.specs.Merges.{merge, the_marked, living_entity}
+use Rattle.specs.specs.Clones.{Clones}
 use Rattle.specs.specs.declared.command.Command.{Command}
 use Rattle.specs.specs.declared.command.Command.TheVariants.{Register, Create, CreatePending, Delete, DeleteAll, MarkDead, IsAlive as AskAlive, IsLiving as AskLiving, EntityAt, Insert, Get, Remove, Clear, Count as AskCount, Select, Reader, Events, DropReader, Emit}
 use Rattle.specs.specs.declared.command.Reply.{Reply}
@@ -130,26 +131,26 @@ gone_merged p q is = rw is (All-map (IsGone (merge p)) (living_entity p) (left p
     gone (merge p) (living_entity p i) (record { number = p.births i; generation = refl; reached = omega arith })
     (λ a. unmarked (lives p i) (p.marked i) marked a.0)))
 
-pub keeps_step : {S J K V : Type 0} (place : V → K) (allocates : K → Bool) (old : State K V) (c : Command S J K V) (r : Reply V) (new : State K V) (e : Entity) → CoreStep place allocates old c r new → IsGone old.people e → IsGone new.people e
-keeps_step place allocates old command (Refused r) new e s w = unchanged old new e s.1 w
-keeps_step place allocates old (Register slot) Done new e s w = by old new e old.people s.people (same_grows old.people) w
-keeps_step place allocates old Create (Told x) new e s w = by old new e _ s.people.born (born_grows old.people (index_of x)) w
-keeps_step place allocates old CreatePending (Told x) new e s w = by old new e _ s.people.born (pending_grows old.people (index_of x)) w
-keeps_step place allocates old (Delete es) Done new e s w = by old new e _ s.people.dead (dead_grows es.items old.people) w
-keeps_step place allocates old DeleteAll Done new e s w = by old new e _ s.people.dead (dead_grows (the_living old.people) old.people) w
-keeps_step place allocates old (MarkDead x) Done new e s w = by old new e (mark old.people (index_of x)) s.people.marked (same_grows old.people) w
-keeps_step place allocates old (AskAlive x) (Yes b) new e s w = unchanged old new e s.1 w
-keeps_step place allocates old (AskLiving x) (Yes b) new e s w = unchanged old new e s.1 w
-keeps_step place allocates old (EntityAt i) (Told x) new e s w = unchanged old new e s.1 w
-keeps_step place allocates old (Insert x value) (Value before) new e s w = by old new e old.people s.people (same_grows old.people) w
-keeps_step place allocates old (Insert x value) (InsertRefused r back) new e s w = unchanged old new e s.2 w
-keeps_step place allocates old (Get slot x) (Value found) new e s w = unchanged old new e s.1 w
-keeps_step place allocates old (Remove slot x) (Value found) new e s w = by old new e old.people s.people (same_grows old.people) w
-keeps_step place allocates old (Clear slot) Done new e s w = by old new e old.people s.people (same_grows old.people) w
-keeps_step place allocates old (AskCount slot) (Count n) new e s w = unchanged old new e s.1 w
-keeps_step place allocates old (Select x) (Indices is) new e s w = unchanged old new e s.1 w
-keeps_step place allocates old (Reader slot) (NewReader n) new e s w = by old new e old.people s.people (same_grows old.people) w
-keeps_step place allocates old (Events slot n) (Given es) new e s w = by old new e old.people s.people (same_grows old.people) w
-keeps_step place allocates old (DropReader slot n) Done new e s w = by old new e old.people s.people (same_grows old.people) w
-keeps_step place allocates old (Emit slot on) Done new e s w = by old new e old.people s.people (same_grows old.people) w
-keeps_step place allocates old command reply new e s w = absurd s
+pub keeps_step : {S J K V : Type 0} (place : V → K) (clones : Clones K V) (old : State K V) (c : Command S J K V) (r : Reply V) (new : State K V) (e : Entity) → CoreStep place clones old c r new → IsGone old.people e → IsGone new.people e
+keeps_step place clones old command (Refused r) new e s w = unchanged old new e s.1 w
+keeps_step place clones old (Register slot) Done new e s w = by old new e old.people s.people (same_grows old.people) w
+keeps_step place clones old Create (Told x) new e s w = by old new e _ s.people.born (born_grows old.people (index_of x)) w
+keeps_step place clones old CreatePending (Told x) new e s w = by old new e _ s.people.born (pending_grows old.people (index_of x)) w
+keeps_step place clones old (Delete es) Done new e s w = by old new e _ s.people.dead (dead_grows es.items old.people) w
+keeps_step place clones old DeleteAll Done new e s w = by old new e _ s.people.dead (dead_grows (the_living old.people) old.people) w
+keeps_step place clones old (MarkDead x) Done new e s w = by old new e (mark old.people (index_of x)) s.people.marked (same_grows old.people) w
+keeps_step place clones old (AskAlive x) (Yes b) new e s w = unchanged old new e s.1 w
+keeps_step place clones old (AskLiving x) (Yes b) new e s w = unchanged old new e s.1 w
+keeps_step place clones old (EntityAt i) (Told x) new e s w = unchanged old new e s.1 w
+keeps_step place clones old (Insert x value) (Value before) new e s w = by old new e old.people s.people (same_grows old.people) w
+keeps_step place clones old (Insert x value) (InsertRefused r back) new e s w = unchanged old new e s.2 w
+keeps_step place clones old (Get slot x) (Value found) new e s w = unchanged old new e s.1 w
+keeps_step place clones old (Remove slot x) (Value found) new e s w = by old new e old.people s.people (same_grows old.people) w
+keeps_step place clones old (Clear slot) Done new e s w = by old new e old.people s.people (same_grows old.people) w
+keeps_step place clones old (AskCount slot) (Count n) new e s w = unchanged old new e s.1 w
+keeps_step place clones old (Select x) (Indices is) new e s w = unchanged old new e s.1 w
+keeps_step place clones old (Reader slot) (NewReader n) new e s w = by old new e old.people s.people (same_grows old.people) w
+keeps_step place clones old (Events slot n) (Given es) new e s w = by old new e old.people s.people (same_grows old.people) w
+keeps_step place clones old (DropReader slot n) Done new e s w = by old new e old.people s.people (same_grows old.people) w
+keeps_step place clones old (Emit slot on) Done new e s w = by old new e old.people s.people (same_grows old.people) w
+keeps_step place clones old command reply new e s w = absurd s

@@ -19,6 +19,7 @@ use Rattle.specs.specs.Reached.{OnlyLiving, KeepsLiving}
 use Rattle.specs.specs.Registering.{RegistersAs}
 use Rattle.specs.specs.State.{State, OnPeople, OnTable, Deletes, merged}
 use Rattle.specs.specs.Table.{Table, Becomes, Inserts, Removes, Registers, Clears}
+use Rattle.specs.proofs.Going.{on_marked, on_same}
 use Rattle.specs.proofs.Gone.{gone_evolved, gone_after_merge}
 use Rattle.specs.proofs.Lasting.{merged_kept}
 use Rattle.specs.proofs.Values.{alive_fact, alive_true}
@@ -39,6 +40,12 @@ module _ {K V : Type 0} (old new : State K V) where
 
   pub gone_dead : (es : List Entity) → Deletes es old new → KeepsGone old.people new.people
   gone_dead es s = one old.people new.people (inr (inr (inl (es, s.people))))
+
+  pub gone_marked : (e : Entity) → OnPeople (λ p p'. Marks p e p') old new → KeepsGone old.people new.people
+  gone_marked e s = one old.people new.people (inr (inr (inr (inl (e, s.people)))))
+
+  pub living_marked : (e : Entity) → OnPeople (λ p p'. Marks p e p') old new → KeepsLiving old new
+  living_marked e s = mark_kept old new e s
 
   pub gone_left : new ≡ old → KeepsGone old.people new.people
   gone_left same = gone_same (ap (λ (s : State K V). s.people) same)
@@ -90,6 +97,9 @@ module _ {K V : Type 0} (old new : State K V) where
       table_only old new s.people w (within_becomes old.table new.table slot _ (lives old.people) g.put w.values
       (put_within g.column.values (index_of e) g.value (lives old.people) g.alive.0 (λ j. w.values slot g.column j g.registered)))
 
+  pub living_given : (marks : Markers K V) (slot : K) (e : Entity) (given : Option _) → GivesMarkerIn marks slot e given old new → KeepsLiving old new
+  living_given marks slot e given s = labelled marks slot e given s
+
   pub living_labelled : (marks : Markers K V) (slot : K) (e : Entity) → HasMarkerThen marks slot e old new → KeepsLiving old new
   living_labelled marks slot e s = labelled marks slot e s.given s.gives
 
@@ -105,10 +115,11 @@ module _ {K V : Type 0} (old new : State K V) where
           marks = record { people = s; table = table; ids = ids };
           living = mark_kept old new e (record { people = marks; table = table; ids = ids });
           gone = one old.people new.people (inr (inr (inr (inl (e, marks)))));
+          goes_on = on_marked old new e (record { people = marks; table = table; ids = ids });
         }
     | inr off ↦
         let same = s.1 (λ a. both_ways (is_alive old.people e) off (alive_true old.people e a)) in
-        record { marks = record { people = s; table = table; ids = ids }; living = same_within table same; gone = gone_same same }
+        record { marks = record { people = s; table = table; ids = ids }; living = same_within table same; gone = gone_same same; goes_on = on_same old new (rw (same, table, ids) refl) }
   ]
 
   pub living_merged : new ≡ merged old → KeepsLiving old new

@@ -7,6 +7,7 @@ pub mod Runs
 pub mod Gone
 pub mod Values
 pub mod Marked
+pub mod Going
 pub mod Kept
 pub mod Written
 pub mod Loading

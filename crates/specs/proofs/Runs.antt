@@ -1,8 +1,9 @@
 -- A run goes on by one step.
-use Rattle.std.proofs.Common.{◌≡◌, Bool, List, [], ◌∷◌, ◌++◌, refl, ap, ◌∙◌, subst}
+use Rattle.std.proofs.Common.{◌≡◌, List, [], ◌∷◌, ◌++◌, refl, ap, ◌∙◌, subst}
 use Rattle.std.specs.Iterator.{Yields}
 use Rattle.std.specs.Vec.Iter.{into_iter_items, into_iter_steps}
 use Rattle.std.specs.declared.vec.IntoIter.{IntoIter}
+use Rattle.specs.specs.Clones.{Clones}
 use Rattle.specs.specs.declared.command.Command.{Command}
 use Rattle.specs.specs.declared.command.Reply.{Reply}
 use Rattle.specs.specs.declared.job.Job.{Job}
@@ -10,9 +11,9 @@ use Rattle.specs.specs.State.{State}
 use Rattle.specs.specs.Steps.{WorldState, Step, Run}
 use Rattle.specs.specs.Marks.{Markers}
 
-module _ {S J K V : Type 0} (place : V → K) (allocates : K → Bool) (marks : Markers K V) (does : J → State K V → List (Job S J K V) → State K V → Type 0) (wants : J → State K V → Type 0) where
-  pub run_more : (a b d : WorldState S J K V) (cs : List (Command S J K V)) (rs : List (Reply V)) (c : Command S J K V) (r : Reply V) → Run place allocates marks does wants a cs rs b → Step place allocates marks does wants b c r d → Run place allocates marks does wants a (cs ++ c ∷ []) (rs ++ r ∷ []) d
-  run_more a b d [] [] c r run step = (d, subst (λ (s : WorldState S J K V). Step place allocates marks does wants s c r d) run step, refl)
+module _ {S J K V : Type 0} (place : V → K) (clones : Clones K V) (marks : Markers K V) (does : J → State K V → List (Job S J K V) → State K V → Type 0) (wants : J → State K V → Type 0) where
+  pub run_more : (a b d : WorldState S J K V) (cs : List (Command S J K V)) (rs : List (Reply V)) (c : Command S J K V) (r : Reply V) → Run place clones marks does wants a cs rs b → Step place clones marks does wants b c r d → Run place clones marks does wants a (cs ++ c ∷ []) (rs ++ r ∷ []) d
+  run_more a b d [] [] c r run step = (d, subst (λ (s : WorldState S J K V). Step place clones marks does wants s c r d) run step, refl)
   run_more a b d [] (x ∷ rs) c r run step = absurd run
   run_more a b d (x ∷ cs) [] c r run step = absurd run
   run_more a b d (x ∷ cs) (y ∷ rs) c r run step = (run.0, run.1, run_more run.0 b d cs rs c r run.2 step)

@@ -4,6 +4,7 @@ use Rattle.std.specs.Borrow.{RattleType, RestsIfErr, MutBor, Fml}
 use Rattle.entities.specs.declared.entity.Entity.{Entity}
 use Rattle.entities.specs.Census.{population}
 use Rattle.entities.specs.Population.{Population, MarkedIfAlive}
+use Rattle.specs.specs.Going.{GoesOn}
 use Rattle.specs.specs.Gone.{KeepsGone}
 use Rattle.specs.specs.Ids.{Ids}
 use Rattle.specs.specs.Reached.{KeepsLiving}
@@ -31,11 +32,13 @@ module _ {S : Type 0} where
     pub people : MarkedIfAlive (population old.parts.entities) e (population new.parts.entities)
     pub storages : new.parts.storages ≡ old.parts.storages
 
--- only the population changed: the entity is marked, if it is alive; so each index with a value lives as before, and who was gone is gone
+-- only the population changed: the entity is marked, if it is alive; so each index with a value lives as before, and who was gone is
+-- gone, and the model goes on
 pub record MarksOne {K V : Type 0} (e : Entity) (old new : State K V) : Type 0 where
   pub marks : OnPeople (λ p p'. MarkedIfAlive p e p') old new
   pub living : KeepsLiving old new
   pub gone : KeepsGone old.people new.people
+  pub goes_on : GoesOn old new
 
 -- without a builder the core ends as it was
 abbrev pub RestsUnborn : (S : RattleType) {E : Type 0} → MutBor (Core S.Denot) → Result (EntityBuilder S.Denot) E → Fml

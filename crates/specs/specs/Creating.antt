@@ -6,6 +6,7 @@ use Rattle.entities.specs.declared.allocator.births.CreateError.TheVariants.{Out
 use Rattle.entities.specs.declared.entity.Entity.{Entity}
 use Rattle.entities.specs.Census.{population}
 use Rattle.entities.specs.Population.{Population, born}
+use Rattle.specs.specs.Going.{GoesOn}
 use Rattle.specs.specs.Gone.{KeepsGone}
 use Rattle.specs.specs.Ids.{Ids}
 use Rattle.specs.specs.People.{Births, IsFull, BirthWantsMemory}
@@ -44,3 +45,4 @@ module _ {S : Type 0} where
     pub gives : Gives old r new
     pub living : KeepsLiving (shown table ids old) (shown table ids new)
     pub gone : KeepsGone (people old) (people new)
+    pub goes_on : GoesOn (shown table ids old) (shown table ids new)

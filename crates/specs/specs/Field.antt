@@ -1,9 +1,10 @@
 -- One field as a slot, or none where its component is not registered.
-use Rattle.std.specs.Prelude.{◌≡◌, ℕ, Bool, true, Option, Some, None, IsSome, IsTrue, is_some}
+use Rattle.std.specs.Prelude.{◌≡◌, ℕ, true, Option, Some, None, IsSome, is_some}
 use Rattle.std.specs.FinMap as map
 use Rattle.std.specs.Option.{option_map}
 use Rattle.entities.specs.declared.entity.Entity.{Entity}
 use Rattle.entities.specs.Population.{index_of, Population, IsAlive}
+use Rattle.specs.specs.Clones.{IsCloned}
 use Rattle.specs.specs.Maps.{Map}
 use Rattle.specs.specs.Column.{Column, with_value, without_value, emptied}
 use Rattle.specs.specs.Readers.{with_channel}
@@ -52,14 +53,21 @@ pub record FieldGets {V : Type 0} (p : Population) (field : Option (Column V)) (
   pub alive : IsAlive p e → found ≡ column.values (index_of e)
   pub dead : (IsAlive p e → ⊥) → found ≡ None
 
--- the refusal of a look-up
-abbrev pub FieldGetIsRefused : {V : Type 0} → Bool → Population → Option (Column V) → Entity → Refusal → Type 0
-FieldGetIsRefused allocates p field e (Wrong w) = ⊥
-FieldGetIsRefused allocates p field e Unregistered = field ≡ None
-FieldGetIsRefused allocates p field e IndexLimit = ⊥
-FieldGetIsRefused allocates p field e OutOfMemory = IsTrue allocates × CopyWantsMemory p field e
-FieldGetIsRefused allocates p field e Untracked = ⊥
-FieldGetIsRefused allocates p field e UnknownReader = ⊥
+-- the same, of a clone
+pub record FieldGetsClone {V : Type 0} (is_clone : V → V → Type 0) (p : Population) (field : Option (Column V)) (e : Entity) (found : Option V) : Type 0 where
+  pub column : Column V
+  pub registered : field ≡ Some column
+  pub alive : IsAlive p e → IsCloned is_clone (column.values (index_of e)) found
+  pub dead : (IsAlive p e → ⊥) → found ≡ None
+
+-- the refusal of a look-up, where clones take no memory or may take some
+abbrev pub FieldGetIsRefused : {V : Type 0} → Type 0 → Population → Option (Column V) → Entity → Refusal → Type 0
+FieldGetIsRefused is_free p field e (Wrong w) = ⊥
+FieldGetIsRefused is_free p field e Unregistered = field ≡ None
+FieldGetIsRefused is_free p field e IndexLimit = ⊥
+FieldGetIsRefused is_free p field e OutOfMemory = (is_free → ⊥) × CopyWantsMemory p field e
+FieldGetIsRefused is_free p field e Untracked = ⊥
+FieldGetIsRefused is_free p field e UnknownReader = ⊥
 
 pub record FieldRemoves {V : Type 0} (p : Population) (old : Option (Column V)) (e : Entity) (found : Option V) (new : Option (Column V)) : Type 0 where
   pub column : Column V

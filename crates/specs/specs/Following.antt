@@ -3,6 +3,7 @@ use Rattle.std.specs.Prelude.{◌≡◌, ◌==◌, ◌&&◌, ℕ, Bool, true, fa
 use Rattle.std.specs.Bool.{Decides}
 use Rattle.storages.specs.declared.event.ComponentEvent.{ComponentEvent}
 use Rattle.storages.specs.Unread.{unread_of}
+use Rattle.specs.specs.Clones.{Clones}
 use Rattle.specs.specs.declared.command.Command.{Command}
 use Rattle.specs.specs.declared.command.Command.TheVariants.{Queue, Events, DropReader, Emit}
 use Rattle.specs.specs.declared.command.Reply.{Reply}
@@ -91,11 +92,11 @@ module _ {S J K V : Type 0} where
   given here n (c ∷ cs) (r ∷ rs) = given_by here n c r ++ given here n cs rs
 
   -- something holds of each state of a run, the first and the last too
-  abbrev pub Throughout : (place : V → K) (allocates : K → Bool) (marks : Markers K V) (does : J → State K V → List (Job S J K V) → State K V → Type 0) (wants : J → State K V → Type 0) (P : WorldState S J K V → Type 0) (old : WorldState S J K V) (cs : List (Command S J K V)) (rs : List (Reply V)) (new : WorldState S J K V) → Run place allocates marks does wants old cs rs new → Type 0
-  Throughout place allocates marks does wants P old [] [] new run = P old
-  Throughout place allocates marks does wants P old (c ∷ cs) (r ∷ rs) new run = P old × Throughout place allocates marks does wants P run.0 cs rs new run.2
-  Throughout place allocates marks does wants P old [] (r ∷ rs) new run = ⊥
-  Throughout place allocates marks does wants P old (c ∷ cs) [] new run = ⊥
+  abbrev pub Throughout : (place : V → K) (clones : Clones K V) (marks : Markers K V) (does : J → State K V → List (Job S J K V) → State K V → Type 0) (wants : J → State K V → Type 0) (P : WorldState S J K V → Type 0) (old : WorldState S J K V) (cs : List (Command S J K V)) (rs : List (Reply V)) (new : WorldState S J K V) → Run place clones marks does wants old cs rs new → Type 0
+  Throughout place clones marks does wants P old [] [] new run = P old
+  Throughout place clones marks does wants P old (c ∷ cs) (r ∷ rs) new run = P old × Throughout place clones marks does wants P run.0 cs rs new run.2
+  Throughout place clones marks does wants P old [] (r ∷ rs) new run = ⊥
+  Throughout place clones marks does wants P old (c ∷ cs) [] new run = ⊥
 
   -- A job that neither reads nor ends the reader, leaves the slot's events on, writes none by hand, and queues such jobs alone: each but one of
   -- the user's, of which `spares` tells it.

@@ -1,7 +1,8 @@
 -- Lemmas by which a job of a user's meets its laws.
-use Rattle.std.proofs.Common.{◌≡◌, ℕ, Bool, Option, true, List, [], refl, sym, ap, subst, inl, inr, append-nil}
+use Rattle.std.proofs.Common.{◌≡◌, ℕ, Bool, Option, List, [], refl, sym, ap, subst, inl, inr, append-nil}
 use Rattle.entities.specs.declared.entity.Entity.{Entity}
 use Rattle.entities.specs.Population.{born, born_pending}
+use Rattle.specs.specs.Clones.{no_clones}
 use Rattle.specs.specs.declared.command.Command.TheVariants.{Create, CreatePending}
 use Rattle.specs.specs.declared.command.Reply.TheVariants.{Entity as Told}
 use Rattle.specs.specs.declared.job.Job.{Job}
@@ -27,13 +28,13 @@ module _ {K V : Type 0} where
   born_grows old new e s = record { count = 1; steps = (new.people, inl (e, s.people), refl) }
 
   pub born_lives : (place : V → K) (old new : State K V) (e : Entity) → OnPeople (λ p p'. Births born p e p') old new → OnlyLiving old → OnlyLiving new
-  born_lives place old new e s w = keeps_step {S = ℕ} {J = ℕ} place (λ _. true) old Create (Told e) new s w
+  born_lives place old new e s w = keeps_step {S = ℕ} {J = ℕ} place no_clones old Create (Told e) new s w
 
   pub pending_grows : (old new : State K V) (e : Entity) → OnPeople (λ p p'. Births born_pending p e p') old new → Evolves old.people new.people
   pending_grows old new e s = record { count = 1; steps = (new.people, inr (inl (e, s.people)), refl) }
 
   pub pending_lives : (place : V → K) (old new : State K V) (e : Entity) → OnPeople (λ p p'. Births born_pending p e p') old new → OnlyLiving old → OnlyLiving new
-  pending_lives place old new e s w = keeps_step {S = ℕ} {J = ℕ} place (λ _. true) old CreatePending (Told e) new s w
+  pending_lives place old new e s w = keeps_step {S = ℕ} {J = ℕ} place no_clones old CreatePending (Told e) new s w
 
   -- no component changed, and no reader and no emission
   pub still_tells : {S J : Type 0} (spares : J → K → ℕ → Type 0) (slot : K) (n : ℕ) (old new : State K V) (more : List (Job S J K V)) → new.table ≡ old.table → AllSpare spares slot n more → IsFollowed slot n old → Spared spares slot n old more new

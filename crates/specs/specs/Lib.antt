@@ -2,6 +2,7 @@ pub mod Column
 pub mod Readers
 pub mod ChannelCalls
 pub mod Maps
+pub mod Clones
 pub mod Table
 pub mod Ids
 pub mod Marks
@@ -27,12 +28,14 @@ pub mod Building
 pub mod LazyBuilding
 pub mod Creating
 pub mod Dropping
+pub mod Going
 pub mod Leading
 pub mod Following
 pub mod Leads
 pub mod Telling
 pub mod Advancing
 pub mod OneSlot
+pub mod GoingLaws
 pub mod Laws
 pub mod Living
 pub mod Lawful

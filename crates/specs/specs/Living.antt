@@ -12,6 +12,7 @@ use Rattle.entities.specs.declared.entity.Entity.{Entity}
 use Rattle.entities.specs.Population.{index_of, Population, IsAlive, MayBeBorn, lives, born, born_pending, one_birth, is_free}
 use Rattle.entities.specs.Deaths.{has_index, all_dead}
 use Rattle.entities.specs.Merges.{the_marked, merge, living_entity}
+use Rattle.specs.specs.Clones.{Clones}
 use Rattle.specs.specs.Maps.{Map, put, without_one}
 use Rattle.specs.specs.Column.{Column, without_values}
 use Rattle.specs.specs.declared.command.Command.{Command}
@@ -222,29 +223,29 @@ mark_kept old new e s w = record {
   below = rw s.people.marked w.below;
 }
 
-pub keeps_step : {S J K V : Type 0} (place : V → K) (allocates : K → Bool) (old : State K V) (c : Command S J K V) (r : Reply V) (new : State K V) → CoreStep place allocates old c r new → OnlyLiving old → OnlyLiving new
-keeps_step place allocates old command (Refused r) new s w = unchanged old new s.1 w
-keeps_step place allocates old (Register slot) Done new s w = table_only old new s.people w (within_register old.table new.table slot (lives old.people) (old.table slot) refl s.table w.values)
-keeps_step place allocates old Create (Told e) new s w = birth_kept born old new e (λ p i. refl) lives_born still_lives s w
-keeps_step place allocates old CreatePending (Told e) new s w = birth_kept born_pending old new e (λ p i. refl) lives_born_pending still_lives_pending s w
-keeps_step place allocates old (Delete es) Done new s w = deletes_kept es.items old new s w
-keeps_step place allocates old DeleteAll Done new s w = deletes_kept (the_living old.people) old new s w
-keeps_step place allocates old (MarkDead e) Done new s w = mark_kept old new e s w
-keeps_step place allocates old (AskAlive e) (Yes b) new s w = unchanged old new s.1 w
-keeps_step place allocates old (AskLiving e) (Yes b) new s w = unchanged old new s.1 w
-keeps_step place allocates old (EntityAt i) (Told e) new s w = unchanged old new s.1 w
-keeps_step place allocates old (Insert e value) (Value before) new s w = table_only old new s.people w (within_becomes old.table new.table (place value) _ (lives old.people) s.table.put w.values (put_within s.table.column.values (index_of e) value (lives old.people) s.table.alive.0 (λ j. w.values (place value) s.table.column j s.table.registered)))
-keeps_step place allocates old (Insert e value) (InsertRefused r back) new s w = unchanged old new s.2 w
-keeps_step place allocates old (Get slot e) (Value found) new s w = unchanged old new s.1 w
-keeps_step place allocates old (Remove slot e) (Value found) new s w = table_only old new s.people w (removes_within old.people old.table new.table slot e found (lives old.people) s.table w.values)
-keeps_step place allocates old (Clear slot) Done new s w = table_only old new s.people w (within_becomes old.table new.table slot _ (lives old.people) s.table.cleared w.values (λ i h. absurd (false≢true h)))
-keeps_step place allocates old (AskCount slot) (Count n) new s w = unchanged old new s.1 w
-keeps_step place allocates old (Select x) (Indices is) new s w = unchanged old new s.1 w
-keeps_step place allocates old (Reader slot) (NewReader n) new s w = table_only old new s.people w (rechannels_within old.table new.table slot (lives old.people) s.table w.values)
-keeps_step place allocates old (Events slot n) (Given es) new s w = table_only old new s.people w (rechannels_within old.table new.table slot (lives old.people) s.table w.values)
-keeps_step place allocates old (DropReader slot n) Done new s w = table_only old new s.people w (rechannels_within old.table new.table slot (lives old.people) s.table w.values)
-keeps_step place allocates old (Emit slot on) Done new s w = table_only old new s.people w (rechannels_within old.table new.table slot (lives old.people) s.table w.values)
-keeps_step place allocates old command reply new s w = absurd s
+pub keeps_step : {S J K V : Type 0} (place : V → K) (clones : Clones K V) (old : State K V) (c : Command S J K V) (r : Reply V) (new : State K V) → CoreStep place clones old c r new → OnlyLiving old → OnlyLiving new
+keeps_step place clones old command (Refused r) new s w = unchanged old new s.1 w
+keeps_step place clones old (Register slot) Done new s w = table_only old new s.people w (within_register old.table new.table slot (lives old.people) (old.table slot) refl s.table w.values)
+keeps_step place clones old Create (Told e) new s w = birth_kept born old new e (λ p i. refl) lives_born still_lives s w
+keeps_step place clones old CreatePending (Told e) new s w = birth_kept born_pending old new e (λ p i. refl) lives_born_pending still_lives_pending s w
+keeps_step place clones old (Delete es) Done new s w = deletes_kept es.items old new s w
+keeps_step place clones old DeleteAll Done new s w = deletes_kept (the_living old.people) old new s w
+keeps_step place clones old (MarkDead e) Done new s w = mark_kept old new e s w
+keeps_step place clones old (AskAlive e) (Yes b) new s w = unchanged old new s.1 w
+keeps_step place clones old (AskLiving e) (Yes b) new s w = unchanged old new s.1 w
+keeps_step place clones old (EntityAt i) (Told e) new s w = unchanged old new s.1 w
+keeps_step place clones old (Insert e value) (Value before) new s w = table_only old new s.people w (within_becomes old.table new.table (place value) _ (lives old.people) s.table.put w.values (put_within s.table.column.values (index_of e) value (lives old.people) s.table.alive.0 (λ j. w.values (place value) s.table.column j s.table.registered)))
+keeps_step place clones old (Insert e value) (InsertRefused r back) new s w = unchanged old new s.2 w
+keeps_step place clones old (Get slot e) (Value found) new s w = unchanged old new s.1 w
+keeps_step place clones old (Remove slot e) (Value found) new s w = table_only old new s.people w (removes_within old.people old.table new.table slot e found (lives old.people) s.table w.values)
+keeps_step place clones old (Clear slot) Done new s w = table_only old new s.people w (within_becomes old.table new.table slot _ (lives old.people) s.table.cleared w.values (λ i h. absurd (false≢true h)))
+keeps_step place clones old (AskCount slot) (Count n) new s w = unchanged old new s.1 w
+keeps_step place clones old (Select x) (Indices is) new s w = unchanged old new s.1 w
+keeps_step place clones old (Reader slot) (NewReader n) new s w = table_only old new s.people w (rechannels_within old.table new.table slot (lives old.people) s.table w.values)
+keeps_step place clones old (Events slot n) (Given es) new s w = table_only old new s.people w (rechannels_within old.table new.table slot (lives old.people) s.table w.values)
+keeps_step place clones old (DropReader slot n) Done new s w = table_only old new s.people w (rechannels_within old.table new.table slot (lives old.people) s.table w.values)
+keeps_step place clones old (Emit slot on) Done new s w = table_only old new s.people w (rechannels_within old.table new.table slot (lives old.people) s.table w.values)
+keeps_step place clones old command reply new s w = absurd s
 
 -- nobody lives who was not born, and no index has a value
 pub begins : {K V : Type 0} (s : State K V) → IsNew s → OnlyLiving s

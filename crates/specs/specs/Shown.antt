@@ -7,6 +7,7 @@ use Rattle.entities.specs.declared.entity.Entity.{Entity}
 use Rattle.entities.specs.Population.{Population, index_of}
 use Rattle.std.specs.Ordering.{nat_cmp}
 use Rattle.std.specs.FinMap as map
+use Rattle.specs.specs.Clones.{IsCloned}
 use Rattle.specs.specs.Registering.{RegistersAs}
 use Rattle.specs.specs.Maps.{Map, has_value, no_value}
 use Rattle.specs.specs.Column.{Column, IsFresh, WantsNone, with_value, without_value, without_values, emptied, column_is}
@@ -14,7 +15,7 @@ use Rattle.hibits.specs.Left.{left}
 use Rattle.storages.specs.Channel.{Channel, emitted, emitted_removals}
 use Rattle.storages.specs.Removals.{lost}
 use Rattle.storages.specs.declared.event.ComponentEvent.TheVariants.{Inserted, Modified, Removed}
-use Rattle.specs.specs.Table.{Table, Becomes, Begins, Registers, Inserts, Gets, Removes, Clears, ClearIsRefused}
+use Rattle.specs.specs.Table.{Table, Becomes, Begins, Registers, Inserts, Gets, GetsClone, Removes, Clears, ClearIsRefused}
 use Rattle.specs.specs.declared.command.Refusal.{Refusal}
 use Rattle.specs.specs.declared.command.Refusal.TheVariants.{WrongGeneration as Wrong, Unregistered, IndexLimit, OutOfMemory, Untracked, UnknownReader}
 use Rattle.specs.specs.Readers.{Rechannels, HasChannel, ChannelIsRefused}
@@ -55,6 +56,12 @@ wants_none_as f (Some c) h = h
 
 fresh_as : {V W : Type 0} (value : V → W) (c : Column V) → IsFresh c → IsFresh (column_as value c)
 fresh_as value c f = record { values = ap (each_as value) f.values ∙ fun_ext (λ i. refl); registered = f.registered; readers = f.readers; emission = f.emission; inner = f.inner }
+
+clone_shown : {V W : Type 0} (value : V → W) (R : V → V → Type 0) (Q : W → W → Type 0) → ((x y : V) → R x y → Q (value x) (value y)) → (o found : Option V) → IsCloned R o found → IsCloned Q (option_map value o) (option_map value found)
+clone_shown value R Q law None None c = tt
+clone_shown value R Q law None (Some y) c = absurd c
+clone_shown value R Q law (Some x) None c = absurd c
+clone_shown value R Q law (Some x) (Some y) c = law x y c
 
 module _ {K L V W : Type 0} {slot : K → L} {value : V → W} {t t' : Table K V} {u u' : Table L W} (s : Shows slot value t t' u u') where
   shown_becomes : (k : K) (m : Column V) → Becomes t k m t' → Becomes u (slot k) (column_as value m) u'
@@ -191,6 +198,14 @@ module _ {K L V W : Type 0} {slot : K → L} {value : V → W} {t t' : Table K V
     column = column_as value g.column;
     registered = s.before k ∙ ap (option_map (column_as value)) g.registered;
     alive = λ a. ap (option_map value) (g.alive a);
+    dead = λ d. ap (option_map value) (g.dead d);
+  }
+
+  pub shown_gets_clone : (R : V → V → Type 0) (Q : W → W → Type 0) → ((x y : V) → R x y → Q (value x) (value y)) → (p : Population) (k : K) (e : Entity) (found : Option V) → GetsClone R p t k e found → GetsClone Q p u (slot k) e (option_map value found)
+  shown_gets_clone R Q law p k e found g = record {
+    column = column_as value g.column;
+    registered = s.before k ∙ ap (option_map (column_as value)) g.registered;
+    alive = λ a. clone_shown value R Q law (g.column.values (index_of e)) found (g.alive a);
     dead = λ d. ap (option_map value) (g.dead d);
   }
 

@@ -1,7 +1,8 @@
 -- The world as a machine with a queue of jobs: its states, its steps and its runs.
-use Rattle.std.specs.Prelude.{◌≡◌, ℕ, Bool, List, [], ◌∷◌, ◌++◌, IsTrue, ◌↔◌, None, length}
+use Rattle.std.specs.Prelude.{◌≡◌, ℕ, List, [], ◌∷◌, ◌++◌, IsTrue, ◌↔◌, None, length}
 use Rattle.entities.specs.Population.{born, born_pending, IsAlive, IsMerged}
 use Rattle.entities.specs.Merges.{the_marked}
+use Rattle.specs.specs.Clones.{Clones}
 use Rattle.specs.specs.declared.command.Maintained.{Maintained}
 use Rattle.specs.specs.declared.command.Command.{Command}
 use Rattle.specs.specs.declared.command.Command.TheVariants.{Register, Create, CreatePending, Delete, DeleteAll, MarkDead, IsAlive as AskAlive, IsLiving as AskLiving, EntityAt, Insert, Get, Remove, Clear, Count as AskCount, Select, Queue, Maintain, Reader, Events, DropReader, Emit}
@@ -18,7 +19,7 @@ use Rattle.specs.specs.Queue.{to_come}
 use Rattle.specs.specs.Readers.{RegistersReader, RegisterReaderIsRefused, ReadsEvents, DropsReader, ReaderIsRefused, Switches, SwitchIsRefused}
 use Rattle.specs.specs.Sets.{SelectIsRefused}
 use Rattle.specs.specs.State.{State, state_of, OnPeople, OnTable, InsertsAlone, RemovesAlone, Deletes, Selects, DeletionWantsMemory, merged}
-use Rattle.specs.specs.Table.{Table, Registers, InsertIsRefused, Gets, GetIsRefused, RemoveIsRefused, Clears, ClearIsRefused, Counts, IsUnregistered}
+use Rattle.specs.specs.Table.{Table, Registers, InsertIsRefused, GetsClone, GetIsRefused, RemoveIsRefused, Clears, ClearIsRefused, Counts, IsUnregistered}
 use Rattle.specs.specs.Marks.{Markers}
 
 -- entities with their components, and the jobs that wait, the first first
@@ -46,61 +47,61 @@ pub record Maintains {S J K V : Type 0} (place : V → K) (marks : Markers K V) 
   pub jobs : RunsJobs place marks does wants m.stopped limit m.ran m.refused (merged old.core) old.jobs new.core new.jobs
   pub left : m.left ≡ length new.jobs
 
--- Why a command is refused, where `allocates` tells of which slots a copy may take memory. An insertion hands its value back, so it has a
+-- Why a command is refused, where `clones` tells of which slots a clone takes no memory. An insertion hands its value back, so it has a
 -- reply of its own.
-abbrev pub IsRefused : {S J K V : Type 0} → (K → Bool) → State K V → Command S J K V → Refusal → Type 0
-IsRefused allocates s (Register slot) OutOfMemory = s.table slot ≡ None
-IsRefused allocates s Create r = BirthIsRefused s.people r
-IsRefused allocates s CreatePending r = BirthIsRefused s.people r
-IsRefused allocates s (Delete es) (Wrong w) = DeathIsRefused s.people es.items w
-IsRefused allocates s (Delete es) OutOfMemory = DeletionWantsMemory s es.items
-IsRefused allocates s DeleteAll OutOfMemory = NobodyLives s.people → ⊥
-IsRefused allocates s (MarkDead e) (Wrong w) = MarkIsRefused s.people e w
-IsRefused allocates s (Get slot e) r = GetIsRefused allocates s.people s.table slot e r
-IsRefused allocates s (Remove slot e) r = RemoveIsRefused s.people s.table slot e r
-IsRefused allocates s (Clear slot) r = ClearIsRefused s.table slot r
-IsRefused allocates s (AskCount slot) r = IsUnregistered s.table slot r
-IsRefused allocates s (Select x) r = SelectIsRefused s.table x r
-IsRefused allocates s (Queue job) OutOfMemory = Unit {0}
-IsRefused allocates s (Maintain limit) OutOfMemory = NoneMarked s.people → ⊥
-IsRefused allocates s (Reader slot) r = RegisterReaderIsRefused (s.table slot) r
-IsRefused allocates s (Events slot n) r = ReaderIsRefused n (s.table slot) r
-IsRefused allocates s (DropReader slot n) r = ReaderIsRefused n (s.table slot) r
-IsRefused allocates s (Emit slot on) r = SwitchIsRefused (s.table slot) r
-IsRefused allocates s command r = ⊥
+abbrev pub IsRefused : {S J K V : Type 0} → Clones K V → State K V → Command S J K V → Refusal → Type 0
+IsRefused clones s (Register slot) OutOfMemory = s.table slot ≡ None
+IsRefused clones s Create r = BirthIsRefused s.people r
+IsRefused clones s CreatePending r = BirthIsRefused s.people r
+IsRefused clones s (Delete es) (Wrong w) = DeathIsRefused s.people es.items w
+IsRefused clones s (Delete es) OutOfMemory = DeletionWantsMemory s es.items
+IsRefused clones s DeleteAll OutOfMemory = NobodyLives s.people → ⊥
+IsRefused clones s (MarkDead e) (Wrong w) = MarkIsRefused s.people e w
+IsRefused clones s (Get slot e) r = GetIsRefused clones s.people s.table slot e r
+IsRefused clones s (Remove slot e) r = RemoveIsRefused s.people s.table slot e r
+IsRefused clones s (Clear slot) r = ClearIsRefused s.table slot r
+IsRefused clones s (AskCount slot) r = IsUnregistered s.table slot r
+IsRefused clones s (Select x) r = SelectIsRefused s.table x r
+IsRefused clones s (Queue job) OutOfMemory = Unit {0}
+IsRefused clones s (Maintain limit) OutOfMemory = NoneMarked s.people → ⊥
+IsRefused clones s (Reader slot) r = RegisterReaderIsRefused (s.table slot) r
+IsRefused clones s (Events slot n) r = ReaderIsRefused n (s.table slot) r
+IsRefused clones s (DropReader slot n) r = ReaderIsRefused n (s.table slot) r
+IsRefused clones s (Emit slot on) r = SwitchIsRefused (s.table slot) r
+IsRefused clones s command r = ⊥
 
--- One command on a core, its reply, and the state after it, where `place` tells the slot of a value. A refusal changes nothing; want of
+-- One command on a core, its reply, and the state after it, where `place` tells the slot of a value, and `clones` what a clone of one is. A refusal changes nothing; want of
 -- memory is one.
-abbrev pub CoreStep : {S J K V : Type 0} → (V → K) → (K → Bool) → State K V → Command S J K V → Reply V → State K V → Type 0
-CoreStep place allocates old command (Refused r) new = IsRefused allocates old command r × (new ≡ old)
-CoreStep place allocates old (Register slot) Done new = OnTable (λ t t'. Registers t slot t') old new
-CoreStep place allocates old Create (Told e) new = OnPeople (λ p p'. Births born p e p') old new
-CoreStep place allocates old CreatePending (Told e) new = OnPeople (λ p p'. Births born_pending p e p') old new
-CoreStep place allocates old (Delete es) Done new = Deletes es.items old new
-CoreStep place allocates old DeleteAll Done new = Deletes (the_living old.people) old new
-CoreStep place allocates old (MarkDead e) Done new = OnPeople (λ p p'. Marks p e p') old new
-CoreStep place allocates old (AskAlive e) (Yes b) new = (IsTrue b ↔ IsMerged old.people e) × (new ≡ old)
-CoreStep place allocates old (AskLiving e) (Yes b) new = (IsTrue b ↔ IsAlive old.people e) × (new ≡ old)
-CoreStep place allocates old (EntityAt i) (Told e) new = IsEntityAt old.people i e × (new ≡ old)
-CoreStep place allocates old (Insert e value) (Value before) new = InsertsAlone place e value before old new
-CoreStep place allocates old (Insert e value) (InsertRefused r back) new = InsertIsRefused place old.people old.table e value r × (back ≡ value) × (new ≡ old)
-CoreStep place allocates old (Get slot e) (Value found) new = Gets old.people old.table slot e found × (new ≡ old)
-CoreStep place allocates old (Remove slot e) (Value found) new = RemovesAlone slot e found old new
-CoreStep place allocates old (Clear slot) Done new = OnTable (λ t t'. Clears t slot t') old new
-CoreStep place allocates old (AskCount slot) (Count n) new = Counts old.table slot n × (new ≡ old)
-CoreStep place allocates old (Select x) (Indices is) new = Selects old x is.items × (new ≡ old)
-CoreStep place allocates old (Reader slot) (NewReader n) new = OnTable (λ t t'. RegistersReader t slot n t') old new
-CoreStep place allocates old (Events slot n) (Given es) new = OnTable (λ t t'. ReadsEvents t slot n es.items t') old new
-CoreStep place allocates old (DropReader slot n) Done new = OnTable (λ t t'. DropsReader t slot n t') old new
-CoreStep place allocates old (Emit slot on) Done new = OnTable (λ t t'. Switches t slot on t') old new
-CoreStep place allocates old command reply new = ⊥
+abbrev pub CoreStep : {S J K V : Type 0} → (V → K) → Clones K V → State K V → Command S J K V → Reply V → State K V → Type 0
+CoreStep place clones old command (Refused r) new = IsRefused clones old command r × (new ≡ old)
+CoreStep place clones old (Register slot) Done new = OnTable (λ t t'. Registers t slot t') old new
+CoreStep place clones old Create (Told e) new = OnPeople (λ p p'. Births born p e p') old new
+CoreStep place clones old CreatePending (Told e) new = OnPeople (λ p p'. Births born_pending p e p') old new
+CoreStep place clones old (Delete es) Done new = Deletes es.items old new
+CoreStep place clones old DeleteAll Done new = Deletes (the_living old.people) old new
+CoreStep place clones old (MarkDead e) Done new = OnPeople (λ p p'. Marks p e p') old new
+CoreStep place clones old (AskAlive e) (Yes b) new = (IsTrue b ↔ IsMerged old.people e) × (new ≡ old)
+CoreStep place clones old (AskLiving e) (Yes b) new = (IsTrue b ↔ IsAlive old.people e) × (new ≡ old)
+CoreStep place clones old (EntityAt i) (Told e) new = IsEntityAt old.people i e × (new ≡ old)
+CoreStep place clones old (Insert e value) (Value before) new = InsertsAlone place e value before old new
+CoreStep place clones old (Insert e value) (InsertRefused r back) new = InsertIsRefused place old.people old.table e value r × (back ≡ value) × (new ≡ old)
+CoreStep place clones old (Get slot e) (Value found) new = GetsClone clones.is_clone old.people old.table slot e found × (new ≡ old)
+CoreStep place clones old (Remove slot e) (Value found) new = RemovesAlone slot e found old new
+CoreStep place clones old (Clear slot) Done new = OnTable (λ t t'. Clears t slot t') old new
+CoreStep place clones old (AskCount slot) (Count n) new = Counts old.table slot n × (new ≡ old)
+CoreStep place clones old (Select x) (Indices is) new = Selects old x is.items × (new ≡ old)
+CoreStep place clones old (Reader slot) (NewReader n) new = OnTable (λ t t'. RegistersReader t slot n t') old new
+CoreStep place clones old (Events slot n) (Given es) new = OnTable (λ t t'. ReadsEvents t slot n es.items t') old new
+CoreStep place clones old (DropReader slot n) Done new = OnTable (λ t t'. DropsReader t slot n t') old new
+CoreStep place clones old (Emit slot on) Done new = OnTable (λ t t'. Switches t slot on t') old new
+CoreStep place clones old command reply new = ⊥
 
-module _ {S J K V : Type 0} (place : V → K) (allocates : K → Bool) (marks : Markers K V) (does : J → State K V → List (Job S J K V) → State K V → Type 0) (wants : J → State K V → Type 0) where
+module _ {S J K V : Type 0} (place : V → K) (clones : Clones K V) (marks : Markers K V) (does : J → State K V → List (Job S J K V) → State K V → Type 0) (wants : J → State K V → Type 0) where
   -- One command, its reply, and the world's state after it, where `does` tells what a job of the user's may do.
   abbrev pub Step : WorldState S J K V → Command S J K V → Reply V → WorldState S J K V → Type 0
   Step old (Queue job) Done new = Queues job old new
   Step old (Maintain limit) (Kept m) new = Maintains place marks does wants old limit m new
-  Step old command reply new = OnCore (λ s s'. CoreStep place allocates s command reply s') old new
+  Step old command reply new = OnCore (λ s s'. CoreStep place clones s command reply s') old new
 
   -- one step after another
   abbrev pub Run : WorldState S J K V → List (Command S J K V) → List (Reply V) → WorldState S J K V → Type 0

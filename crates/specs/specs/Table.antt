@@ -1,5 +1,5 @@
 -- Component tables: for each slot its values and its channel, or nothing where the slot is not registered.
-use Rattle.std.specs.Prelude.{◌≡◌, ◌≢◌, ℕ, Bool, Option, Some, None, IsSome, IsTrue, MatchOption, length}
+use Rattle.std.specs.Prelude.{◌≡◌, ◌≢◌, ℕ, Option, Some, None, IsSome, IsTrue, MatchOption, length}
 use Rattle.std.specs.FinSet as set
 use Rattle.hibits.specs.Sets.{Layered}
 use Rattle.hibits.specs.Left.{left}
@@ -7,6 +7,7 @@ use Rattle.entities.specs.declared.entity.Entity.{Entity}
 use Rattle.entities.specs.declared.entity.WrongGeneration.{WrongGeneration}
 use Rattle.storages.specs.declared.write_storage.TheConstants.{INSERT}
 use Rattle.entities.specs.Population.{index_of, number_of, Population, IsAlive, generation_now}
+use Rattle.specs.specs.Clones.{Clones, IsCloned}
 use Rattle.specs.specs.Maps.{has_value, no_value}
 use Rattle.specs.specs.Column.{Column, IsFresh, WantsNone, wants_memory, with_value, without_value, emptied}
 use Rattle.specs.specs.declared.command.Refusal.{Refusal}
@@ -67,6 +68,13 @@ pub record Gets {K V : Type 0} (p : Population) (table : Table K V) (slot : K) (
   pub alive : IsAlive p e → found ≡ column.values (index_of e)
   pub dead : (IsAlive p e → ⊥) → found ≡ None
 
+-- the same, of a clone
+pub record GetsClone {K V : Type 0} (is_clone : V → V → Type 0) (p : Population) (table : Table K V) (slot : K) (e : Entity) (found : Option V) : Type 0 where
+  pub column : Column V
+  pub registered : table slot ≡ Some column
+  pub alive : IsAlive p e → IsCloned is_clone (column.values (index_of e)) found
+  pub dead : (IsAlive p e → ⊥) → found ≡ None
+
 -- a copy may want memory only where there is a value
 pub record CopyWantsMemory {V : Type 0} (p : Population) (slot : Option (Column V)) (e : Entity) : Type 0 where
   pub column : Column V
@@ -74,13 +82,13 @@ pub record CopyWantsMemory {V : Type 0} (p : Population) (slot : Option (Column 
   pub alive : IsAlive p e
   pub present : IsSome (column.values (index_of e))
 
-abbrev pub GetIsRefused : {K V : Type 0} → (K → Bool) → Population → Table K V → K → Entity → Refusal → Type 0
-GetIsRefused allocates p table slot e (Wrong w) = ⊥
-GetIsRefused allocates p table slot e Unregistered = table slot ≡ None
-GetIsRefused allocates p table slot e IndexLimit = ⊥
-GetIsRefused allocates p table slot e OutOfMemory = IsTrue (allocates slot) × CopyWantsMemory p (table slot) e
-GetIsRefused allocates p table slot e Untracked = ⊥
-GetIsRefused allocates p table slot e UnknownReader = ⊥
+abbrev pub GetIsRefused : {K V : Type 0} → Clones K V → Population → Table K V → K → Entity → Refusal → Type 0
+GetIsRefused clones p table slot e (Wrong w) = ⊥
+GetIsRefused clones p table slot e Unregistered = table slot ≡ None
+GetIsRefused clones p table slot e IndexLimit = ⊥
+GetIsRefused clones p table slot e OutOfMemory = (clones.is_free slot → ⊥) × CopyWantsMemory p (table slot) e
+GetIsRefused clones p table slot e Untracked = ⊥
+GetIsRefused clones p table slot e UnknownReader = ⊥
 
 pub record Removes {K V : Type 0} (p : Population) (old : Table K V) (slot : K) (e : Entity) (found : Option V) (new : Table K V) : Type 0 where
   pub column : Column V

@@ -9,16 +9,16 @@ ghost use Rattle.specs.specs.declared.command.Command.TheVariants.{Register, Del
 use crate::command::{Command, Refusal, Reply, SetExpr};
 use crate::core_parts::{Core, Parts};
 use crate::job::Job;
-use crate::slots::Storages;
+use crate::slots::{CloneStorages, Storages};
 use crate::world::World;
 use crate::world_job::WorldJob;
 use entities::{CreateError, Entity};
 use storages::ReaderId;
 
-impl<S: Storages, J: WorldJob<S>> World<S, J> {
+impl<S: CloneStorages, J: WorldJob<S>> World<S, J> {
     /// Does one command.
     pub fn apply(&mut self, command: Command<S, J>) -> Reply<S::Value>
-        ensures step { Step S.place S.allocates S.marks J.does J.wants (world_state S.table S.ids self.old) command result (world_state S.table S.ids self.new) }
+        ensures step { Step S.place S.clones S.marks J.does J.wants (world_state S.table S.ids self.old) command result (world_state S.table S.ids self.new) }
         ensures living { KeepsLiving (state_of S.table S.ids self.old) (state_of S.table S.ids self.new) }
         ensures gone { KeepsGone (state_of S.table S.ids self.old).people (state_of S.table S.ids self.new).people }
     {
@@ -26,7 +26,7 @@ impl<S: Storages, J: WorldJob<S>> World<S, J> {
     }
 
     fn answer(&mut self, command: Command<S, J>) -> Reply<S::Value>
-        ensures { Step S.place S.allocates S.marks J.does J.wants (world_state S.table S.ids self.old) command result (world_state S.table S.ids self.new) }
+        ensures { Step S.place S.clones S.marks J.does J.wants (world_state S.table S.ids self.old) command result (world_state S.table S.ids self.new) }
     {
         match command {
             Command::Register(slot) => self.answer_register(slot),
@@ -54,7 +54,7 @@ impl<S: Storages, J: WorldJob<S>> World<S, J> {
     }
 
     fn answer_delete(&mut self, list: Vec<Entity>) -> Reply<S::Value>
-        ensures { Step S.place S.allocates S.marks J.does J.wants (world_state S.table S.ids self.old) (Delete list) result (world_state S.table S.ids self.new) }
+        ensures { Step S.place S.clones S.marks J.does J.wants (world_state S.table S.ids self.old) (Delete list) result (world_state S.table S.ids self.new) }
     {
         match self.parts.core.delete_entities(list.as_slice()) {
             Ok(()) => Reply::Done,
@@ -63,7 +63,7 @@ impl<S: Storages, J: WorldJob<S>> World<S, J> {
     }
 
     fn answer_delete_all(&mut self) -> Reply<S::Value>
-        ensures { Step S.place S.allocates S.marks J.does J.wants (world_state S.table S.ids self.old) DeleteAll result (world_state S.table S.ids self.new) }
+        ensures { Step S.place S.clones S.marks J.does J.wants (world_state S.table S.ids self.old) DeleteAll result (world_state S.table S.ids self.new) }
     {
         match self.parts.core.delete_all() {
             Ok(()) => Reply::Done,
@@ -72,7 +72,7 @@ impl<S: Storages, J: WorldJob<S>> World<S, J> {
     }
 
     fn answer_mark(&mut self, e: Entity) -> Reply<S::Value>
-        ensures { Step S.place S.allocates S.marks J.does J.wants (world_state S.table S.ids self.old) (MarkDead e) result (world_state S.table S.ids self.new) }
+        ensures { Step S.place S.clones S.marks J.does J.wants (world_state S.table S.ids self.old) (MarkDead e) result (world_state S.table S.ids self.new) }
     {
         match self.parts.core.parts.entities.delete(e) {
             Ok(()) => Reply::Done,
@@ -81,7 +81,7 @@ impl<S: Storages, J: WorldJob<S>> World<S, J> {
     }
 
     fn answer_queue(&mut self, job: Job<S, J>) -> Reply<S::Value>
-        ensures { Step S.place S.allocates S.marks J.does J.wants (world_state S.table S.ids self.old) (Queue job) result (world_state S.table S.ids self.new) }
+        ensures { Step S.place S.clones S.marks J.does J.wants (world_state S.table S.ids self.old) (Queue job) result (world_state S.table S.ids self.new) }
     {
         match self.parts.lazy.push(job) {
             Ok(()) => Reply::Done,
@@ -90,7 +90,7 @@ impl<S: Storages, J: WorldJob<S>> World<S, J> {
     }
 
     fn answer_maintain(&mut self, limit: u64) -> Reply<S::Value>
-        ensures { Step S.place S.allocates S.marks J.does J.wants (world_state S.table S.ids self.old) (Maintain limit) result (world_state S.table S.ids self.new) }
+        ensures { Step S.place S.clones S.marks J.does J.wants (world_state S.table S.ids self.old) (Maintain limit) result (world_state S.table S.ids self.new) }
     {
         match self.maintain(limit) {
             Ok(maintained) => Reply::Maintained(maintained),
@@ -99,7 +99,7 @@ impl<S: Storages, J: WorldJob<S>> World<S, J> {
     }
 
     fn answer_register(&mut self, slot: S::Slot) -> Reply<S::Value>
-        ensures { Step S.place S.allocates S.marks J.does J.wants (world_state S.table S.ids self.old) (Register slot) result (world_state S.table S.ids self.new) }
+        ensures { Step S.place S.clones S.marks J.does J.wants (world_state S.table S.ids self.old) (Register slot) result (world_state S.table S.ids self.new) }
     {
         match self
             .parts
@@ -114,7 +114,7 @@ impl<S: Storages, J: WorldJob<S>> World<S, J> {
     }
 
     fn answer_insert(&mut self, e: Entity, value: S::Value) -> Reply<S::Value>
-        ensures { Step S.place S.allocates S.marks J.does J.wants (world_state S.table S.ids self.old) (Insert e value) result (world_state S.table S.ids self.new) }
+        ensures { Step S.place S.clones S.marks J.does J.wants (world_state S.table S.ids self.old) (Insert e value) result (world_state S.table S.ids self.new) }
     {
         let Parts { entities, storages } = &mut self.parts.core.parts;
         match storages.insert(entities, e, value) {
@@ -124,7 +124,7 @@ impl<S: Storages, J: WorldJob<S>> World<S, J> {
     }
 
     fn answer_get(&self, slot: S::Slot, e: Entity) -> Reply<S::Value>
-        ensures { Step S.place S.allocates S.marks J.does J.wants (world_state S.table S.ids self.now) (Get slot e) result (world_state S.table S.ids self.now) }
+        ensures { Step S.place S.clones S.marks J.does J.wants (world_state S.table S.ids self.now) (Get slot e) result (world_state S.table S.ids self.now) }
     {
         let Parts { entities, storages } = &self.parts.core.parts;
         match storages.get(entities, slot, e) {
@@ -134,7 +134,7 @@ impl<S: Storages, J: WorldJob<S>> World<S, J> {
     }
 
     fn answer_remove(&mut self, slot: S::Slot, e: Entity) -> Reply<S::Value>
-        ensures { Step S.place S.allocates S.marks J.does J.wants (world_state S.table S.ids self.old) (Remove slot e) result (world_state S.table S.ids self.new) }
+        ensures { Step S.place S.clones S.marks J.does J.wants (world_state S.table S.ids self.old) (Remove slot e) result (world_state S.table S.ids self.new) }
     {
         let Parts { entities, storages } = &mut self.parts.core.parts;
         match storages.remove(entities, slot, e) {
@@ -144,7 +144,7 @@ impl<S: Storages, J: WorldJob<S>> World<S, J> {
     }
 
     fn answer_clear(&mut self, slot: S::Slot) -> Reply<S::Value>
-        ensures { Step S.place S.allocates S.marks J.does J.wants (world_state S.table S.ids self.old) (Clear slot) result (world_state S.table S.ids self.new) }
+        ensures { Step S.place S.clones S.marks J.does J.wants (world_state S.table S.ids self.old) (Clear slot) result (world_state S.table S.ids self.new) }
     {
         match self.parts.core.parts.storages.clear(slot) {
             Ok(()) => Reply::Done,
@@ -153,7 +153,7 @@ impl<S: Storages, J: WorldJob<S>> World<S, J> {
     }
 
     fn answer_select(&self, set: SetExpr<S::Slot>) -> Reply<S::Value>
-        ensures { Step S.place S.allocates S.marks J.does J.wants (world_state S.table S.ids self.now) (Select set) result (world_state S.table S.ids self.now) }
+        ensures { Step S.place S.clones S.marks J.does J.wants (world_state S.table S.ids self.now) (Select set) result (world_state S.table S.ids self.now) }
     {
         match self.parts.core.select(&set) {
             Ok(indices) => Reply::Indices(indices),
@@ -162,7 +162,7 @@ impl<S: Storages, J: WorldJob<S>> World<S, J> {
     }
 
     fn answer_reader(&mut self, slot: S::Slot) -> Reply<S::Value>
-        ensures { Step S.place S.allocates S.marks J.does J.wants (world_state S.table S.ids self.old) (Reader slot) result (world_state S.table S.ids self.new) }
+        ensures { Step S.place S.clones S.marks J.does J.wants (world_state S.table S.ids self.old) (Reader slot) result (world_state S.table S.ids self.new) }
     {
         match self.parts.core.parts.storages.register_reader(slot) {
             Ok(reader) => Reply::Reader(reader),
@@ -171,7 +171,7 @@ impl<S: Storages, J: WorldJob<S>> World<S, J> {
     }
 
     fn answer_events(&mut self, slot: S::Slot, reader: ReaderId) -> Reply<S::Value>
-        ensures { Step S.place S.allocates S.marks J.does J.wants (world_state S.table S.ids self.old) (Events slot reader) result (world_state S.table S.ids self.new) }
+        ensures { Step S.place S.clones S.marks J.does J.wants (world_state S.table S.ids self.old) (Events slot reader) result (world_state S.table S.ids self.new) }
     {
         match self.parts.core.parts.storages.read(slot, &reader) {
             Ok(events) => Reply::Events(events),
@@ -180,7 +180,7 @@ impl<S: Storages, J: WorldJob<S>> World<S, J> {
     }
 
     fn answer_drop_reader(&mut self, slot: S::Slot, reader: ReaderId) -> Reply<S::Value>
-        ensures { Step S.place S.allocates S.marks J.does J.wants (world_state S.table S.ids self.old) (DropReader slot reader) result (world_state S.table S.ids self.new) }
+        ensures { Step S.place S.clones S.marks J.does J.wants (world_state S.table S.ids self.old) (DropReader slot reader) result (world_state S.table S.ids self.new) }
     {
         match self.parts.core.parts.storages.drop_reader(slot, reader) {
             Ok(()) => Reply::Done,
@@ -189,7 +189,7 @@ impl<S: Storages, J: WorldJob<S>> World<S, J> {
     }
 
     fn answer_emit(&mut self, slot: S::Slot, on: bool) -> Reply<S::Value>
-        ensures { Step S.place S.allocates S.marks J.does J.wants (world_state S.table S.ids self.old) (Emit slot on) result (world_state S.table S.ids self.new) }
+        ensures { Step S.place S.clones S.marks J.does J.wants (world_state S.table S.ids self.old) (Emit slot on) result (world_state S.table S.ids self.new) }
     {
         match self.parts.core.parts.storages.set_event_emission(slot, on) {
             Ok(()) => Reply::Done,

@@ -3,6 +3,7 @@ ghost use Rattle.std.specs.Prelude.{◌≡◌, Some, IfOk, IfErr};
 ghost use Rattle.std.specs.Borrow.{sem};
 ghost use Rattle.specs.specs.Building.{lent_to, built, shown, RestsMarked, MaybePuts, PutsAlone};
 ghost use Rattle.specs.specs.Field.{FieldInsertIsRefused, field_column};
+ghost use Rattle.specs.specs.Going.{GoesOn};
 ghost use Rattle.specs.specs.Gone.{KeepsGone};
 ghost use Rattle.specs.specs.Marking.{HasMarkerThen, GetsNoMarker};
 ghost use Rattle.specs.specs.Reached.{KeepsLiving};
@@ -13,18 +14,38 @@ use crate::has::{Field, Has};
 use crate::slots::{Held, Storages};
 use entities::Entity;
 use saveload::MarkError;
+use std::fmt::Debug;
+use std::{error, fmt};
 use storages::{Component, UnprotectedStorage};
+
+/// Why a builder did not give a component, with the component. Its entity is marked, if it is alive.
+#[derive(Debug, Drop)]
+pub struct BuildError<T> {
+    /// Why the component was refused.
+    pub refusal: Refusal,
+    /// The component.
+    pub component: T,
+}
+
+impl<T> fmt::Display for BuildError<T> {
+    fn fmt<W: fmt::Write>(&self, f: &mut fmt::Formatter<W>) -> fmt::Result {
+        let refusal = &self.refusal;
+        write!(f, "{refusal}")
+    }
+}
+
+impl<T: Debug + Drop> error::Error for BuildError<T> {}
 
 /// Puts components at an entity that is being built. Ports `specs::Builder`.
 pub trait Builder<S: Held>: Sized {
     /// The builder again, once the component is at its entity. A refused call drops the builder, and hands the component back.
-    fn with<T: Component + Drop, I>(self, component: T) -> Result<Self, (Refusal, T)>
+    fn with<T: Component + Drop, I>(self, component: T) -> Result<Self, BuildError<T>>
     where
         S: Has<T, I>,
         T::Storage: UnprotectedStorage<T>;
 
     /// The same for a component that is there, and without one the builder again.
-    fn maybe_with<T: Component + Drop, I>(self, component: Option<T>) -> Result<Self, (Refusal, T)>
+    fn maybe_with<T: Component + Drop, I>(self, component: Option<T>) -> Result<Self, BuildError<T>>
     where
         S: Has<T, I>,
         T::Storage: UnprotectedStorage<T>;
@@ -69,6 +90,7 @@ impl<'a, S: Storages> EntityBuilder<'a, S> {
         ensures entity { IfOk result (λ b. built b ≡ built self.entry) }
         ensures ok { IfOk result (λ b. HasMarkerThen S.marks slot (built self.entry) (shown S.table S.ids self.entry) (shown S.table S.ids b)) }
         ensures living { IfOk result (λ b. KeepsLiving (shown S.table S.ids self.entry) (shown S.table S.ids b)) }
+        ensures goes_on { IfOk result (λ b. GoesOn (shown S.table S.ids self.entry) (shown S.table S.ids b)) }
         ensures gone { IfOk result (λ b. KeepsGone (shown S.table S.ids self.entry).people (shown S.table S.ids b).people) }
         ensures refused { IfErr result (GetsNoMarker S.marks (shown S.table S.ids self.entry) slot (built self.entry)) }
     {
@@ -79,7 +101,7 @@ impl<'a, S: Storages> EntityBuilder<'a, S> {
 
 impl<'a, S: Held> Builder<S> for EntityBuilder<'a, S> {
     #[inline(always)]
-    fn with<T: Component + Drop, I>(self, component: T) -> Result<Self, (Refusal, T)>
+    fn with<T: Component + Drop, I>(self, component: T) -> Result<Self, BuildError<T>>
     where
         S: Has<T, I>,
         T::Storage: UnprotectedStorage<T>,
@@ -88,15 +110,16 @@ impl<'a, S: Held> Builder<S> for EntityBuilder<'a, S> {
         ensures entity { IfOk result (λ b. built b ≡ built self.entry) }
         ensures ok { IfOk result (λ b. PutsAlone S.place (built self.entry) (S.as_value component) (shown S.table S.ids self.entry) (shown S.table S.ids b)) }
         ensures living { IfOk result (λ b. KeepsLiving (shown S.table S.ids self.entry) (shown S.table S.ids b)) }
+        ensures goes_on { IfOk result (λ b. GoesOn (shown S.table S.ids self.entry) (shown S.table S.ids b)) }
         ensures gone { IfOk result (λ b. KeepsGone (shown S.table S.ids self.entry).people (shown S.table S.ids b).people) }
-        ensures refused { IfErr result (λ r. FieldInsertIsRefused (shown S.table S.ids self.entry).people (field_column (S.part (lent_to self.entry).now.parts.storages)) (built self.entry) r.0) }
-        ensures back { IfErr result (λ r. r.1 ≡ component) }
+        ensures refused { IfErr result (λ r. FieldInsertIsRefused (shown S.table S.ids self.entry).people (field_column (S.part (lent_to self.entry).now.parts.storages)) (built self.entry) r.refusal) }
+        ensures back { IfErr result (λ r. r.component ≡ component) }
     {
         let EntityBuilder { core, entity } = self;
         core.build_with(entity, component)
     }
 
-    fn maybe_with<T: Component + Drop, I>(self, component: Option<T>) -> Result<Self, (Refusal, T)>
+    fn maybe_with<T: Component + Drop, I>(self, component: Option<T>) -> Result<Self, BuildError<T>>
     where
         S: Has<T, I>,
         T::Storage: UnprotectedStorage<T>,
@@ -105,9 +128,10 @@ impl<'a, S: Held> Builder<S> for EntityBuilder<'a, S> {
         ensures entity { IfOk result (λ b. built b ≡ built self.entry) }
         ensures ok { IfOk result (λ b. MaybePuts S.place S.as_value (built self.entry) component (shown S.table S.ids self.entry) (shown S.table S.ids b)) }
         ensures living { IfOk result (λ b. KeepsLiving (shown S.table S.ids self.entry) (shown S.table S.ids b)) }
+        ensures goes_on { IfOk result (λ b. GoesOn (shown S.table S.ids self.entry) (shown S.table S.ids b)) }
         ensures gone { IfOk result (λ b. KeepsGone (shown S.table S.ids self.entry).people (shown S.table S.ids b).people) }
-        ensures refused { IfErr result (λ r. FieldInsertIsRefused (shown S.table S.ids self.entry).people (field_column (S.part (lent_to self.entry).now.parts.storages)) (built self.entry) r.0) }
-        ensures back { IfErr result (λ r. component ≡ Some r.1) }
+        ensures refused { IfErr result (λ r. FieldInsertIsRefused (shown S.table S.ids self.entry).people (field_column (S.part (lent_to self.entry).now.parts.storages)) (built self.entry) r.refusal) }
+        ensures back { IfErr result (λ r. component ≡ Some r.component) }
     {
         let EntityBuilder { core, entity } = self;
         match component {

@@ -7,6 +7,7 @@ ghost use Rattle.specs.specs.Building.{lent_to, built, MarksOne, RestsUnborn, Re
 ghost use Rattle.specs.specs.Building as building;
 ghost use Rattle.specs.specs.Creating as creating;
 ghost use Rattle.specs.specs.Field.{FieldInsertIsRefused, field_column};
+ghost use Rattle.specs.specs.Going.{GoesOn};
 ghost use Rattle.specs.specs.Gone.{KeepsGone};
 ghost use Rattle.specs.specs.Marking.{HasMarkerThen, GetsNoMarker};
 ghost use Rattle.specs.specs.People.{Births};
@@ -14,9 +15,8 @@ ghost use Rattle.specs.specs.Reached.{KeepsLiving};
 ghost use Rattle.specs.specs.Refused.{CreateIsRefused};
 ghost use Rattle.specs.specs.State.{core_state, parts_state, OnPeople};
 
-use crate::builder::EntityBuilder;
+use crate::builder::{BuildError, EntityBuilder};
 use crate::by_type;
-use crate::command::Refusal;
 use crate::core_parts::{Core, Parts};
 use crate::create_iter::CreateIter;
 use crate::has::{Field, Has};
@@ -33,6 +33,7 @@ impl<S: Held> Core<S> {
         ensures same_reference { IfOk result (λ b. (lent_to b).ghost_name ≡ self.entry.ghost_name) }
         ensures ok { IfOk result (λ b. OnPeople (λ p p'. Births born p (built b) p') (core_state S.table S.ids self.old) (building.shown S.table S.ids b)) }
         ensures living { IfOk result (λ b. KeepsLiving (core_state S.table S.ids self.old) (building.shown S.table S.ids b)) }
+        ensures goes_on { IfOk result (λ b. GoesOn (core_state S.table S.ids self.old) (building.shown S.table S.ids b)) }
         ensures gone { IfOk result (λ b. KeepsGone (core_state S.table S.ids self.old).people (building.shown S.table S.ids b).people) }
         ensures refused { IfErr result (CreateIsRefused (core_state S.table S.ids self.old).people) }
     {
@@ -57,6 +58,7 @@ impl<S: Held> Core<S> {
         ensures storages { self.new.parts.storages ≡ self.old.parts.storages }
         ensures ok { IfOk result (λ e. OnPeople (λ p p'. Births born p e p') (core_state S.table S.ids self.old) (core_state S.table S.ids self.new)) }
         ensures living { OnOk result (KeepsLiving (core_state S.table S.ids self.old) (core_state S.table S.ids self.new)) }
+        ensures goes_on { OnOk result (GoesOn (core_state S.table S.ids self.old) (core_state S.table S.ids self.new)) }
         ensures gone { OnOk result (KeepsGone (core_state S.table S.ids self.old).people (core_state S.table S.ids self.new).people) }
         ensures refused { IfErr result (CreateIsRefused (core_state S.table S.ids self.old).people) }
         ensures err { OnErr result (self.new ≡ self.old) }
@@ -83,7 +85,7 @@ impl<S: Held> Core<S> {
         &mut self,
         entity: Entity,
         component: T,
-    ) -> Result<EntityBuilder<'_, S>, (Refusal, T)>
+    ) -> Result<EntityBuilder<'_, S>, BuildError<T>>
     where
         S: Has<T, I>,
         T::Storage: UnprotectedStorage<T>,
@@ -92,9 +94,10 @@ impl<S: Held> Core<S> {
         ensures entity { IfOk result (λ b. built b ≡ entity) }
         ensures ok { IfOk result (λ b. PutsAlone S.place entity (S.as_value component) (core_state S.table S.ids self.old) (building.shown S.table S.ids b)) }
         ensures living { IfOk result (λ b. KeepsLiving (core_state S.table S.ids self.old) (building.shown S.table S.ids b)) }
+        ensures goes_on { IfOk result (λ b. GoesOn (core_state S.table S.ids self.old) (building.shown S.table S.ids b)) }
         ensures gone { IfOk result (λ b. KeepsGone (core_state S.table S.ids self.old).people (building.shown S.table S.ids b).people) }
-        ensures refused { IfErr result (λ r. FieldInsertIsRefused (core_state S.table S.ids self.old).people (field_column (S.part self.old.parts.storages)) entity r.0) }
-        ensures back { IfErr result (λ r. r.1 ≡ component) }
+        ensures refused { IfErr result (λ r. FieldInsertIsRefused (core_state S.table S.ids self.old).people (field_column (S.part self.old.parts.storages)) entity r.refusal) }
+        ensures back { IfErr result (λ r. r.component ≡ component) }
     {
         put_or_mark(&mut self.parts, entity, component)?;
         Ok(EntityBuilder { core: self, entity })
@@ -113,6 +116,7 @@ impl<S: Storages> Core<S> {
         ensures entity { IfOk result (λ b. built b ≡ entity) }
         ensures ok { IfOk result (λ b. HasMarkerThen S.marks slot entity (core_state S.table S.ids self.old) (building.shown S.table S.ids b)) }
         ensures living { IfOk result (λ b. KeepsLiving (core_state S.table S.ids self.old) (building.shown S.table S.ids b)) }
+        ensures goes_on { IfOk result (λ b. GoesOn (core_state S.table S.ids self.old) (building.shown S.table S.ids b)) }
         ensures gone { IfOk result (λ b. KeepsGone (core_state S.table S.ids self.old).people (building.shown S.table S.ids b).people) }
         ensures refused { IfErr result (GetsNoMarker S.marks (core_state S.table S.ids self.old) slot entity) }
     {
@@ -134,21 +138,22 @@ fn put_or_mark<T: Component + Drop, S: Has<T, I>, I>(
     parts: &mut Parts<S>,
     entity: Entity,
     component: T,
-) -> Result<(), (Refusal, T)>
+) -> Result<(), BuildError<T>>
 where
     T::Storage: UnprotectedStorage<T>,
     ensures ok { OnOk result (PutsAlone S.place entity (S.as_value component) (parts_state S.table S.ids parts.old) (parts_state S.table S.ids parts.new)) }
     ensures living { OnOk result (KeepsLiving (parts_state S.table S.ids parts.old) (parts_state S.table S.ids parts.new)) }
+    ensures goes_on { OnOk result (GoesOn (parts_state S.table S.ids parts.old) (parts_state S.table S.ids parts.new)) }
     ensures gone { OnOk result (KeepsGone (parts_state S.table S.ids parts.old).people (parts_state S.table S.ids parts.new).people) }
     ensures err { OnErr result (MarksOne entity (parts_state S.table S.ids parts.old) (parts_state S.table S.ids parts.new)) }
-    ensures refused { IfErr result (λ r. FieldInsertIsRefused (parts_state S.table S.ids parts.old).people (field_column (S.part parts.old.storages)) entity r.0) }
-    ensures back { IfErr result (λ r. r.1 ≡ component) }
+    ensures refused { IfErr result (λ r. FieldInsertIsRefused (parts_state S.table S.ids parts.old).people (field_column (S.part parts.old.storages)) entity r.refusal) }
+    ensures back { IfErr result (λ r. r.component ≡ component) }
 {
     match by_type::insert(&mut parts.storages, &parts.entities, entity, component) {
         Ok(_before) => Ok(()),
-        Err(refused) => {
+        Err((refusal, component)) => {
             mark_if_alive(&mut parts.entities, entity);
-            Err(refused)
+            Err(BuildError { refusal, component })
         }
     }
 }
@@ -162,6 +167,7 @@ fn give_marker<S: Storages>(
 ) -> Result<(), MarkError>
     ensures ok { OnOk result (HasMarkerThen S.marks slot entity (parts_state S.table S.ids parts.old) (parts_state S.table S.ids parts.new)) }
     ensures living { OnOk result (KeepsLiving (parts_state S.table S.ids parts.old) (parts_state S.table S.ids parts.new)) }
+    ensures goes_on { OnOk result (GoesOn (parts_state S.table S.ids parts.old) (parts_state S.table S.ids parts.new)) }
     ensures gone { OnOk result (KeepsGone (parts_state S.table S.ids parts.old).people (parts_state S.table S.ids parts.new).people) }
     ensures err { OnErr result (MarksOne entity (parts_state S.table S.ids parts.old) (parts_state S.table S.ids parts.new)) }
     ensures refused { IfErr result (GetsNoMarker S.marks (parts_state S.table S.ids parts.old) slot entity) }

@@ -6,10 +6,9 @@ ghost use Rattle.storages.specs.Meaning.{HasRoom};
 ghost use Rattle.storages.specs.Slot.{indices_of};
 ghost use Rattle.specs.specs.Registering.{RegistersAs, column_with};
 ghost use Rattle.specs.specs.Table.{Registers, Inserts, InsertIsRefused, Gets, Removes, Clears};
-ghost use Rattle.specs.specs.Field.{FieldInserts, FieldGets, FieldRemoves, FieldClears, FieldInsertIsRefused, FieldGetIsRefused, FieldRemoveIsRefused, FieldClearIsRefused, Holds, field_column, field_room};
+ghost use Rattle.specs.specs.Field.{FieldInserts, FieldGets, FieldGetsClone, FieldRemoves, FieldClears, FieldInsertIsRefused, FieldGetIsRefused, FieldRemoveIsRefused, FieldClearIsRefused, Holds, field_column, field_room};
 
 use crate::command::Refusal;
-use crate::duplicate::Duplicate;
 use crate::field;
 use crate::has::Has;
 use entities::{EntitiesRes, Entity};
@@ -41,8 +40,8 @@ where
     }
 }
 
-/// A copy of the component of an entity, or none where the entity is not alive or has none.
-pub fn get<T: Component + Duplicate, S: Has<T, I>, I>(
+/// The component of an entity, copied, or none where the entity is not alive or has none. It takes no memory.
+pub fn get<T: Component + Copy, S: Has<T, I>, I>(
     storages: &S,
     entities: &EntitiesRes,
     e: Entity,
@@ -51,10 +50,27 @@ where
     T::Storage: UnprotectedStorage<T>,
     ensures ok { IfOk result (λ found. Gets (population entities.now) (S.table storages.now) S.the_slot e (option_map S.as_value found)) }
     ensures field { IfOk result (λ found. FieldGets (population entities.now) (field_column (S.part storages.now)) e found) }
-    ensures refused { IfErr result (FieldGetIsRefused T.allocates (population entities.now) (field_column (S.part storages.now)) e) }
+    ensures refused { IfErr result (FieldGetIsRefused (Unit {0}) (population entities.now) (field_column (S.part storages.now)) e) }
 {
     match storages.field() {
-        Some(storage) => field::get_in(storage, entities, e),
+        Some(storage) => Ok(field::find(storage, entities, e).copied()),
+        None => Err(Refusal::Unregistered),
+    }
+}
+
+/// A clone of the component of an entity, or none where the entity is not alive or has none. It takes the memory that the clone takes.
+pub fn get_clone<T: Component + Clone, S: Has<T, I>, I>(
+    storages: &S,
+    entities: &EntitiesRes,
+    e: Entity,
+) -> Result<Option<T>, Refusal>
+where
+    T::Storage: UnprotectedStorage<T>,
+    ensures field { IfOk result (λ found. FieldGetsClone T.is_clone (population entities.now) (field_column (S.part storages.now)) e found) }
+    ensures refused { IfErr result (FieldGetIsRefused ((t : T) → T.is_infallible t) (population entities.now) (field_column (S.part storages.now)) e) }
+{
+    match storages.field() {
+        Some(storage) => field::get_clone_in(storage, entities, e),
         None => Err(Refusal::Unregistered),
     }
 }

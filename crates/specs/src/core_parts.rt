@@ -5,6 +5,7 @@ ghost use Rattle.std.specs.List.{All};
 ghost use Rattle.entities.specs.Census.{population};
 ghost use Rattle.entities.specs.Population.{no_one, IsMerged};
 ghost use Rattle.entities.specs.Merges.{the_marked};
+ghost use Rattle.specs.specs.Going.{GoesOn};
 ghost use Rattle.specs.specs.Gone.{IsGone, KeepsGone};
 ghost use Rattle.specs.specs.People.{NoneMarked};
 ghost use Rattle.specs.specs.Reached.{HasNoValue, IsNew, KeepsLiving, OnlyLiving};
@@ -124,6 +125,7 @@ impl<S: Storages> Core<S> {
         ensures ok { OnOk result (Deletes (e ∷ []) (core_state S.table S.ids self.old) (core_state S.table S.ids self.new)) }
         ensures gone { OnOk result (IsGone (core_state S.table S.ids self.new).people e) }
         ensures living { KeepsLiving (core_state S.table S.ids self.old) (core_state S.table S.ids self.new) }
+        ensures goes_on { GoesOn (core_state S.table S.ids self.old) (core_state S.table S.ids self.new) }
         ensures stays_gone { KeepsGone (core_state S.table S.ids self.old).people (core_state S.table S.ids self.new).people }
         ensures refused { IfErr result (DeleteIsRefused (core_state S.table S.ids self.old) (e ∷ [])) }
         ensures err { OnErr result (core_state S.table S.ids self.new ≡ core_state S.table S.ids self.old) }
@@ -138,6 +140,7 @@ impl<S: Storages> Core<S> {
         ensures ok { OnOk result (Deletes list.now (core_state S.table S.ids self.old) (core_state S.table S.ids self.new)) }
         ensures gone { OnOk result (All (IsGone (core_state S.table S.ids self.new).people) list.now) }
         ensures living { KeepsLiving (core_state S.table S.ids self.old) (core_state S.table S.ids self.new) }
+        ensures goes_on { GoesOn (core_state S.table S.ids self.old) (core_state S.table S.ids self.new) }
         ensures stays_gone { KeepsGone (core_state S.table S.ids self.old).people (core_state S.table S.ids self.new).people }
         ensures refused { IfErr result (DeleteIsRefused (core_state S.table S.ids self.old) list.now) }
         ensures err { OnErr result (core_state S.table S.ids self.new ≡ core_state S.table S.ids self.old) }

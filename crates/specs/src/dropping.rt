@@ -3,6 +3,7 @@ ghost use Rattle.std.specs.Prelude.{◌≡◌, [], IsOk, IfOk, OnOk, OnErr};
 ghost use Rattle.std.specs.List.{filter};
 ghost use Rattle.storages.specs.Life.{is_alive};
 ghost use Rattle.specs.specs.Dropping.{DropsComponents};
+ghost use Rattle.specs.specs.Going.{GoesOn};
 ghost use Rattle.specs.specs.Gone.{KeepsGone};
 ghost use Rattle.specs.specs.Reached.{KeepsLiving};
 ghost use Rattle.specs.specs.State.{core_state};
@@ -15,12 +16,23 @@ use std::alloc::AllocError;
 impl<S: Storages> Core<S> {
     /// Lets the components of the entities of a list go, and passes over those that are not alive. The entities stay. It takes memory for
     /// the list of the others, and for events, and a refused call changes nothing; the empty list is never refused. Ports `WorldExt::delete_components`.
-    #[tactic(auto, using(crate::proofs::Kept::living_dropped, crate::proofs::Kept::gone_same))]
     pub fn delete_components(&mut self, list: &[Entity]) -> Result<(), AllocError>
         ensures ok { OnOk result (DropsComponents list.now (core_state S.table S.ids self.old) (core_state S.table S.ids self.new)) }
         ensures entities { self.new.parts.entities ≡ self.old.parts.entities }
         ensures living { KeepsLiving (core_state S.table S.ids self.old) (core_state S.table S.ids self.new) }
+        ensures goes_on { GoesOn (core_state S.table S.ids self.old) (core_state S.table S.ids self.new) }
         ensures gone { KeepsGone (core_state S.table S.ids self.old).people (core_state S.table S.ids self.new).people }
+        ensures err { OnErr result (core_state S.table S.ids self.new ≡ core_state S.table S.ids self.old) }
+        ensures idle { list.now ≡ [] → IsOk result }
+    {
+        self.drop_components(list)?;
+        Ok(())
+    }
+
+    // `delete_components`, without what holds of each state.
+    fn drop_components(&mut self, list: &[Entity]) -> Result<(), AllocError>
+        ensures ok { OnOk result (DropsComponents list.now (core_state S.table S.ids self.old) (core_state S.table S.ids self.new)) }
+        ensures entities { self.new.parts.entities ≡ self.old.parts.entities }
         ensures err { OnErr result (core_state S.table S.ids self.new ≡ core_state S.table S.ids self.old) }
         ensures idle { list.now ≡ [] → IsOk result }
     {

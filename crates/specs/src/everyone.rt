@@ -5,6 +5,7 @@ ghost use Rattle.hibits.specs.Left.{left};
 ghost use Rattle.entities.specs.Census.{population};
 ghost use Rattle.entities.specs.Merges.{living_entity};
 ghost use Rattle.entities.specs.Population.{lives};
+ghost use Rattle.specs.specs.Going.{GoesOn};
 ghost use Rattle.specs.specs.Gone.{IsGone, KeepsGone};
 ghost use Rattle.specs.specs.People.{NobodyLives, the_living};
 ghost use Rattle.specs.specs.Reached.{KeepsLiving, OnlyLiving};
@@ -24,6 +25,7 @@ impl<S: Storages> Core<S> {
         ensures nobody { OnOk result (OnlyLiving (core_state S.table S.ids self.old) → NobodyLives (core_state S.table S.ids self.new).people) }
         ensures gone { OnOk result (All (IsGone (core_state S.table S.ids self.new).people) (the_living (core_state S.table S.ids self.old).people)) }
         ensures living { KeepsLiving (core_state S.table S.ids self.old) (core_state S.table S.ids self.new) }
+        ensures goes_on { GoesOn (core_state S.table S.ids self.old) (core_state S.table S.ids self.new) }
         ensures stays_gone { KeepsGone (core_state S.table S.ids self.old).people (core_state S.table S.ids self.new).people }
         ensures idle { NobodyLives (core_state S.table S.ids self.old).people → IsOk result }
         ensures err { OnErr result (core_state S.table S.ids self.new ≡ core_state S.table S.ids self.old) }

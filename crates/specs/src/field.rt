@@ -15,10 +15,9 @@ ghost use Rattle.specs.specs.Table.{IsMask};
 ghost use Rattle.storages.specs.Tracking.{with_reader, after_read, without_reader, switched};
 ghost use Rattle.storages.specs.Unread.{unread_of};
 ghost use Rattle.specs.specs.Readers.{RegisterReaderIsRefused, ReaderIsRefused, SwitchIsRefused};
-ghost use Rattle.specs.specs.Field.{FieldRechannels, FieldInserts, FieldGets, FieldRemoves, FieldClears, Holds, FieldInsertIsRefused, FieldGetIsRefused, FieldRemoveIsRefused, FieldClearIsRefused, PutIsRefused, column_of, field_column, field_room};
+ghost use Rattle.specs.specs.Field.{FieldRechannels, FieldInserts, FieldGets, FieldGetsClone, FieldRemoves, FieldClears, Holds, FieldInsertIsRefused, FieldGetIsRefused, FieldRemoveIsRefused, FieldClearIsRefused, PutIsRefused, column_of, field_column, field_room};
 
 use crate::command::Refusal;
-use crate::duplicate::Duplicate;
 use entities::{EntitiesRes, Entity};
 use hibits::BitSet;
 use std::alloc::{AllocError, Global};
@@ -139,37 +138,37 @@ where
     }
 }
 
-/// A copy of the component of an entity, or none where it is not alive.
-pub fn get<T: Component + Duplicate>(
+/// A clone of the component of an entity, or none where it is not alive.
+pub fn get_clone<T: Component + Clone>(
     field: &Field<T>,
     entities: &EntitiesRes,
     e: Entity,
 ) -> Result<Option<T>, Refusal>
 where
     T::Storage: UnprotectedStorage<T>,
-    ensures ok { IfOk result (λ found. FieldGets (population entities.now) (field_column field.now) e found) }
-    ensures refused { IfErr result (FieldGetIsRefused T.allocates (population entities.now) (field_column field.now) e) }
+    ensures ok { IfOk result (λ found. FieldGetsClone T.is_clone (population entities.now) (field_column field.now) e found) }
+    ensures refused { IfErr result (FieldGetIsRefused ((t : T) → T.is_infallible t) (population entities.now) (field_column field.now) e) }
 {
     match field {
-        Some(storage) => get_in(storage, entities, e),
+        Some(storage) => get_clone_in(storage, entities, e),
         None => Err(Refusal::Unregistered),
     }
 }
 
-/// A copy of the component of an entity in its storage, or none where it is not alive.
-pub fn get_in<T: Component + Duplicate>(
+/// A clone of the component of an entity in its storage, or none where it is not alive.
+pub fn get_clone_in<T: Component + Clone>(
     storage: &MaskedStorage<T>,
     entities: &EntitiesRes,
     e: Entity,
 ) -> Result<Option<T>, Refusal>
 where
     T::Storage: UnprotectedStorage<T>,
-    ensures ok { IfOk result (λ found. FieldGets (population entities.now) (Some (column_of storage.now)) e found) }
-    ensures refused { IfErr result (FieldGetIsRefused T.allocates (population entities.now) (Some (column_of storage.now)) e) }
+    ensures ok { IfOk result (λ found. FieldGetsClone T.is_clone (population entities.now) (Some (column_of storage.now)) e found) }
+    ensures refused { IfErr result (FieldGetIsRefused ((t : T) → T.is_infallible t) (population entities.now) (Some (column_of storage.now)) e) }
 {
-    match ReadStorage::new(entities, storage).get(e) {
+    match find(storage, entities, e) {
         None => Ok(None),
-        Some(value) => match value.duplicate() {
+        Some(value) => match value.clone() {
             Ok(copy) => Ok(Some(copy)),
             Err(_) => Err(Refusal::OutOfMemory),
         },

@@ -1,13 +1,14 @@
 //! Jobs, and lists of them.
 ghost use Rattle.std.specs.Prelude.{◌≡◌, List, [], ◌∷◌, ◌++◌, ◌<◌, ◌^◌, length, IfOk, IsOk, IfErr, OnOk, OnErr, IfSome, IfNone};
 ghost use Rattle.std.specs.VecDeque.{deque_len, deque_capacity};
+ghost use Rattle.specs.specs.Going.{Lengthens};
 ghost use Rattle.specs.specs.Queue.{queued, listed};
 ghost use Rattle.specs.specs.declared.job.Job.TheVariants.{Insert, InsertAll, Remove, Mark, Own};
 
 use crate::no_job::NoJob;
 use crate::slots::Held;
 use entities::Entity;
-use std::alloc::{AllocError, Global};
+use std::alloc::{AllocError, AllocFailed, Global};
 use std::collections::VecDeque;
 
 // From so many jobs on, a full queue gets room for twice as many and no longer for four times as many.
@@ -92,50 +93,55 @@ impl<S: Held, J: Drop> LazyUpdate<S, J> {
     }
 
     /// Queues a job.
-    pub fn push(&mut self, job: Job<S, J>) -> Result<(), (Job<S, J>, AllocError)>
+    #[tactic(auto, using(crate::proofs::Going::longer_by, crate::proofs::Going::no_longer))]
+    pub fn push(&mut self, job: Job<S, J>) -> Result<(), AllocFailed<Job<S, J>>>
         ensures ok { OnOk result (queued self.new ≡ queued self.old ++ job ∷ []) }
-        ensures back { IfErr result (λ r. r.0 ≡ job) }
+        ensures back { IfErr result (λ r. r.value ≡ job) }
         ensures err { OnErr result (queued self.new ≡ queued self.old) }
+        ensures lengthens { Lengthens (queued self.old) (queued self.new) }
     {
-        match self.jobs.push_back(job) {
-            Ok(()) => Ok(()),
-            Err(failed) => Err((failed.value, AllocError)),
-        }
+        self.jobs.push_back(job)
     }
 
     /// Queues an insertion. Ports `LazyUpdate::insert`.
-    pub fn insert(&mut self, e: Entity, value: S::Value) -> Result<(), (S::Value, AllocError)>
+    #[tactic(auto, using(crate::proofs::Going::longer_by, crate::proofs::Going::no_longer))]
+    pub fn insert(&mut self, e: Entity, value: S::Value) -> Result<(), AllocFailed<S::Value>>
         ensures ok { OnOk result (queued self.new ≡ queued self.old ++ Insert e value ∷ []) }
-        ensures back { IfErr result (λ r. r.0 ≡ value) }
+        ensures back { IfErr result (λ r. r.value ≡ value) }
         ensures err { OnErr result (queued self.new ≡ queued self.old) }
+        ensures lengthens { Lengthens (queued self.old) (queued self.new) }
     {
-        if let Err(refused) = self.make_room() {
-            return Err((value, refused));
+        if self.make_room().is_err() {
+            return Err(AllocFailed { value });
         }
         let _ = self.jobs.push_back(Job::Insert(e, value));
         Ok(())
     }
 
     /// Queues insertions in order, as one job. Ports `LazyUpdate::insert_all`.
+    #[tactic(auto, using(crate::proofs::Going::longer_by, crate::proofs::Going::no_longer))]
     pub fn insert_all(
         &mut self,
         pairs: Vec<(Entity, S::Value)>,
-    ) -> Result<(), (Vec<(Entity, S::Value)>, AllocError)>
+    ) -> Result<(), AllocFailed<Vec<(Entity, S::Value)>>>
         ensures ok { OnOk result (queued self.new ≡ queued self.old ++ InsertAll pairs ∷ []) }
-        ensures back { IfErr result (λ r. r.0 ≡ pairs) }
+        ensures back { IfErr result (λ r. r.value ≡ pairs) }
         ensures err { OnErr result (queued self.new ≡ queued self.old) }
+        ensures lengthens { Lengthens (queued self.old) (queued self.new) }
     {
-        if let Err(refused) = self.make_room() {
-            return Err((pairs, refused));
+        if self.make_room().is_err() {
+            return Err(AllocFailed { value: pairs });
         }
         let _ = self.jobs.push_back(Job::InsertAll(pairs));
         Ok(())
     }
 
     /// Queues a removal. Ports `LazyUpdate::remove`.
+    #[tactic(auto, using(crate::proofs::Going::longer_by, crate::proofs::Going::no_longer))]
     pub fn remove(&mut self, slot: S::Slot, e: Entity) -> Result<(), AllocError>
         ensures ok { OnOk result (queued self.new ≡ queued self.old ++ Remove slot e ∷ []) }
         ensures err { OnErr result (queued self.new ≡ queued self.old) }
+        ensures lengthens { Lengthens (queued self.old) (queued self.new) }
     {
         self.make_room()?;
         let _ = self.jobs.push_back(Job::Remove(slot, e));
@@ -143,9 +149,11 @@ impl<S: Held, J: Drop> LazyUpdate<S, J> {
     }
 
     /// Queues a mark, in a slot of markers.
+    #[tactic(auto, using(crate::proofs::Going::longer_by, crate::proofs::Going::no_longer))]
     pub fn mark(&mut self, slot: S::Slot, e: Entity) -> Result<(), AllocError>
         ensures ok { OnOk result (queued self.new ≡ queued self.old ++ Mark slot e ∷ []) }
         ensures err { OnErr result (queued self.new ≡ queued self.old) }
+        ensures lengthens { Lengthens (queued self.old) (queued self.new) }
     {
         self.make_room()?;
         let _ = self.jobs.push_back(Job::Mark(slot, e));
@@ -153,31 +161,35 @@ impl<S: Held, J: Drop> LazyUpdate<S, J> {
     }
 
     /// Queues a job of the user's. Ports `LazyUpdate::exec` and `LazyUpdate::exec_mut`.
-    pub fn exec(&mut self, job: J) -> Result<(), (J, AllocError)>
+    #[tactic(auto, using(crate::proofs::Going::longer_by, crate::proofs::Going::no_longer))]
+    pub fn exec(&mut self, job: J) -> Result<(), AllocFailed<J>>
         ensures ok { OnOk result (queued self.new ≡ queued self.old ++ Own job ∷ []) }
-        ensures back { IfErr result (λ r. r.0 ≡ job) }
+        ensures back { IfErr result (λ r. r.value ≡ job) }
         ensures err { OnErr result (queued self.new ≡ queued self.old) }
+        ensures lengthens { Lengthens (queued self.old) (queued self.new) }
     {
-        if let Err(refused) = self.make_room() {
-            return Err((job, refused));
+        if self.make_room().is_err() {
+            return Err(AllocFailed { value: job });
         }
         let _ = self.jobs.push_back(Job::Own(job));
         Ok(())
     }
 
     /// Queues the jobs of a list, in their order. The empty list is not refused.
-    pub fn append(&mut self, mut list: JobList<S, J>) -> Result<(), (JobList<S, J>, AllocError)>
+    #[tactic(auto, using(crate::proofs::Going::longer_by, crate::proofs::Going::no_longer))]
+    pub fn append(&mut self, mut list: JobList<S, J>) -> Result<(), AllocFailed<JobList<S, J>>>
         ensures ok { OnOk result (queued self.new ≡ queued self.old ++ listed list) }
-        ensures back { IfErr result (λ r. listed r.0 ≡ listed list) }
+        ensures back { IfErr result (λ r. listed r.value ≡ listed list) }
         ensures idle { listed list ≡ [] → IsOk result }
         ensures err { OnErr result (queued self.new ≡ queued self.old) }
+        ensures lengthens { Lengthens (queued self.old) (queued self.new) }
     {
         if list.jobs.is_empty() {
             return Ok(());
         }
         match self.jobs.append(&mut list.jobs) {
             Ok(()) => Ok(()),
-            Err(refused) => Err((list, refused)),
+            Err(_) => Err(AllocFailed { value: list }),
         }
     }
 }
@@ -202,14 +214,11 @@ impl<S: Held, J: Drop> JobList<S, J> {
     }
 
     /// Puts a job at the end. Where memory is refused, the job is handed back and the list is as before.
-    pub fn push(&mut self, job: Job<S, J>) -> Result<(), (Job<S, J>, AllocError)>
+    pub fn push(&mut self, job: Job<S, J>) -> Result<(), AllocFailed<Job<S, J>>>
         ensures ok { OnOk result (listed self.new ≡ listed self.old ++ job ∷ []) }
-        ensures back { IfErr result (λ r. r.0 ≡ job) }
+        ensures back { IfErr result (λ r. r.value ≡ job) }
         ensures err { OnErr result (listed self.new ≡ listed self.old) }
     {
-        match self.jobs.push_back(job) {
-            Ok(()) => Ok(()),
-            Err(failed) => Err((failed.value, AllocError)),
-        }
+        self.jobs.push_back(job)
     }
 }

@@ -3,35 +3,35 @@ ghost use Rattle.specs.specs.Following.{Follows, Replays};
 ghost use Rattle.specs.specs.Keeping.{EvolvingKeepsGone, EvolvingKeepsLiving, LoadsKeep, PhasesKeepGone, PhasesKeepLiving, StopsKeep};
 ghost use Rattle.specs.specs.Laws.{KeepsOnlyLiving, ReachesOnlyLiving, StaysGone, TellsWatched, StaysWatched};
 
-use crate::slots::{Held, Storages};
+use crate::slots::{CloneStorages, Held};
 use crate::world_job::WorldJob;
 use saveload::{DeserializeComponents, Marker};
 
 /// From a state where each index with a value lives, every run leads to such a state, with whatever jobs. A new world is in such a state, so
 /// each component that any run leaves in it belongs to a living entity.
-pub fn only_living<S: Storages, J: WorldJob<S>>()
-    ensures kept { KeepsOnlyLiving S.place S.allocates S.marks J.does J.wants }
-    ensures from_new { ReachesOnlyLiving S.place S.allocates S.marks J.does J.wants }
+pub fn only_living<S: CloneStorages, J: WorldJob<S>>()
+    ensures kept { KeepsOnlyLiving S.place S.clones S.marks J.does J.wants }
+    ensures from_new { ReachesOnlyLiving S.place S.clones S.marks J.does J.wants }
 {}
 
 /// What died stays dead: an entity that was given and is not alive is never alive again, whatever a run and its jobs do.
-pub fn stays_dead<S: Storages, J: WorldJob<S>>()
-    ensures { StaysGone S.place S.allocates S.marks J.does J.wants }
+pub fn stays_dead<S: CloneStorages, J: WorldJob<S>>()
+    ensures { StaysGone S.place S.clones S.marks J.does J.wants }
 {}
 
 /// Let a slot be registered with its events on, a reader of it be registered, and the jobs that wait spare that reader, throughout a run. Then
 /// what the replies gave the reader, and what it has not read after the run, lead from the slot's values before the run to those after, behind
 /// what it had not read before; so, replayed, they give the indices of the values after, and each index at which a value changed stands in one
 /// of them.
-pub fn events_lead<S: Storages, J: WorldJob<S>>()
-    ensures follows { TellsWatched S.place S.allocates S.marks J.does J.wants J.spares S.Slot.eq Follows }
-    ensures replays { TellsWatched S.place S.allocates S.marks J.does J.wants J.spares S.Slot.eq Replays }
+pub fn events_lead<S: CloneStorages, J: WorldJob<S>>()
+    ensures follows { TellsWatched S.place S.clones S.marks J.does J.wants J.spares S.Slot.eq Follows }
+    ensures replays { TellsWatched S.place S.clones S.marks J.does J.wants J.spares S.Slot.eq Replays }
 {}
 
 /// Where no command ends a reader, turns its slot's events off or queues a job that does not spare the reader, a reader that follows the slot at
 /// the start does so throughout the run.
-pub fn quiet_runs<S: Storages, J: WorldJob<S>>()
-    ensures { StaysWatched S.place S.allocates S.marks J.does J.wants J.spares }
+pub fn quiet_runs<S: CloneStorages, J: WorldJob<S>>()
+    ensures { StaysWatched S.place S.clones S.marks J.does J.wants J.spares }
 {}
 
 /// A shared phase over a world's entities, once it is closed, leaves it so that each index with a value lives, if it did at the opening; and who

@@ -12,7 +12,7 @@ ghost use Rattle.specs.specs.Refused.{CreateIsRefused};
 ghost use Rattle.specs.specs.State.{core_state, OnPeople};
 ghost use Rattle.specs.specs.declared.job.Job.TheVariants.{Insert, Mark};
 
-use crate::builder::Builder;
+use crate::builder::{BuildError, Builder};
 use crate::building::mark_if_alive;
 use crate::command::Refusal;
 use crate::has::Has;
@@ -20,7 +20,7 @@ use crate::job::Job;
 use crate::slots::Held;
 use crate::world::WorldParts;
 use entities::{CreateError, Entity};
-use std::alloc::AllocError;
+use std::alloc::AllocFailed;
 use storages::{Component, UnprotectedStorage};
 
 /// A builder of an entity whose birth is pending; its components are queued. Dropped unbuilt, it marks the entity if it is alive. It borrows the
@@ -76,13 +76,13 @@ impl<S: Held, J: Drop> WorldParts<S, J> {
         &mut self,
         entity: Entity,
         job: Job<S, J>,
-    ) -> Result<LazyBuilder<'_, S, J>, (Job<S, J>, AllocError)>
+    ) -> Result<LazyBuilder<'_, S, J>, AllocFailed<Job<S, J>>>
         ensures* rests { sem 𝓛 (RestsMarkedAt S.row J.row S.Slot.row S.Value.row S.table S.ids self.entry entity result) }
         ensures same_reference { IfOk result (λ b. (lent_to b).ghost_name ≡ self.entry.ghost_name) }
         ensures entity { IfOk result (λ b. built b ≡ entity) }
         ensures core { IfOk result (λ b. shown S.table S.ids b ≡ core_state S.table S.ids self.old.core) }
         ensures queue { IfOk result (λ b. waiting b ≡ queued self.old.lazy ++ job ∷ []) }
-        ensures back { IfErr result (λ r. r.0 ≡ job) }
+        ensures back { IfErr result (λ r. r.value ≡ job) }
     {
         push_or_mark(self, entity, job)?;
         Ok(LazyBuilder {
@@ -96,7 +96,7 @@ impl<S: Held, J: Drop> WorldParts<S, J> {
         &mut self,
         entity: Entity,
         component: T,
-    ) -> Result<LazyBuilder<'_, S, J>, (Refusal, T)>
+    ) -> Result<LazyBuilder<'_, S, J>, BuildError<T>>
     where
         S: Has<T, I>,
         ensures* rests { sem 𝓛 (RestsMarkedAt S.row J.row S.Slot.row S.Value.row S.table S.ids self.entry entity result) }
@@ -104,8 +104,8 @@ impl<S: Held, J: Drop> WorldParts<S, J> {
         ensures entity { IfOk result (λ b. built b ≡ entity) }
         ensures core { IfOk result (λ b. shown S.table S.ids b ≡ core_state S.table S.ids self.old.core) }
         ensures queue { IfOk result (λ b. waiting b ≡ queued self.old.lazy ++ Insert entity (S.as_value component) ∷ []) }
-        ensures refused { IfErr result (λ r. r.0 ≡ Refusal.OutOfMemory) }
-        ensures back { IfErr result (λ r. r.1 ≡ component) }
+        ensures refused { IfErr result (λ r. r.refusal ≡ Refusal.OutOfMemory) }
+        ensures back { IfErr result (λ r. r.component ≡ component) }
     {
         push_component(self, entity, component)?;
         Ok(LazyBuilder {
@@ -120,17 +120,24 @@ fn push_component<T: Component + Drop, S: Has<T, I>, J: Drop, I>(
     parts: &mut WorldParts<S, J>,
     entity: Entity,
     component: T,
-) -> Result<(), (Refusal, T)>
+) -> Result<(), BuildError<T>>
     ensures core { OnOk result (core_state S.table S.ids parts.new.core ≡ core_state S.table S.ids parts.old.core) }
     ensures queue { OnOk result (queued parts.new.lazy ≡ queued parts.old.lazy ++ Insert entity (S.as_value component) ∷ []) }
     ensures err { OnErr result (Marked S.table S.ids entity parts.old parts.new) }
-    ensures refused { IfErr result (λ r. r.0 ≡ Refusal.OutOfMemory) }
-    ensures back { IfErr result (λ r. r.1 ≡ component) }
+    ensures refused { IfErr result (λ r. r.refusal ≡ Refusal.OutOfMemory) }
+    ensures back { IfErr result (λ r. r.component ≡ component) }
 {
     match push_or_mark(parts, entity, Job::Insert(entity, S::value(component))) {
         Ok(()) => Ok(()),
-        Err((Job::Insert(_, value), _)) => match S::component(value) {
-            Ok(component) => Err((Refusal::OutOfMemory, component)),
+        Err(
+            AllocFailed {
+                value: Job::Insert(_, value),
+            },
+        ) => match S::component(value) {
+            Ok(component) => Err(BuildError {
+                refusal: Refusal::OutOfMemory,
+                component,
+            }),
             Err(_) => unreachable!(),
         },
         Err(_) => unreachable!(),
@@ -142,11 +149,11 @@ fn push_or_mark<S: Held, J: Drop>(
     parts: &mut WorldParts<S, J>,
     entity: Entity,
     job: Job<S, J>,
-) -> Result<(), (Job<S, J>, AllocError)>
+) -> Result<(), AllocFailed<Job<S, J>>>
     ensures core { OnOk result (core_state S.table S.ids parts.new.core ≡ core_state S.table S.ids parts.old.core) }
     ensures queue { OnOk result (queued parts.new.lazy ≡ queued parts.old.lazy ++ job ∷ []) }
     ensures err { OnErr result (Marked S.table S.ids entity parts.old parts.new) }
-    ensures back { IfErr result (λ r. r.0 ≡ job) }
+    ensures back { IfErr result (λ r. r.value ≡ job) }
 {
     match parts.lazy.push(job) {
         Ok(()) => Ok(()),
@@ -177,26 +184,26 @@ impl<'a, S: Held, J: Drop> LazyBuilder<'a, S, J> {
     }
 
     /// Queues a component that is a value of the world's. A refused call drops the builder, and hands the component back in its job.
-    pub fn with_value(self, value: S::Value) -> Result<Self, (Job<S, J>, AllocError)>
+    pub fn with_value(self, value: S::Value) -> Result<Self, AllocFailed<Job<S, J>>>
         ensures* rests { sem 𝓛 (RestsMarked S.row J.row S.Slot.row S.Value.row S.table S.ids self.entry result) }
         ensures same_reference { IfOk result (λ b. (lent_to b).ghost_name ≡ (lent_to self.entry).ghost_name) }
         ensures entity { IfOk result (λ b. built b ≡ built self.entry) }
         ensures core { IfOk result (λ b. shown S.table S.ids b ≡ shown S.table S.ids self.entry) }
         ensures queue { IfOk result (λ b. waiting b ≡ waiting self.entry ++ Insert (built self.entry) value ∷ []) }
-        ensures back { IfErr result (λ r. r.0 ≡ Insert (built self.entry) value) }
+        ensures back { IfErr result (λ r. r.value ≡ Insert (built self.entry) value) }
     {
         let LazyBuilder { parts, entity } = self;
         parts.build_with(entity, Job::Insert(entity, value))
     }
 
     /// Queues a marker, in a slot of markers. A refused call drops the builder. Ports `MarkedBuilder::marked`.
-    pub fn marked(self, slot: S::Slot) -> Result<Self, (Job<S, J>, AllocError)>
+    pub fn marked(self, slot: S::Slot) -> Result<Self, AllocFailed<Job<S, J>>>
         ensures* rests { sem 𝓛 (RestsMarked S.row J.row S.Slot.row S.Value.row S.table S.ids self.entry result) }
         ensures same_reference { IfOk result (λ b. (lent_to b).ghost_name ≡ (lent_to self.entry).ghost_name) }
         ensures entity { IfOk result (λ b. built b ≡ built self.entry) }
         ensures core { IfOk result (λ b. shown S.table S.ids b ≡ shown S.table S.ids self.entry) }
         ensures queue { IfOk result (λ b. waiting b ≡ waiting self.entry ++ Mark slot (built self.entry) ∷ []) }
-        ensures back { IfErr result (λ r. r.0 ≡ Mark slot (built self.entry)) }
+        ensures back { IfErr result (λ r. r.value ≡ Mark slot (built self.entry)) }
     {
         let LazyBuilder { parts, entity } = self;
         parts.build_with(entity, Job::Mark(slot, entity))
@@ -204,7 +211,7 @@ impl<'a, S: Held, J: Drop> LazyBuilder<'a, S, J> {
 }
 
 impl<'a, S: Held, J: Drop> Builder<S> for LazyBuilder<'a, S, J> {
-    fn with<T: Component + Drop, I>(self, component: T) -> Result<Self, (Refusal, T)>
+    fn with<T: Component + Drop, I>(self, component: T) -> Result<Self, BuildError<T>>
     where
         S: Has<T, I>,
         T::Storage: UnprotectedStorage<T>,
@@ -213,14 +220,14 @@ impl<'a, S: Held, J: Drop> Builder<S> for LazyBuilder<'a, S, J> {
         ensures entity { IfOk result (λ b. built b ≡ built self.entry) }
         ensures core { IfOk result (λ b. shown S.table S.ids b ≡ shown S.table S.ids self.entry) }
         ensures queue { IfOk result (λ b. waiting b ≡ waiting self.entry ++ Insert (built self.entry) (S.as_value component) ∷ []) }
-        ensures refused { IfErr result (λ r. r.0 ≡ Refusal.OutOfMemory) }
-        ensures back { IfErr result (λ r. r.1 ≡ component) }
+        ensures refused { IfErr result (λ r. r.refusal ≡ Refusal.OutOfMemory) }
+        ensures back { IfErr result (λ r. r.component ≡ component) }
     {
         let LazyBuilder { parts, entity } = self;
         parts.build_component(entity, component)
     }
 
-    fn maybe_with<T: Component + Drop, I>(self, component: Option<T>) -> Result<Self, (Refusal, T)>
+    fn maybe_with<T: Component + Drop, I>(self, component: Option<T>) -> Result<Self, BuildError<T>>
     where
         S: Has<T, I>,
         T::Storage: UnprotectedStorage<T>,
@@ -229,8 +236,8 @@ impl<'a, S: Held, J: Drop> Builder<S> for LazyBuilder<'a, S, J> {
         ensures entity { IfOk result (λ b. built b ≡ built self.entry) }
         ensures core { IfOk result (λ b. shown S.table S.ids b ≡ shown S.table S.ids self.entry) }
         ensures queue { IfOk result (λ b. waiting b ≡ waiting self.entry ++ option_to_list (option_map (λ t. Insert (built self.entry) (S.as_value t)) component)) }
-        ensures refused { IfErr result (λ r. r.0 ≡ Refusal.OutOfMemory) }
-        ensures back { IfErr result (λ r. component ≡ Some r.1) }
+        ensures refused { IfErr result (λ r. r.refusal ≡ Refusal.OutOfMemory) }
+        ensures back { IfErr result (λ r. component ≡ Some r.component) }
     {
         let LazyBuilder { parts, entity } = self;
         match component {

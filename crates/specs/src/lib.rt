@@ -1,6 +1,7 @@
 //! A world of entities and component storages, for any struct of storages: a port of the crate `specs`.
 #![tactic(auto)]
 
+mod act;
 mod apply;
 mod builder;
 mod building;
@@ -9,8 +10,8 @@ mod channel_call;
 mod command;
 mod core_parts;
 mod create_iter;
+mod deferred;
 mod dropping;
-mod duplicate;
 mod everyone;
 pub mod field;
 pub mod field_marks;
@@ -29,12 +30,12 @@ mod world_deref;
 mod world_job;
 mod writing;
 
-pub use builder::{Builder, EntityBuilder};
+pub use act::{Act, Doing};
+pub use builder::{BuildError, Builder, EntityBuilder};
 pub use channel_call::{ChannelCall, ChannelReply};
 pub use command::{Command, Maintained, Refusal, Reply, SetExpr};
 pub use core_parts::{Core, DeleteError, Parts};
 pub use create_iter::CreateIter;
-pub use duplicate::Duplicate;
 pub use has::{Field, Has, component, slot, value};
 pub use job::{Job, JobList, LazyUpdate};
 pub use laws::{
@@ -42,7 +43,7 @@ pub use laws::{
 };
 pub use lazy_builder::LazyBuilder;
 pub use no_job::NoJob;
-pub use slots::{Held, Storages};
+pub use slots::{CloneStorages, Held, Storages};
 pub use typed::Unregistered;
 pub use world::{World, WorldParts};
 pub use world_job::WorldJob;
@@ -93,7 +94,9 @@ pub use joins::ChangeJoin;
 pub use joins::ChangeSet;
 pub use joins::Combine;
 pub use joins::Drain;
+pub use joins::EachError;
 pub use joins::EntryJoin;
+pub use joins::ForEach;
 pub use joins::IndexedStorage;
 pub use joins::Join;
 pub use joins::JoinIter;
@@ -121,18 +124,23 @@ pub use saveload::ConvertSaveload;
 pub use saveload::DeserializeComponents;
 pub use saveload::EntityData;
 pub use saveload::JsonData;
+pub use saveload::JsonFields;
+pub use saveload::JsonParts;
 pub use saveload::JsonPlaces;
 pub use saveload::LoadError;
 pub use saveload::MarkError;
 pub use saveload::Marker;
 pub use saveload::MarkerAllocator;
 pub use saveload::SaveError;
+pub use saveload::SavedText;
+pub use saveload::SavedVec;
 pub use saveload::SerializeComponents;
 pub use saveload::SimpleMarker;
 pub use saveload::SimpleMarkerAllocator;
 pub use saveload::UuidMarker;
 pub use saveload::UuidMarkerAllocator;
 pub use saveload::WithMarker;
+pub use saveload::copy_by_parts;
 pub use saveload::deserialize;
 pub use saveload::from_json;
 pub use saveload::loads_give_ids;

@@ -1,15 +1,16 @@
 //! What a world asks of a struct of storages.
-ghost use Rattle.std.specs.Prelude.{◌≡◌, ℕ, Bool, Option, Some, None, true, false, IfOk, OnOk, IfErr, OnErr, IsTrue, ◌↔◌, IsOk, IsSome, MatchOption, length};
+ghost use Rattle.std.specs.Prelude.{◌≡◌, ℕ, Option, Some, None, true, false, IfOk, OnOk, IfErr, OnErr, IsTrue, ◌↔◌, IsOk, IsSome, MatchOption, length};
 ghost use Rattle.std.specs.Bool.{Decides};
 ghost use Rattle.std.specs.Option.{option_map};
 ghost use Rattle.entities.specs.Census.{population};
 ghost use Rattle.storages.specs.Meaning.{HasRoom};
+ghost use Rattle.specs.specs.Clones.{Clones};
 ghost use Rattle.specs.specs.Column.{Column, WantsNone, without_values};
 ghost use Rattle.specs.specs.Ids.{IdsAfter};
 ghost use Rattle.specs.specs.Marks.{Markers, GivesMarker, MarkerIsRefused};
 ghost use Rattle.specs.specs.ChannelCalls.{Calls, CallIsRefused};
 ghost use Rattle.specs.specs.Readers.{RegistersReader, RegisterReaderIsRefused, ReadsEvents, DropsReader, ReaderIsRefused, Switches, SwitchIsRefused};
-ghost use Rattle.specs.specs.Table.{Registers, Inserts, InsertIsRefused, Gets, GetIsRefused, Removes, RemoveIsRefused, Clears, ClearIsRefused, IsMask};
+ghost use Rattle.specs.specs.Table.{Registers, Inserts, InsertIsRefused, GetsClone, GetIsRefused, Removes, RemoveIsRefused, Clears, ClearIsRefused, IsMask};
 
 use crate::channel_call::{ChannelCall, ChannelReply};
 use crate::command::Refusal;
@@ -45,9 +46,6 @@ pub trait Storages: Held<Slot: Copy + Eq> {
     /// For how many events a slot has room, and nothing where no event needs any.
     ghost room: { Self → Self.Slot → Option ℕ };
 
-    /// Whether a copy of a value of the slot may take memory.
-    ghost allocates: { Self.Slot → Bool };
-
     /// The slot of a value.
     fn slot_of(value: &Self::Value) -> Self::Slot
         ensures { result ≡ Self.place value.now };
@@ -82,16 +80,6 @@ pub trait Storages: Held<Slot: Copy + Eq> {
         ensures back { IfErr result (λ r. r.1 ≡ value) }
         ensures err { OnErr result (Self.table self.new ≡ Self.table self.old) }
         ensures ids { Self.ids self.new ≡ Self.ids self.old };
-
-    /// A copy of the value of an entity, or none where it is not alive.
-    fn get(
-        &self,
-        entities: &EntitiesRes,
-        slot: Self::Slot,
-        e: Entity,
-    ) -> Result<Option<Self::Value>, Refusal>
-        ensures ok { IfOk result (λ found. Gets (population entities.now) (Self.table self.now) slot e found) }
-        ensures refused { IfErr result (GetIsRefused allocates (population entities.now) (Self.table self.now) slot e) };
 
     /// Removes the value of an entity and answers it, or none where the entity is not alive. It takes memory for an event alone.
     fn remove(
@@ -214,4 +202,21 @@ pub trait Storages: Held<Slot: Copy + Eq> {
 
     /// A slot without markers has no id to give.
     ghost idless: { (s : Self) (k : Self.Slot) → Self.marks.holds k ≡ false → Self.ids s k ≡ Some 0 };
+}
+
+/// A struct of storages whose values can be cloned, as the command that asks for a value does, and so a list of commands. No other call of
+/// a world asks for it, so that components that can't be cloned have every other.
+pub trait CloneStorages: Storages {
+    /// Which values a clone of one may be, and of which slots none takes memory.
+    ghost clones: { Clones Self.Slot Self.Value };
+
+    /// A clone of the value of an entity, or none where it is not alive.
+    fn get(
+        &self,
+        entities: &EntitiesRes,
+        slot: Self::Slot,
+        e: Entity,
+    ) -> Result<Option<Self::Value>, Refusal>
+        ensures ok { IfOk result (λ found. GetsClone clones.is_clone (population entities.now) (Self.table self.now) slot e found) }
+        ensures refused { IfErr result (GetIsRefused clones (population entities.now) (Self.table self.now) slot e) };
 }

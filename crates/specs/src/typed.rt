@@ -2,6 +2,7 @@
 ghost use Rattle.std.specs.Prelude.{◌≡◌, ℕ, true, Some, None, IsSome, IfSome, IfOk, IsOk, OnOk, OnErr};
 ghost use Rattle.std.specs.Borrow.{sem};
 ghost use Rattle.storages.specs.ReadView as reading;
+ghost use Rattle.specs.specs.Going.{GoesOn};
 ghost use Rattle.specs.specs.Gone.{KeepsGone};
 ghost use Rattle.specs.specs.Reached.{KeepsLiving};
 ghost use Rattle.specs.specs.Registering.{RegistersAs, column_with};
@@ -36,6 +37,7 @@ impl<S: Held> Core<S> {
         ensures succeeds { T.Storage.TakesNone → IsOk result }
         ensures memory { OnErr result ((core_state S.table S.ids self.old).table S.the_slot ≡ None) }
         ensures living { KeepsLiving (core_state S.table S.ids self.old) (core_state S.table S.ids self.new) }
+        ensures goes_on { GoesOn (core_state S.table S.ids self.old) (core_state S.table S.ids self.new) }
         ensures gone { KeepsGone (core_state S.table S.ids self.old).people (core_state S.table S.ids self.new).people }
         ensures err { OnErr result (core_state S.table S.ids self.new ≡ core_state S.table S.ids self.old) }
     {

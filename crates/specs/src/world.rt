@@ -16,7 +16,7 @@ use crate::core_parts::Core;
 use crate::job::{Job, LazyUpdate};
 use crate::no_job::NoJob;
 use crate::running::run_jobs;
-use crate::slots::{Held, Storages};
+use crate::slots::{CloneStorages, Held, Storages};
 use crate::world_job::WorldJob;
 use std::alloc::{AllocError, Global};
 
@@ -121,10 +121,12 @@ impl<S: Storages, J: WorldJob<S>> World<S, J> {
             stopped: ending.stopped,
         })
     }
+}
 
+impl<S: CloneStorages, J: WorldJob<S>> World<S, J> {
     /// Does commands in order, with room for all replies got first. Where that room was refused, nothing was done. The empty list is not refused.
     pub fn run(&mut self, commands: Vec<Command<S, J>>) -> Result<Vec<Reply<S::Value>>, AllocError>
-        ensures run { IfOk result (λ replies. Run S.place S.allocates S.marks J.does J.wants (world_state S.table S.ids self.old) commands.items replies.items (world_state S.table S.ids self.new)) }
+        ensures run { IfOk result (λ replies. Run S.place S.clones S.marks J.does J.wants (world_state S.table S.ids self.old) commands.items replies.items (world_state S.table S.ids self.new)) }
         ensures err { OnErr result (world_state S.table S.ids self.new ≡ world_state S.table S.ids self.old) }
         ensures idle { commands.items ≡ [] → IsOk result }
 

@@ -8,6 +8,7 @@ ghost use Rattle.storages.specs.ReadView as reading;
 ghost use Rattle.storages.specs.Slot as masked;
 ghost use Rattle.specs.specs.Field.{FieldInserts, FieldGets, FieldRemoves, FieldClears, WriteIsRefused, Holds, column_of, field_column, field_room};
 ghost use Rattle.specs.specs.Column.{wants_memory};
+ghost use Rattle.specs.specs.Going.{GoesOn};
 ghost use Rattle.specs.specs.Gone.{KeepsGone};
 ghost use Rattle.specs.specs.Reached.{KeepsLiving};
 ghost use Rattle.specs.specs.State.{OnTable, InsertsAlone, RemovesAlone};
@@ -93,6 +94,7 @@ where
         ensures refused { IfErr result (WriteIsRefused (shown S.table S.ids self.old).people (field_column (S.part (storages_of self.old))) e component) }
         ensures err { OnErr result (shown S.table S.ids self.new ≡ shown S.table S.ids self.old) }
         ensures living { KeepsLiving (shown S.table S.ids self.old) (shown S.table S.ids self.new) }
+        ensures goes_on { GoesOn (shown S.table S.ids self.old) (shown S.table S.ids self.new) }
         ensures gone { KeepsGone (shown S.table S.ids self.old).people (shown S.table S.ids self.new).people }
         ensures succeeds { Holds (shown S.table S.ids self.old).people (field_column (S.part (storages_of self.old))) e → HasRoom (field_room (S.part (storages_of self.old))) 1 → IsOk result }
     {
@@ -119,6 +121,7 @@ where
         ensures refused { OnErr result (RemovalWantsMemory (shown S.table S.ids self.old).people (field_column (S.part (storages_of self.old))) e) }
         ensures err { OnErr result (shown S.table S.ids self.new ≡ shown S.table S.ids self.old) }
         ensures living { KeepsLiving (shown S.table S.ids self.old) (shown S.table S.ids self.new) }
+        ensures goes_on { GoesOn (shown S.table S.ids self.old) (shown S.table S.ids self.new) }
         ensures gone { KeepsGone (shown S.table S.ids self.old).people (shown S.table S.ids self.new).people }
         ensures succeeds { HasRoom (field_room (S.part (storages_of self.old))) 1 → IsOk result }
     {
@@ -131,7 +134,7 @@ where
     }
 
     /// Removes every component. It takes memory for events alone, and a refused call changes nothing. Ports `Storage::clear`.
-    #[tactic(auto, using(crate::proofs::Kept::living_cleared, crate::proofs::Kept::gone_same))]
+    #[tactic(auto, using(crate::proofs::Kept::living_cleared, crate::proofs::Kept::gone_same, crate::proofs::Going::on_cleared, crate::proofs::Going::on_same))]
     pub fn clear(&mut self) -> Result<(), AllocError>
         requires { IsSome (S.part (storages_of self.old)) }
         ensures same_reference { (lent self.new).ghost_name ≡ (lent self.old).ghost_name }
@@ -142,6 +145,7 @@ where
         ensures refused { OnErr result (ClearingWantsMemory (field_column (S.part (storages_of self.old)))) }
         ensures err { OnErr result (shown S.table S.ids self.new ≡ shown S.table S.ids self.old) }
         ensures living { KeepsLiving (shown S.table S.ids self.old) (shown S.table S.ids self.new) }
+        ensures goes_on { GoesOn (shown S.table S.ids self.old) (shown S.table S.ids self.new) }
         ensures gone { KeepsGone (shown S.table S.ids self.old).people (shown S.table S.ids self.new).people }
         ensures succeeds { IfSome (S.part (storages_of self.old)) (λ w. HasRoom w.room (length (masked.indices_of w))) → IsOk result }
     {

@@ -6,7 +6,7 @@ use saveload::{
     LoadError, SaveError, deserialize, from_json, serialize_recursive, serialize_to_json, to_json,
 };
 use slots::{Label, SavedSlots};
-use specs::{EntitiesRes, Entity, MarkError, Refusal, Storages};
+use specs::{CloneStorages, EntitiesRes, Entity, MarkError, Refusal};
 use std::alloc::{AllocError, Global};
 use std::fmt;
 use storages::{ReadStorage, WriteStorage};
@@ -141,7 +141,7 @@ impl<A> Saves for Both<A, SavedSlots> {
 }
 
 /// The marker of an entity, which gets one if it has none.
-fn label<S: Storages>(
+fn label<S: CloneStorages>(
     storages: &mut S,
     entities: &EntitiesRes,
     slot: S::Slot,

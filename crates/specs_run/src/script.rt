@@ -7,7 +7,7 @@ use crate::slot_names::Named;
 use crate::values::Worded;
 use composed::Empty;
 use slots::Slots;
-use specs::{Parts, Storages, World, WorldJob};
+use specs::{CloneStorages, Parts, World, WorldJob};
 use std::alloc::Global;
 use std::fmt::Display;
 use std::io::{self, BufRead, BufReader, BufWriter, Read, Write};
@@ -60,7 +60,7 @@ fn answer_by_slots<R: Read, O: Write + Drop>(
 }
 
 /// Answers the lines by a new world. It stands for whatever storages, since the end of a world is shorter to prove where they are not known.
-fn answer_by_new_world<R: Read, O: Write + Drop, S: Empty + Storages + Saves + Drop>(
+fn answer_by_new_world<R: Read, O: Write + Drop, S: Empty + CloneStorages + Saves + Drop>(
     alloc: Global,
     reader: &mut BufReader<R>,
     writer: &mut BufWriter<O>,
@@ -74,7 +74,7 @@ where
 }
 
 /// Answers the lines up to the end of the input, or up to one that can't be read, whose number is told.
-fn answer_lines<R: Read, O: Write + Drop, S: Storages + Saves>(
+fn answer_lines<R: Read, O: Write + Drop, S: CloneStorages + Saves>(
     alloc: Global,
     world: &mut World<S, ScriptJob>,
     reader: &mut BufReader<R>,
@@ -101,7 +101,7 @@ where
 }
 
 /// Does one line, and writes its reply; a line without characters has none. It is false of a line that can't be read.
-fn answer<O: Write + Drop, S: Storages + Saves>(
+fn answer<O: Write + Drop, S: CloneStorages + Saves>(
     alloc: Global,
     world: &mut World<S, ScriptJob>,
     writer: &mut BufWriter<O>,
@@ -124,7 +124,7 @@ where
 }
 
 /// Does what a line asks for, and writes its reply.
-fn respond<S: Storages + Saves, J: WorldJob<S>, O: Write + Drop>(
+fn respond<S: CloneStorages + Saves, J: WorldJob<S>, O: Write + Drop>(
     alloc: Global,
     world: &mut World<S, J>,
     writer: &mut BufWriter<O>,

@@ -31,7 +31,10 @@ impl<S: Held> WorldJob<S> for ScriptJob {
         queue: &mut LazyUpdate<S, ScriptJob>,
     ) -> Result<(), (ScriptJob, AllocError)> {
         match self {
-            ScriptJob::Again => queue.exec(ScriptJob::Again),
+            ScriptJob::Again => match queue.exec(ScriptJob::Again) {
+                Ok(()) => Ok(()),
+                Err(failed) => Err((failed.value, AllocError)),
+            },
             ScriptJob::Create => match raise(core) {
                 Ok(()) => Ok(()),
                 Err(refused) => Err((ScriptJob::Create, refused)),

@@ -1,5 +1,3 @@
-use Rattle.specs.specs.Table.{ClearIsRefused}
-use Rattle.composed.specs.declared.either.Either.TheVariants.{First, Rest}
 use Rattle.composed.proofs.Sides.{in_first, in_rest}
 use Rattle.specs.specs.Shown.{on_ok, if_err, shown_clears, shown_clear_refused}
 use Rattle.composed.proofs.both.BothStorages.clear.Goals as goal

@@ -1,3 +1,4 @@
+use Rattle.specs.proofs.Going.{on_dead}
 use Rattle.std.proofs.Common.{◌≡◌, false, ap, sym, ◌∙◌, length, rules, subst}
 use Rattle.std.specs.Option.{option_map}
 use Rattle.std.specs.Vec.{vec_len}
@@ -52,3 +53,6 @@ returns-clause-living g c = living_dead _ _ _ (returns-clause-ok g c)
 
 pub returns-clause-stays_gone : goal.returns-clause-stays_gone
 returns-clause-stays_gone g c = gone_dead _ _ _ (returns-clause-ok g c)
+
+pub returns-clause-goes_on : goal.returns-clause-goes_on
+returns-clause-goes_on g c = on_dead _ _ _ (returns-clause-ok g c)

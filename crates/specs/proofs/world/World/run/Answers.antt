@@ -20,7 +20,7 @@ loop-command-preserved g c =
     let less : vec_len c.loop-command.replies < vec_capacity c.loop-command.replies = omega (arith, len, ap length (sym all ∙ front), ap length next, length-append c.loop-command.yielded (into_iter_items c.loop-command.command-iterator), inv.count, inv.room) in
     let pushed : c.push.new.self.items ≡ c.loop-command.replies.items ++ c.apply-reply.result ∷ [] = rw (c.push.ensures.succeeds less) at c.push.ensures.items in
     record {
-      done = rw pushed (run_more g.S.Held.place g.S.Storages.allocates g.S.Held.marks g.J.WorldJob.does g.J.WorldJob.wants (world_state g.S.Held.table g.S.Held.ids c.args.self.now) (world_state g.S.Held.table g.S.Held.ids c.loop-command.self) (world_state g.S.Held.table g.S.Held.ids c.apply-reply.new.self) c.loop-command.yielded c.loop-command.replies.items c.in-Some.command c.apply-reply.result inv.done c.apply-reply.ensures.step);
+      done = rw pushed (run_more g.S.Held.place g.S.CloneStorages.clones g.S.Held.marks g.J.WorldJob.does g.J.WorldJob.wants (world_state g.S.Held.table g.S.Held.ids c.args.self.now) (world_state g.S.Held.table g.S.Held.ids c.loop-command.self) (world_state g.S.Held.table g.S.Held.ids c.apply-reply.new.self) c.loop-command.yielded c.loop-command.replies.items c.in-Some.command c.apply-reply.result inv.done c.apply-reply.ensures.step);
       count = rw pushed (omega (arith, length_push c.loop-command.replies.items c.apply-reply.result, length_push c.loop-command.yielded c.in-Some.command, inv.count));
       room = omega (arith, inv.room, c.push.ensures.capacity);
     }
@@ -46,13 +46,13 @@ returns-clause-run g c =
     rw (← whole) c.loop-command.invariant.done
 
 pub returns-clause-living : goal.returns-clause-living
-returns-clause-living g c = living_run g.S.Held.place g.S.Storages.allocates g.S.Held.marks g.J.WorldJob.does g.J.WorldJob.wants g.met.J.WorldJob.grows g.met.J.WorldJob.lives c.args.commands.items _ _ _ (returns-clause-run g c)
+returns-clause-living g c = living_run g.S.Held.place g.S.CloneStorages.clones g.S.Held.marks g.J.WorldJob.does g.J.WorldJob.wants g.met.J.WorldJob.grows g.met.J.WorldJob.lives c.args.commands.items _ _ _ (returns-clause-run g c)
 
 pub returns-clause-gone : goal.returns-clause-gone
-returns-clause-gone g c = λ e. gone_run g.S.Held.place g.S.Storages.allocates g.S.Held.marks g.J.WorldJob.does g.J.WorldJob.wants g.met.J.WorldJob.grows c.args.commands.items _ _ _ e (returns-clause-run g c)
+returns-clause-gone g c = λ e. gone_run g.S.Held.place g.S.CloneStorages.clones g.S.Held.marks g.J.WorldJob.does g.J.WorldJob.wants g.met.J.WorldJob.grows c.args.commands.items _ _ _ e (returns-clause-run g c)
 
 pub returns-clause-events : goal.returns-clause-events
 returns-clause-events g c = λ slot n quiet spared living followed.
     let run = returns-clause-run g c in
-    follows_run slot n (λ s. g.S.Slot.PartialEq.eq s slot) (λ s. g.met.S.Storages.exact s slot) g.S.Held.place g.S.Storages.allocates g.S.Held.marks g.J.WorldJob.does g.J.WorldJob.wants g.J.WorldJob.spares g.met.J.WorldJob.tells g.met.J.WorldJob.grows g.met.J.WorldJob.lives c.args.commands.items _ _ _ run
-    (followed_run slot n (λ s. g.S.Slot.PartialEq.eq s slot) (λ s. g.met.S.Storages.exact s slot) g.S.Held.place g.S.Storages.allocates g.S.Held.marks g.J.WorldJob.does g.J.WorldJob.wants g.J.WorldJob.spares g.met.J.WorldJob.tells c.args.commands.items _ _ _ run quiet (record { followed = followed; spared = spared })) living
+    follows_run slot n (λ s. g.S.Slot.PartialEq.eq s slot) (λ s. g.met.S.Storages.exact s slot) g.S.Held.place g.S.CloneStorages.clones g.S.Held.marks g.J.WorldJob.does g.J.WorldJob.wants g.J.WorldJob.spares g.met.J.WorldJob.tells g.met.J.WorldJob.grows g.met.J.WorldJob.lives c.args.commands.items _ _ _ run
+    (followed_run slot n (λ s. g.S.Slot.PartialEq.eq s slot) (λ s. g.met.S.Storages.exact s slot) g.S.Held.place g.S.CloneStorages.clones g.S.Held.marks g.J.WorldJob.does g.J.WorldJob.wants g.J.WorldJob.spares g.met.J.WorldJob.tells c.args.commands.items _ _ _ run quiet (record { followed = followed; spared = spared })) living

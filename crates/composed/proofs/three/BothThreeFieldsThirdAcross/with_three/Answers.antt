@@ -1,0 +1,7 @@
+use Rattle.std.proofs.Common.{rules}
+use Rattle.composed.proofs.OnParts.{third_alone}
+use Rattle.composed.proofs.three.BothThreeFieldsThirdAcross.with_three.Goals as goal
+
+pub returns-in-Some-clause-some : goal.returns-in-Some-clause-some
+returns-in-Some-clause-some g c =
+    third_alone (λ u s. record { first = g.A.Field.with_part c.args.self.now.first u; rest = s }) c.with_two_and.result _ _ _ _ _ _ _ _ _ (λ a z x y z' x' y' m. search rules) c.in-Some.ensures.value c.with_two_and.ensures.some

@@ -1,0 +1,6 @@
+use Rattle.composed.proofs.OnParts.{on_part_three_beside}
+use Rattle.composed.proofs.with_three.CoreWithThree.with_three.Goals as goal
+
+pub returns-clause-some : goal.returns-clause-some
+returns-clause-some g c =
+    on_part_three_beside (λ p. record { parts = p; alloc = c.args.self.now.alloc }) c.with_three.result _ _ _ _ _ _ _ (rw c.parts.ensures.value at c.with_three.ensures.some)
