@@ -1,7 +1,7 @@
 //! Jobs without laws of their own: at whichever struct of storages, and at a known one.
-ghost use Rattle.std.specs.Prelude.{IfOk};
+ghost use Rattle.specs.specs.Going.{GoesOn};
 ghost use Rattle.specs.specs.Reached.{OnlyLiving};
-ghost use Rattle.specs.specs.State.{state_of};
+ghost use Rattle.specs.specs.State.{core_state, state_of};
 
 use composed::{
     Act, Builder, Component, Core, DenseVecStorage, Doing, Entity, Has, Held, InsertError,
@@ -54,6 +54,19 @@ impl<I, S: Has<Score, I>> Act<S> for Win<I> {
     }
 }
 
+/// An entity with a score is born, where memory is left.
+pub fn scored<S: Has<Score, I>, I>(core: &mut Core<S>)
+    ensures { GoesOn (core_state S.table S.ids core.old) (core_state S.table S.ids core.new) }
+{
+    let entity = match core.create_entity() {
+        Ok(builder) => builder.build(),
+        Err(_) => return,
+    };
+    if let Ok(mut scores) = core.write_storage::<Score, I>() {
+        let _ = scores.insert(entity, Score(0));
+    }
+}
+
 /// Ten entities with a score are born, and where no memory is left, fewer.
 #[derive(Drop)]
 pub struct Tribe<I> {
@@ -67,13 +80,7 @@ impl<I, S: Has<Score, I>> Act<S> for Tribe<I> {
         core: &mut Core<S>,
         _queue: &mut LazyUpdate<S, Doing<Self>>,
     ) -> Result<(), (Self, AllocError)> {
-        core.repeat(10, |core: &mut Core<S>| {
-            if let Ok(entity) = core.create_entity() {
-                if let Ok(entity) = entity.with::<Score, I>(Score(0)) {
-                    entity.build();
-                }
-            }
-        });
+        core.repeat(10, |core: &mut Core<S>| scored::<S, I>(core));
         Ok(())
     }
 }
@@ -98,12 +105,23 @@ impl<S: Storages> Act<S> for Flood {
 /// Storages of scores and of seats.
 pub type Hall = Of2<Score, Seat>;
 
+/// Somebody comes in later, and sits down.
+pub fn seated<S: Has<Seat, I>, I>(core: &mut Core<S>, seat: Seat)
+    ensures { GoesOn (core_state S.table S.ids core.old) (core_state S.table S.ids core.new) }
+{
+    if let Ok(entity) = core.create_pending() {
+        if let Ok(mut seats) = core.write_storage::<Seat, I>() {
+            let _ = seats.insert(entity, seat);
+        }
+    }
+}
+
 /// What happens in a hall, one after another.
 #[derive(Drop)]
 pub enum Deed {
     /// Somebody comes in, and sits down.
     Come(Seat),
-    /// Somebody leaves at the end of the turn, and the next deed is queued.
+    /// Somebody leaves at the end of the turn, and somebody else is to come.
     Leave(Entity),
 }
 
@@ -114,14 +132,7 @@ impl Act<Hall> for Deed {
         queue: &mut LazyUpdate<Hall, Doing<Self>>,
     ) -> Result<(), (Self, AllocError)> {
         match self {
-            Deed::Come(seat) => {
-                let Ok(entity) = core.create_entity() else {
-                    return Err((Deed::Come(seat), AllocError));
-                };
-                if let Ok(entity) = entity.with::<Seat, _>(seat) {
-                    entity.build();
-                }
-            }
+            Deed::Come(seat) => seated::<Hall, _>(core, seat),
             Deed::Leave(entity) => {
                 let _ = core.mark_dead(entity);
                 let _ = queue.exec(Doing(Deed::Come(Seat(0))));

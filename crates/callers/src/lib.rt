@@ -36,6 +36,8 @@ pub use acts::Score;
 pub use acts::Seat;
 pub use acts::Tribe;
 pub use acts::Win;
+pub use acts::scored;
+pub use acts::seated;
 pub use acts::turned;
 pub use by_closure::Pace;
 pub use by_closure::TooFar;

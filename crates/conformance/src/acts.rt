@@ -1,4 +1,7 @@
 //! Jobs without laws of their own: what they change is there at the turn in which they run, and what they queue runs after it.
+ghost use Rattle.specs.specs.Going.{GoesOn};
+ghost use Rattle.specs.specs.State.{core_state};
+
 use crate::asserts::{equal, holds};
 use crate::calls::{done, execute, fresh, raised};
 use crate::stories::{self, told};
@@ -38,6 +41,19 @@ impl<H, S: Has<Health, H>> Act<S> for Heal<H> {
     }
 }
 
+/// An entity with a position is born, where memory is left.
+fn settle<S: Has<Position, P>, P>(core: &mut Core<S>)
+    ensures { GoesOn (core_state S.table S.ids core.old) (core_state S.table S.ids core.new) }
+{
+    let entity = match core.create_entity() {
+        Ok(builder) => builder.build(),
+        Err(_) => return,
+    };
+    if let Ok(mut positions) = core.write_storage::<Position, P>() {
+        let _ = positions.insert(entity, Position(7));
+    }
+}
+
 /// Three entities with a position are born at each turn, so many turns long, and then everyone dies.
 #[derive(Drop)]
 struct Spread<P> {
@@ -64,13 +80,7 @@ impl<P, S: Storages + Has<Position, P>> Act<S> for Spread<P> {
         if queue.exec(Doing(next)).is_err() {
             return Err((self, AllocError));
         }
-        core.repeat(3, |core: &mut Core<S>| {
-            if let Ok(builder) = core.create_entity() {
-                if let Ok(builder) = builder.with::<Position, P>(Position(7)) {
-                    builder.build();
-                }
-            }
-        });
+        core.repeat(3, |core: &mut Core<S>| settle::<S, P>(core));
         Ok(())
     }
 }

@@ -1,8 +1,11 @@
 //! The jobs of a script's own.
-ghost use Rattle.std.specs.Prelude.{◌≡◌, OnOk, OnErr};
+ghost use Rattle.std.specs.Prelude.{◌≡◌, [], ◌∷◌, ◌++◌, IfErr, OnOk, OnErr};
 ghost use Rattle.specs.specs.State.{core_state};
 ghost use Rattle.specs.specs.People.{BirthWantsMemory};
+ghost use Rattle.specs.specs.Queue.{queued};
+ghost use Rattle.specs.specs.declared.job.Job.TheVariants.{Own};
 ghost use Rattle.specs_run.specs.Jobs.{MayRaise};
+ghost use Rattle.specs_run.specs.declared.script_job.ScriptJob.TheVariants.{Again};
 
 use specs::{Core, CreateError, Held, LazyUpdate, WorldJob};
 use std::alloc::AllocError;
@@ -31,10 +34,7 @@ impl<S: Held> WorldJob<S> for ScriptJob {
         queue: &mut LazyUpdate<S, ScriptJob>,
     ) -> Result<(), (ScriptJob, AllocError)> {
         match self {
-            ScriptJob::Again => match queue.exec(ScriptJob::Again) {
-                Ok(()) => Ok(()),
-                Err(failed) => Err((failed.value, AllocError)),
-            },
+            ScriptJob::Again => again(queue),
             ScriptJob::Create => match raise(core) {
                 Ok(()) => Ok(()),
                 Err(refused) => Err((ScriptJob::Create, refused)),
@@ -47,6 +47,18 @@ impl<S: Held> WorldJob<S> for ScriptJob {
     ghost lives = { lives_on S.place };
 
     ghost tells = { λ j slot n old new more s spared l. tells j slot n old new more s l };
+}
+
+/// The job that queues itself is queued again.
+fn again<S: Held>(queue: &mut LazyUpdate<S, ScriptJob>) -> Result<(), (ScriptJob, AllocError)>
+    ensures ok { OnOk result (queued queue.new ≡ queued queue.old ++ Own Again ∷ []) }
+    ensures back { IfErr result (λ r. r.0 ≡ Again) }
+    ensures err { OnErr result (queued queue.new ≡ queued queue.old) }
+{
+    match queue.exec(ScriptJob::Again) {
+        Ok(()) => Ok(()),
+        Err(failed) => Err((failed.value, AllocError)),
+    }
 }
 
 /// A pending birth, or nothing where no index is left.
