@@ -1,5 +1,5 @@
 //! A world over components that own memory: it gives clones, keeps its own, and lets what it has go with its entities.
-use crate::world::{Ledger, Store, called, ledger, told};
+use crate::world::{Ledger, Store, called, ledger};
 use crate::{boxes, cargos, names};
 use composed::{Command, Entity, Reply, slot};
 use std::alloc::Global;
@@ -32,7 +32,7 @@ fn a_command_gives_a_clone_and_the_name_stays(rt: HostRuntime) -> Result<(), Fai
     let mut commands = Vec::new(alloc);
     commands.push(Command::Get(slot, entity))?;
     commands.push(Command::Get(slot, entity))?;
-    let replies = told(&mut world, commands)?;
+    let replies = world.run(commands)?;
     let given = |reply: &Reply<_>| matches!(reply, Reply::Value(Some(_)));
     assert!(rt; replies.len() == 2);
     assert!(rt; replies.iter().all(given));
