@@ -5,6 +5,7 @@ use crate::json_data::JsonData;
 use crate::json_parts::{JsonParts, push_one, split_one};
 use serde_json::Value;
 use std::alloc::{AllocError, Global};
+use std::fmt;
 use std::marker::Model;
 
 /// A text that is saved: a `String` of which contracts see the bytes alone, and not its address or its capacity, which no save keeps.
@@ -57,6 +58,13 @@ impl SavedText {
         ensures { IfOk result (λ s. s ≡ self.now) }
     {
         SavedText::from_str(alloc, self.as_str())
+    }
+}
+
+/// As the `String` is shown.
+impl fmt::Debug for SavedText {
+    fn fmt<W: fmt::Write>(&self, f: &mut fmt::Formatter<W>) -> fmt::Result {
+        fmt::Debug::fmt(&self.text, f)
     }
 }
 

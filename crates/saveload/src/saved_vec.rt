@@ -7,6 +7,7 @@ use crate::json_data::JsonData;
 use crate::json_parts::{JsonParts, push_one, row_of, row_value, split_one};
 use serde_json::Value;
 use std::alloc::{AllocError, Global};
+use std::fmt;
 use std::marker::Model;
 
 /// A list that is saved: a `Vec` of which contracts see the items alone, and not its address or its capacity, which no save keeps.
@@ -65,6 +66,13 @@ impl<T: Copy + Drop> SavedVec<T> {
         let mut list = Vec::with_capacity(alloc, self.list.len())?;
         list.extend_from_slice(self.list.as_slice())?;
         Ok(SavedVec { list })
+    }
+}
+
+/// As the `Vec` is shown.
+impl<T: fmt::Debug> fmt::Debug for SavedVec<T> {
+    fn fmt<W: fmt::Write>(&self, f: &mut fmt::Formatter<W>) -> fmt::Result {
+        fmt::Debug::fmt(&self.list, f)
     }
 }
 
