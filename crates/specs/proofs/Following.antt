@@ -1,30 +1,24 @@
 -- A reader who follows a slot gets what leads from its values before a run to those after.
-use Rattle.std.proofs.Common.{◌≡◌, ◌≢◌, ℕ, Bool, true, false, eqb, List, [], ◌∷◌, ◌++◌, refl, sym, ap, ◌∙◌, subst, Option, Some, None, is_some, inl, inr, append_assoc, pos}
-use Rattle.std.specs.Prelude.{MatchOption, ◌⊎◌}
-use Rattle.std.specs.Cmp.{signed_Decides}
-use Rattle.std.specs.Option.{option_map}
-use Rattle.std.specs.Ordering.{int_eq}
+use Rattle.std.proofs.Common.{◌≡◌, ◌≢◌, ℕ, Bool, true, false, eqb, List, [], ◌∷◌, refl, sym, ap, ◌∙◌, subst, Option, Some, None, is_some, inl, inr}
 use mathlib.Core.Path.{fun_ext}
-use Rattle.std.proofs.lemmas.Bool.{false≢true, cases_Bool, both_ways}
+use Rattle.std.proofs.lemmas.Bool.{false≢true, cases_Bool}
 use Rattle.std.proofs.lemmas.List.Folds.{list_any-append}
-use Rattle.entities.specs.declared.entity.Entity.{Entity}
-use Rattle.entities.specs.Population.{Population, index_of, generation_of, lives, IsAlive}
 use Rattle.entities.specs.Merges.{the_marked}
 use Rattle.storages.specs.declared.event.ComponentEvent.{ComponentEvent}
 use Rattle.storages.specs.Channel.{Channel}
 use Rattle.storages.specs.Tracking.{without_reader, switched}
 use Rattle.storages.specs.Unread.{unread_of, dropped}
-use Rattle.specs.specs.Clones.{Clones, no_clones}
+use Rattle.specs.specs.Clones.{Clones}
 use Rattle.specs.specs.declared.command.Command.{Command}
 use Rattle.specs.specs.declared.command.Command.TheVariants.{Register, Create, CreatePending, Delete, DeleteAll, MarkDead, IsAlive as AskAlive, IsLiving as AskLiving, EntityAt, Insert, Get, Remove, Clear, Count as AskCount, Select, Queue, Maintain, Reader, Events, DropReader, Emit}
 use Rattle.specs.specs.declared.command.Reply.{Reply}
 use Rattle.specs.specs.declared.command.Reply.TheVariants.{Done, Entity as Told, Bool as Yes, Value, Count, Indices, Maintained as Kept, Reader as NewReader, Events as Given, Refused, InsertRefused}
-use Rattle.specs.specs.Column.{Column, without_values}
-use Rattle.specs.specs.Table.{Table, Begins, Removes}
+use Rattle.specs.specs.Column.{Column}
+use Rattle.specs.specs.Table.{Table}
 use Rattle.specs.specs.Readers.{with_channel}
 use Rattle.specs.specs.People.{the_living}
 use Rattle.specs.specs.Reached.{OnlyLiving}
-use Rattle.specs.specs.State.{State, OnTable, merged}
+use Rattle.specs.specs.State.{State, merged}
 use Rattle.specs.specs.Steps.{WorldState, CoreStep, Maintains, Step, Run}
 use Rattle.specs.specs.declared.command.Maintained.{Maintained}
 use Rattle.specs.specs.declared.job.Job.{Job}
@@ -36,53 +30,27 @@ use Rattle.specs.proofs.Lasting.{living_whatever_ids, grown, merged_kept, insert
 use Rattle.specs.specs.Leading.{index_at, replay, is_named}
 use Rattle.specs.specs.Following.{values, unread, IsListening, IsFollowed, Follows, Replays, given_by, given, Throughout, JobSpares, AllSpare, Spared, IsWatched, IsQuiet, AreQuiet, Tells}
 use Rattle.specs.specs.Marks.{Markers}
-use Rattle.specs.specs.Leads.{leads_more, replay-append, or_false}
+use Rattle.specs.specs.Leads.{replay-append, or_false}
 use Rattle.storages.specs.Heard.{dropped_gone}
-use Rattle.specs.specs.Advancing.{Keeps, puts, takes, loses, empties, registers, drops, switches, reads}
-use Rattle.specs.specs.OneSlot.{KeepsAt, is_or_not, same_slot, same_table, one_slot, one_quiet, inserted_keeps, living_below}
-
--- an entity lives or not
-alive_or_not : (p : Population) (e : Entity) → IsAlive p e ⊎ (IsAlive p e → ⊥)
-alive_or_not p e = elim (cases_Bool (lives p (index_of e))) [
-  | inl on ↦ elim (cases_Bool (int_eq (generation_of e) (pos (p.births (index_of e))))) [
-    | inl same ↦ inl (on, (signed_Decides (generation_of e) (pos (p.births (index_of e)))).0 same)
-    | inr other ↦ inr (λ a. both_ways _ other ((signed_Decides (generation_of e) (pos (p.births (index_of e)))).1 a.1))
-  ]
-  | inr off ↦ inr (λ a. both_ways _ off a.0)
-]
+use Rattle.specs.specs.Advancing.{Keeps, empties, registers, drops, switches, reads}
+use Rattle.specs.specs.OneSlot.{KeepsAt, same_table, one_slot, one_quiet, advances_more, dropped_keeps, inserted_keeps, registered_keeps, removed_keeps, living_below}
 
 module _ {K V : Type 0} (slot : K) (n : ℕ) (here : K → Bool) (tells : Tells here slot) where
-  starts : (s : K) (old new : Table K V) (o : Option (Column V)) → o ≡ old s → MatchOption o (Begins old s new) (λ _. new ≡ old) → IsListening n (old slot) → KeepsAt slot n old new []
-  starts s old new None e r l = elim (is_or_not slot here tells s) [
-    | inl same ↦ absurd (subst (λ (o : Option (Column V)). IsListening n o) (sym (subst (λ t. None ≡ old t) same e)) l)
-    | inr other ↦ same_slot slot n old new (r.becomes.others slot (λ q. other (sym q))) l
-  ]
-  starts s old new (Some c) e r l = same_table slot n old new r l
-
-  removes : (p : Population) (s : K) (e : Entity) (found : Option V) (old new : Table K V) → Removes p old s e found new → IsListening n (old slot) → KeepsAt slot n old new []
-  removes p s e found old new r l = elim (alive_or_not p e) [
-    | inl a ↦ one_quiet slot n here tells s old new r.column _ r.registered (r.alive a).1 l (λ same. takes n r.column (index_of e))
-    | inr d ↦ same_table slot n old new (r.dead d).1 l
-  ]
-
-  deaths : (es : List Entity) (old new : State K V) → new.table slot ≡ option_map (without_values es) (old.table slot) → IsListening n (old.table slot) → KeepsAt slot n old.table new.table []
-  deaths es old new is l = subst (λ (o : Option (Column V)). Keeps n (old.table slot) o []) (sym is) (loses n es (old.table slot) l)
-
   pub keeps_following : {S J : Type 0} (spares : J → K → ℕ → Type 0) (place : V → K) (clones : Clones K V) (old : State K V) (c : Command S J K V) (r : Reply V) (new : State K V) → CoreStep place clones old c r new → IsQuiet spares slot n c → IsFollowed slot n old → Keeps n (old.table slot) (new.table slot) (given_by here n c r)
   keeps_following spares place clones old command (Refused r) new s q l = same_table slot n old.table new.table (ap (λ (t : State K V). t.table) s.1) l
-  keeps_following spares place clones old (Register slot') Done new s q l = starts slot' old.table new.table (old.table slot') refl s.table l
+  keeps_following spares place clones old (Register slot') Done new s q l = registered_keeps slot n here tells slot' old.table new.table (old.table slot') refl s.table l
   keeps_following spares place clones old Create (Told e) new s q l = same_table slot n old.table new.table s.table l
   keeps_following spares place clones old CreatePending (Told e) new s q l = same_table slot n old.table new.table s.table l
-  keeps_following spares place clones old (Delete es) Done new s q l = deaths es.items old new (s.table slot) l
-  keeps_following spares place clones old DeleteAll Done new s q l = deaths (the_living old.people) old new (s.table slot) l
+  keeps_following spares place clones old (Delete es) Done new s q l = dropped_keeps slot n es.items old.table new.table (s.table slot) l
+  keeps_following spares place clones old DeleteAll Done new s q l = dropped_keeps slot n (the_living old.people) old.table new.table (s.table slot) l
   keeps_following spares place clones old (MarkDead e) Done new s q l = same_table slot n old.table new.table s.table l
   keeps_following spares place clones old (AskAlive e) (Yes b) new s q l = same_table slot n old.table new.table (ap (λ (t : State K V). t.table) s.1) l
   keeps_following spares place clones old (AskLiving e) (Yes b) new s q l = same_table slot n old.table new.table (ap (λ (t : State K V). t.table) s.1) l
   keeps_following spares place clones old (EntityAt i) (Told e) new s q l = same_table slot n old.table new.table (ap (λ (t : State K V). t.table) s.1) l
-  keeps_following spares place clones old (Insert e value) (Value before) new s q l = one_quiet slot n here tells (place value) old.table new.table s.table.column _ s.table.registered s.table.put l (λ same. puts n s.table.column (index_of e) value)
+  keeps_following spares place clones old (Insert e value) (Value before) new s q l = inserted_keeps slot n here tells place old new e value before s l
   keeps_following spares place clones old (Insert e value) (InsertRefused r back) new s q l = same_table slot n old.table new.table (ap (λ (t : State K V). t.table) s.2) l
   keeps_following spares place clones old (Get k e) (Value found) new s q l = same_table slot n old.table new.table (ap (λ (t : State K V). t.table) s.1) l
-  keeps_following spares place clones old (Remove k e) (Value found) new s q l = removes old.people k e found old.table new.table s.table l
+  keeps_following spares place clones old (Remove k e) (Value found) new s q l = removed_keeps slot n here tells old.people k e found old.table new.table s.table l
   keeps_following spares place clones old (Clear k) Done new s q l = one_quiet slot n here tells k old.table new.table s.table.column _ s.table.registered s.table.cleared l (λ same. empties n s.table.column)
   keeps_following spares place clones old (AskCount k) (Count m) new s q l = same_table slot n old.table new.table (ap (λ (t : State K V). t.table) s.1) l
   keeps_following spares place clones old (Select x) (Indices is) new s q l = same_table slot n old.table new.table (ap (λ (t : State K V). t.table) s.1) l
@@ -112,35 +80,21 @@ module _ {K V : Type 0} (slot : K) (n : ℕ) (here : K → Bool) (tells : Tells 
   follows_step spares place clones old (Queue job) r new s w l after = absurd s
   follows_step spares place clones old c r new s w l after = (keeps_following spares place clones old c r new s tt l).advances (living_below slot old w)
 
-  -- what follows one part of a run and then the other follows both
-  follows_more : (a b c : State K V) (g h : List ComponentEvent) → Follows slot n a b g → Follows slot n b c h → Follows slot n a c (g ++ h)
-  follows_more a b c g h f k = record {
-    events = f.events ++ k.events;
-    leads = leads_more (values a slot) (values b slot) (values c slot) f.events k.events f.leads k.leads;
-    told =
-        append_assoc g h (unread c slot n) ∙ ap (λ xs. g ++ xs) k.told ∙ sym (append_assoc g (unread b slot n) k.events)
-        ∙ ap (λ xs. xs ++ k.events) f.told ∙ append_assoc (unread a slot n) f.events k.events;
-  }
-
-  -- what the removal of a job leaves the reader
-  removed_keeps : (place : V → K) (old new : State K V) (k : K) (e : Entity) (found : Option V) → OnTable (λ t t'. Removes old.people t k e found t') old new → IsFollowed slot n old → KeepsAt slot n old.table new.table []
-  removed_keeps place old new k e found s l = keeps_following {S = ℕ} {J = ℕ} (λ _ _ _. Unit {0}) place no_clones old (Remove k e) (Value found) new s tt l
-
   -- a state in the middle of a run of jobs, to which what followed leads from the first one
-  record GoesOn (first s : State K V) : Type 0 where
+  record StillFollows (first s : State K V) : Type 0 where
     living : OnlyLiving s
     followed : IsFollowed slot n s
     follows : Follows slot n first s []
 
-  goes_whatever_ids : (first s : State K V) (ids : Ids K) → GoesOn first s → GoesOn first (record s { ids = ids })
+  goes_whatever_ids : (first s : State K V) (ids : Ids K) → StillFollows first s → StillFollows first (record s { ids = ids })
   goes_whatever_ids first s ids h = record {
     living = living_whatever_ids s ids h.living;
     followed = h.followed;
     follows = record { events = h.follows.events; leads = h.follows.leads; told = h.follows.told };
   }
 
-  goes_on : (first old new : State K V) → GoesOn first old → OnlyLiving new → KeepsAt slot n old.table new.table [] → GoesOn first new
-  goes_on first old new h living k = record { living = living; followed = k.listening; follows = follows_more first old new [] [] h.follows (k.advances (living_below slot old h.living)) }
+  goes_on : (first old new : State K V) → StillFollows first old → OnlyLiving new → KeepsAt slot n old.table new.table [] → StillFollows first new
+  goes_on first old new h living k = record { living = living; followed = k.listening; follows = advances_more n (first.table slot) (old.table slot) (new.table slot) [] [] h.follows (k.advances (living_below slot old h.living)) }
 
   module _ {S J : Type 0} (place : V → K) (clones : Clones K V) (marks : Markers K V) (does : J → State K V → List (Job S J K V) → State K V → Type 0) (wants : J → State K V → Type 0) (spares : J → K → ℕ → Type 0)
       (law : (j : J) (slot : K) (n : ℕ) (old new : State K V) (more : List (Job S J K V)) → does j old more new → spares j slot n → IsFollowed slot n old → Spared spares slot n old more new) where
@@ -148,7 +102,7 @@ module _ {K V : Type 0} (slot : K) (n : ℕ) (here : K → Bool) (tells : Tells 
     followed_jobs : (stopped : Bool) (limit count counted : ℕ) (old new : State K V) (jobs left : List (Job S J K V)) → RunsJobs place marks does wants stopped limit count counted old jobs new left → AllSpare spares slot n jobs → IsFollowed slot n old → IsFollowed slot n new × AllSpare spares slot n left
     followed_jobs = carried place marks does wants (IsFollowed slot n) (JobSpares spares slot n) (λ s ids l. l)
         (λ place old new e value before s l. (inserted_keeps slot n here tells place old new e value before s l).listening)
-        (λ old new k e found s l. (removed_keeps place old new k e found s l).listening)
+        (λ old new k e found s l. (removed_keeps slot n here tells old.people k e found old.table new.table s.table l).listening)
         (λ j old new more q s l. ((law j slot n old new more s q l).followed, (law j slot n old new more s q l).added))
         (λ pairs rest q. tt)
 
@@ -158,7 +112,7 @@ module _ {K V : Type 0} (slot : K) (n : ℕ) (here : K → Bool) (tells : Tells 
       spared = subst (AllSpare spares slot n) (sym s.jobs) (each_more (JobSpares spares slot n) old.jobs (job ∷ []) h.spared (q, tt));
     }
     watched_step old (Maintain limit) (Kept m) new s q h =
-        let after = followed_jobs m.stopped limit m.ran m.refused (merged old.core) new.core old.jobs new.jobs s.jobs h.spared (deaths (the_marked old.core.people) old.core (merged old.core) refl h.followed).listening in
+        let after = followed_jobs m.stopped limit m.ran m.refused (merged old.core) new.core old.jobs new.jobs s.jobs h.spared (dropped_keeps slot n (the_marked old.core.people) old.core.table (merged old.core).table refl h.followed).listening in
         record { followed = after.0; spared = after.1 }
     watched_step old c r new s q h = record {
       followed = (keeps_following spares place clones old.core c r new.core s.core q h.followed).listening;
@@ -181,20 +135,20 @@ module _ {K V : Type 0} (slot : K) (n : ℕ) (here : K → Bool) (tells : Tells 
         (lives_on : (j : J) (old new : State K V) (more : List (Job S J K V)) → does j old more new → OnlyLiving old → ValuesLive new) where
       maintain_follows : (old new : WorldState S J K V) (limit : ℕ) (m : Maintained) → Maintains place marks does wants old limit m new → OnlyLiving old.core → IsWatched spares slot n old → Follows slot n old.core new.core []
       maintain_follows old new limit m s w h =
-          let dying = deaths (the_marked old.core.people) old.core (merged old.core) refl h.followed in
-          (carried place marks does wants (GoesOn old.core) (JobSpares spares slot n) (goes_whatever_ids old.core)
+          let dying = dropped_keeps slot n (the_marked old.core.people) old.core.table (merged old.core).table refl h.followed in
+          (carried place marks does wants (StillFollows old.core) (JobSpares spares slot n) (goes_whatever_ids old.core)
           (λ place a b e value before s h. goes_on old.core a b h (inserted_living place a b e value before s h.living) (inserted_keeps slot n here tells place a b e value before s h.followed))
-          (λ a b k e found s h. goes_on old.core a b h (removed_living place a b k e found s h.living) (removed_keeps place a b k e found s h.followed))
+          (λ a b k e found s h. goes_on old.core a b h (removed_living place a b k e found s h.living) (removed_keeps slot n here tells a.people k e found a.table b.table s.table h.followed))
           (λ j a b more q s h. (own_goes_on old.core j a b more q s h, (law j slot n a b more s q h.followed).added))
           (λ pairs rest q. tt)
           m.stopped limit m.ran m.refused (merged old.core) new.core old.jobs new.jobs s.jobs h.spared
           (record { living = merged_kept old.core w; followed = dying.listening; follows = dying.advances (living_below slot old.core w) })).0.follows
         where
-          own_goes_on : (first : State K V) (j : J) (a b : State K V) (more : List (Job S J K V)) → spares j slot n → does j a more b → GoesOn first a → GoesOn first b
+          own_goes_on : (first : State K V) (j : J) (a b : State K V) (more : List (Job S J K V)) → spares j slot n → does j a more b → StillFollows first a → StillFollows first b
           own_goes_on first j a b more q s h = record {
             living = grown a b (grows j a b more s) h.living (lives_on j a b more s h.living);
             followed = (law j slot n a b more s q h.followed).followed;
-            follows = follows_more first a b [] [] h.follows ((law j slot n a b more s q h.followed).follows h.living);
+            follows = advances_more n (first.table slot) (a.table slot) (b.table slot) [] [] h.follows ((law j slot n a b more s q h.followed).follows h.living);
           }
 
       world_follows : (old : WorldState S J K V) (c : Command S J K V) (r : Reply V) (new : WorldState S J K V) → Step place clones marks does wants old c r new → OnlyLiving old.core → IsWatched spares slot n old → IsWatched spares slot n new → Follows slot n old.core new.core (given_by here n c r)
@@ -208,7 +162,7 @@ module _ {K V : Type 0} (slot : K) (n : ℕ) (here : K → Bool) (tells : Tells 
       follows_run (c ∷ cs) [] old new run t w = absurd run
       follows_run (c ∷ cs) (r ∷ rs) old new run t w =
           let mid : WorldState S J K V = run.0 in
-          follows_more old.core mid.core new.core (given_by here n c r) (given here n cs rs)
+          advances_more n (old.core.table slot) (mid.core.table slot) (new.core.table slot) (given_by here n c r) (given here n cs rs)
           (world_follows old c r mid run.1 w t.0 (at_first cs rs mid new run.2 t.1))
           (follows_run cs rs mid new run.2 t.1 (living_step place clones marks does wants grows lives_on old c r mid run.1 w))
 

@@ -1,16 +1,17 @@
 -- Single calls go on by a step of the model.
-use Rattle.std.proofs.Common.{◌≡◌, ◌∙◌, suc, true, false, Bool, Option, Some, None, List, [], ◌++◌, refl, sym, subst, inl, inr, append-nil, append_assoc, ap}
+use Rattle.std.proofs.Common.{◌≡◌, ◌∙◌, suc, Bool, Option, Some, None, List, [], ◌++◌, refl, sym, subst, inl, inr, append-nil, append_assoc, ap}
 use Rattle.std.specs.Prelude.{Result, Ok, Err, OnOk, OnErr}
 use Rattle.entities.specs.declared.entity.Entity.{Entity}
-use Rattle.entities.specs.Population.{Population, born, born_pending}
+use Rattle.entities.specs.Population.{born, born_pending}
 use Rattle.specs.specs.Dropping.{DropsComponents}
 use Rattle.specs.specs.Building.{PutsAlone, MaybePuts}
 use Rattle.specs.specs.Going.{OneStep, ComesOf, GoesOn, Lengthens}
+use Rattle.specs.specs.GoingLaws.{any_marker}
 use Rattle.specs.specs.Marking.{HasMarkerThen, GivesMarkerIn}
-use Rattle.specs.specs.Marks.{Markers, GivesMarker}
+use Rattle.specs.specs.Marks.{Markers}
 use Rattle.specs.specs.People.{Births, Marks}
 use Rattle.specs.specs.State.{State, OnPeople, OnTable, Deletes, InsertsAlone, RemovesAlone}
-use Rattle.specs.specs.Table.{Table, Registers, Inserts, Clears}
+use Rattle.specs.specs.Table.{Registers, Inserts, Clears}
 
 module _ {K V : Type 0} where
   pub begins : (s : State K V) → ComesOf s s
@@ -70,14 +71,9 @@ module _ {K V : Type 0} (old new : State K V) where
   pub on_dropped : (es : List Entity) → DropsComponents es old new → GoesOn old new
   on_dropped es s = on_step (inr (inr (inr (inr (inr (inr (inr (inr (inl (es, s))))))))))
 
-  whatever : (comes : V → Type 0) (p : Population) (t t' : Table K V) (slot : K) (e : Entity) (given : Option Bool) → GivesMarker comes p t slot e given t' → GivesMarker (λ _. Unit {0}) p t slot e given t'
-  whatever comes p t t' slot e None g = g
-  whatever comes p t t' slot e (Some false) g = g
-  whatever comes p t t' slot e (Some true) g = record { column = g.column; registered = g.registered; alive = g.alive; absent = g.absent; value = g.value; comes = tt; put = g.put }
-
   pub on_given : (marks : Markers K V) (slot : K) (e : Entity) (given : Option Bool) → GivesMarkerIn marks slot e given old new → GoesOn old new
   on_given marks slot e given g =
-      on_step (inr (inr (inr (inr (inr (inr (inr (inr (inr (slot, e, record { given = given; people = g.people; table = whatever _ old.people old.table new.table slot e given g.table; ids = g.ids }))))))))))
+      on_step (inr (inr (inr (inr (inr (inr (inr (inr (inr (slot, e, record { given = given; people = g.people; table = any_marker _ old.people old.table new.table slot e given g.table; ids = g.ids }))))))))))
 
   pub on_labelled : (marks : Markers K V) (slot : K) (e : Entity) → HasMarkerThen marks slot e old new → GoesOn old new
   on_labelled marks slot e s = on_given marks slot e s.given s.gives

@@ -1,5 +1,5 @@
 -- What single calls keep: each index with a value lives, and who is gone stays gone.
-use Rattle.std.proofs.Common.{◌≡◌, ℕ, true, false, List, refl, sym, ap, ◌∙◌, subst, Option, Some, None, inl, inr}
+use Rattle.std.proofs.Common.{◌≡◌, ℕ, true, false, List, refl, sym, ap, subst, Option, Some, None, inl, inr}
 use Rattle.std.specs.Prelude.{IsSome, MatchOption}
 use Rattle.std.proofs.lemmas.Bool.{false≢true, cases_Bool, both_ways}
 use Rattle.entities.specs.declared.entity.Entity.{Entity}
@@ -9,8 +9,9 @@ use Rattle.specs.specs.Building.{MarksOne}
 use Rattle.specs.specs.Column.{Column}
 use Rattle.specs.specs.Dropping.{DropsComponents}
 use Rattle.specs.specs.Evolving.{OnePeopleStep}
+use Rattle.specs.specs.GoingLaws.{any_marker, dropped_lives, labels_lives}
 use Rattle.specs.specs.Gone.{IsGone, KeepsGone}
-use Rattle.specs.specs.Living.{birth_kept, deletes_kept, kept_values, lives_born, lives_born_pending, mark_kept, put_within, removes_within, still_lives, still_lives_pending, table_only, unchanged, within_becomes, within_register}
+use Rattle.specs.specs.Living.{birth_kept, deletes_kept, lives_born, lives_born_pending, mark_kept, put_within, removes_within, still_lives, still_lives_pending, table_only, unchanged, within_becomes, within_register}
 use Rattle.specs.specs.Maps.{no_value}
 use Rattle.specs.specs.Marking.{HasMarkerThen, GivesMarkerIn}
 use Rattle.specs.specs.Marks.{Markers}
@@ -63,7 +64,7 @@ module _ {K V : Type 0} (old new : State K V) where
   living_dead es s = deletes_kept es old new s
 
   pub living_dropped : (es : List Entity) → DropsComponents es old new → KeepsLiving old new
-  living_dropped es s w = table_only old new s.people w (λ slot m i is has. (kept_values _ (old.table slot) (lives old.people) (w.values slot) m i (sym (s.table slot) ∙ is) has).1)
+  living_dropped es s = dropped_lives es old new s
 
   pub living_inserted : (place : V → K) (e : Entity) (value : V) (before : Option V) → Inserts place old.people old.table e value before new.table → new.people ≡ old.people → KeepsLiving old new
   living_inserted place e value before i same w =
@@ -89,19 +90,11 @@ module _ {K V : Type 0} (old new : State K V) where
   pub living_begun : (slot : K) (c : Column V) → c.values ≡ no_value → OnTable (λ t t'. RegistersAs t slot c t') old new → KeepsLiving old new
   living_begun slot c none s = begun slot c (old.table slot) none s.people s.table
 
-  labelled : (marks : Markers K V) (slot : K) (e : Entity) (given : Option _) → GivesMarkerIn marks slot e given old new → KeepsLiving old new
-  labelled marks slot e None s w = same_within s.table.2 s.people w
-  labelled marks slot e (Some false) s w = same_within s.table.1 s.people w
-  labelled marks slot e (Some true) s w =
-      let g = s.table in
-      table_only old new s.people w (within_becomes old.table new.table slot _ (lives old.people) g.put w.values
-      (put_within g.column.values (index_of e) g.value (lives old.people) g.alive.0 (λ j. w.values slot g.column j g.registered)))
-
   pub living_given : (marks : Markers K V) (slot : K) (e : Entity) (given : Option _) → GivesMarkerIn marks slot e given old new → KeepsLiving old new
-  living_given marks slot e given s = labelled marks slot e given s
+  living_given marks slot e given s = labels_lives slot e given old new s.people (any_marker _ old.people old.table new.table slot e given s.table)
 
   pub living_labelled : (marks : Markers K V) (slot : K) (e : Entity) → HasMarkerThen marks slot e old new → KeepsLiving old new
-  living_labelled marks slot e s = labelled marks slot e s.given s.gives
+  living_labelled marks slot e s = living_given marks slot e s.given s.gives
 
   pub gone_labelled : (marks : Markers K V) (slot : K) (e : Entity) → HasMarkerThen marks slot e old new → KeepsGone old.people new.people
   gone_labelled marks slot e s = gone_same s.gives.people
@@ -110,12 +103,12 @@ module _ {K V : Type 0} (old new : State K V) where
   pub marks_one : (e : Entity) → MarkedIfAlive old.people e new.people → new.table ≡ old.table → new.ids ≡ old.ids → MarksOne e old new
   marks_one e s table ids = elim (cases_Bool (is_alive old.people e)) [
     | inl on ↦
-        let marks : Marks old.people e new.people = record { alive = alive_fact old.people e on; marked = s.0 (alive_fact old.people e on) } in
+        let marked : OnPeople (λ p p'. Marks p e p') old new = record { people = record { alive = alive_fact old.people e on; marked = s.0 (alive_fact old.people e on) }; table = table; ids = ids } in
         record {
           marks = record { people = s; table = table; ids = ids };
-          living = mark_kept old new e (record { people = marks; table = table; ids = ids });
-          gone = one old.people new.people (inr (inr (inr (inl (e, marks)))));
-          goes_on = on_marked old new e (record { people = marks; table = table; ids = ids });
+          living = living_marked e marked;
+          gone = gone_marked e marked;
+          goes_on = on_marked old new e marked;
         }
     | inr off ↦
         let same = s.1 (λ a. both_ways (is_alive old.people e) off (alive_true old.people e a)) in

@@ -1,27 +1,23 @@
 -- What holds of states that come of one another by steps of the model.
-use Rattle.std.proofs.Common.{◌≡◌, ◌∙◌, ℕ, zero, suc, Bool, true, false, Option, Some, None, List, [], ◌∷◌, ◌++◌, refl, sym, ap, subst, inl, inr, append_assoc}
-use Rattle.std.specs.Prelude.{◌⊎◌, MatchOption}
-use Rattle.std.specs.Option.{option_map}
-use Rattle.std.proofs.lemmas.Bool.{false≢true, cases_Bool, both_ways}
-use Rattle.std.specs.Cmp.{signed_Decides}
-use Rattle.std.specs.Ordering.{int_eq}
-use Rattle.std.proofs.Common.{pos}
+use Rattle.std.proofs.Common.{◌≡◌, ◌∙◌, ℕ, zero, suc, Bool, true, false, Option, Some, None, List, [], ◌∷◌, refl, sym, ap, subst, inl, inr}
 use Rattle.entities.specs.declared.entity.Entity.{Entity}
-use Rattle.entities.specs.Population.{Population, IsAlive, index_of, generation_of, lives, born, born_pending}
+use Rattle.entities.specs.Population.{Population, index_of, lives, born, born_pending}
+use Rattle.specs.specs.Clones.{no_clones}
+use Rattle.specs.specs.declared.command.Command.TheVariants.{Register, Insert, Remove, Clear}
+use Rattle.specs.specs.declared.command.Reply.TheVariants.{Done, Value}
 use Rattle.specs.specs.declared.job.Job.{Job}
 use Rattle.specs.specs.declared.job.Job.TheVariants.{Insert as JobInsert, InsertAll, Remove as JobRemove, Mark, Own}
-use Rattle.specs.specs.Advancing.{Keeps, stays, puts, takes, loses, empties}
-use Rattle.specs.specs.Column.{Column, without_values}
+use Rattle.specs.specs.Advancing.{stays, puts, empties}
+use Rattle.specs.specs.Dropping.{DropsComponents}
 use Rattle.specs.specs.Evolving.{OnePeopleStep, PeopleSteps, Evolves, ValuesLive}
-use Rattle.specs.specs.Following.{IsFollowed, IsListening, Advances, AllSpare, Spared, Tells, unread_at, values_of}
+use Rattle.specs.specs.Following.{IsFollowed, IsListening, Advances, AllSpare, Spared, Tells}
 use Rattle.specs.specs.Going.{OneStep, StepsBy, ComesOf}
-use Rattle.specs.specs.Leads.{leads_more}
-use Rattle.specs.specs.Living.{birth_kept, deletes_kept, kept_values, lives_born, lives_born_pending, mark_kept, put_within, removes_within, still_lives, still_lives_pending, table_only, within_becomes, within_register}
+use Rattle.specs.specs.Living.{birth_kept, deletes_kept, keeps_step, kept_values, lives_born, lives_born_pending, mark_kept, put_within, still_lives, still_lives_pending, table_only, within_becomes}
 use Rattle.specs.specs.Marks.{GivesMarker}
-use Rattle.specs.specs.OneSlot.{KeepsAt, is_or_not, same_slot, same_table, one_quiet, inserted_keeps, living_below}
+use Rattle.specs.specs.OneSlot.{KeepsAt, same_table, one_quiet, advances_more, dropped_keeps, inserted_keeps, registered_keeps, removed_keeps, living_below}
 use Rattle.specs.specs.Reached.{OnlyLiving}
 use Rattle.specs.specs.State.{State}
-use Rattle.specs.specs.Table.{Table, Begins, Removes}
+use Rattle.specs.specs.Table.{Table}
 
 -- a further step of a population
 steps_more : (n : ℕ) (p q r : Population) → PeopleSteps n p q → OnePeopleStep q r → PeopleSteps (suc n) p r
@@ -30,16 +26,6 @@ steps_more (suc n) p q r s t = (s.0, s.1, steps_more n s.0 q r s.2 t)
 
 evolves_more : (p q r : Population) → Evolves p q → OnePeopleStep q r → Evolves p r
 evolves_more p q r e s = record { count = suc e.count; steps = steps_more e.count p q r e.steps s }
-
--- an entity lives or not
-alive_or_not : (p : Population) (e : Entity) → IsAlive p e ⊎ (IsAlive p e → ⊥)
-alive_or_not p e = elim (cases_Bool (lives p (index_of e))) [
-  | inl on ↦ elim (cases_Bool (int_eq (generation_of e) (pos (p.births (index_of e))))) [
-    | inl same ↦ inl (on, (signed_Decides (generation_of e) (pos (p.births (index_of e)))).0 same)
-    | inr other ↦ inr (λ a. both_ways _ other ((signed_Decides (generation_of e) (pos (p.births (index_of e)))).1 a.1))
-  ]
-  | inr off ↦ inr (λ a. both_ways _ off a.0)
-]
 
 module _ {K V : Type 0} where
   -- one step of the people, or none
@@ -63,27 +49,33 @@ module _ {K V : Type 0} where
   pub comes_grows : (old new : State K V) → ComesOf old new → Evolves old.people new.people
   comes_grows old new c = grows_by c.count old new c.steps
 
-  labels_lives : (slot : K) (e : Entity) (given : Option Bool) (old new : State K V) → new.people ≡ old.people → GivesMarker (λ _. Unit {0}) old.people old.table slot e given new.table → OnlyLiving old → OnlyLiving new
+  -- a marker is given, whichever may come
+  pub any_marker : (Comes : V → Type 0) (p : Population) (old new : Table K V) (slot : K) (e : Entity) (given : Option Bool) → GivesMarker Comes p old slot e given new → GivesMarker (λ _. Unit {0}) p old slot e given new
+  any_marker Comes p old new slot e None g = g
+  any_marker Comes p old new slot e (Some false) g = g
+  any_marker Comes p old new slot e (Some true) g = record { column = g.column; registered = g.registered; alive = g.alive; absent = g.absent; value = g.value; comes = tt; put = g.put }
+
+  -- each index with a value still lives where an entity gets a marker, and where components are let go
+  pub labels_lives : (slot : K) (e : Entity) (given : Option Bool) (old new : State K V) → new.people ≡ old.people → GivesMarker (λ _. Unit {0}) old.people old.table slot e given new.table → OnlyLiving old → OnlyLiving new
   labels_lives slot e None old new same g w = table_only old new same w (rw g.2 w.values)
   labels_lives slot e (Some false) old new same g w = table_only old new same w (rw g.1 w.values)
   labels_lives slot e (Some true) old new same g w =
       table_only old new same w (within_becomes old.table new.table slot _ (lives old.people) g.put w.values
       (put_within g.column.values (index_of e) g.value (lives old.people) g.alive.0 (λ j. w.values slot g.column j g.registered)))
 
+  pub dropped_lives : (es : List Entity) (old new : State K V) → DropsComponents es old new → OnlyLiving old → OnlyLiving new
+  dropped_lives es old new s w = table_only old new s.people w (λ slot m i is has. (kept_values _ (old.table slot) (lives old.people) (w.values slot) m i (sym (s.table slot) ∙ is) has).1)
+
   living_more : (old new : State K V) → OneStep old new → OnlyLiving old → OnlyLiving new
   living_more old new (inl s) w = birth_kept born old new s.0 (λ p i. refl) lives_born still_lives s.1 w
   living_more old new (inr (inl s)) w = birth_kept born_pending old new s.0 (λ p i. refl) lives_born_pending still_lives_pending s.1 w
   living_more old new (inr (inr (inl s))) w = deletes_kept s.0 old new s.1 w
   living_more old new (inr (inr (inr (inl s)))) w = mark_kept old new s.0 s.1 w
-  living_more old new (inr (inr (inr (inr (inl s))))) w = table_only old new s.1.people w (within_register old.table new.table s.0 (lives old.people) (old.table s.0) refl s.1.table w.values)
-  living_more old new (inr (inr (inr (inr (inr (inl s)))))) w =
-      let t = s.4.table in
-      table_only old new s.4.people w (within_becomes old.table new.table s.0 _ (lives old.people) t.put w.values
-      (put_within t.column.values (index_of s.1) s.2 (lives old.people) t.alive.0 (λ j. w.values s.0 t.column j t.registered)))
-  living_more old new (inr (inr (inr (inr (inr (inr (inl s))))))) w = table_only old new s.3.people w (removes_within old.people old.table new.table s.0 s.1 s.2 (lives old.people) s.3.table w.values)
-  living_more old new (inr (inr (inr (inr (inr (inr (inr (inl s)))))))) w = table_only old new s.1.people w (within_becomes old.table new.table s.0 _ (lives old.people) s.1.table.cleared w.values (λ i h. absurd (false≢true h)))
-  living_more old new (inr (inr (inr (inr (inr (inr (inr (inr (inl s))))))))) w =
-      table_only old new s.1.people w (λ slot m i is has. (kept_values _ (old.table slot) (lives old.people) (w.values slot) m i (sym (s.1.table slot) ∙ is) has).1)
+  living_more old new (inr (inr (inr (inr (inl s))))) w = keeps_step {S = ℕ} {J = ℕ} (λ _. s.0) no_clones old (Register s.0) Done new s.1 w
+  living_more old new (inr (inr (inr (inr (inr (inl s)))))) w = keeps_step {S = ℕ} {J = ℕ} (λ _. s.0) no_clones old (Insert s.1 s.2) (Value s.3) new s.4 w
+  living_more old new (inr (inr (inr (inr (inr (inr (inl s))))))) w = keeps_step {S = ℕ} {J = ℕ} (λ _. s.0) no_clones old (Remove s.0 s.1) (Value s.2) new s.3 w
+  living_more old new (inr (inr (inr (inr (inr (inr (inr (inl s)))))))) w = keeps_step {S = ℕ} {J = ℕ} (λ _. s.0) no_clones old (Clear s.0) Done new s.1 w
+  living_more old new (inr (inr (inr (inr (inr (inr (inr (inr (inl s))))))))) w = dropped_lives s.0 old new s.1 w
   living_more old new (inr (inr (inr (inr (inr (inr (inr (inr (inr s))))))))) w = labels_lives s.0 s.1 s.2.given old new s.2.people s.2.table w
 
   lives_by : (n : ℕ) (old new : State K V) → StepsBy n old new → OnlyLiving old → OnlyLiving new
@@ -95,22 +87,6 @@ module _ {K V : Type 0} where
   comes_lives old new c w = (lives_by c.count old new c.steps w).values
 
   module _ (slot : K) (n : ℕ) (here : K → Bool) (tells : Tells here slot) where
-    starts : (s : K) (old new : Table K V) (o : Option (Column V)) → o ≡ old s → MatchOption o (Begins old s new) (λ _. new ≡ old) → IsListening n (old slot) → KeepsAt slot n old new []
-    starts s old new None e r l = elim (is_or_not slot here tells s) [
-      | inl same ↦ absurd (subst (λ (o : Option (Column V)). IsListening n o) (sym (subst (λ t. None ≡ old t) same e)) l)
-      | inr other ↦ same_slot slot n old new (r.becomes.others slot (λ q. other (sym q))) l
-    ]
-    starts s old new (Some c) e r l = same_table slot n old new r l
-
-    removes : (p : Population) (s : K) (e : Entity) (found : Option V) (old new : Table K V) → Removes p old s e found new → IsListening n (old slot) → KeepsAt slot n old new []
-    removes p s e found old new r l = elim (alive_or_not p e) [
-      | inl a ↦ one_quiet slot n here tells s old new r.column _ r.registered (r.alive a).1 l (λ same. takes n r.column (index_of e))
-      | inr d ↦ same_table slot n old new (r.dead d).1 l
-    ]
-
-    lost : (es : List Entity) (old new : Table K V) → new slot ≡ option_map (without_values es) (old slot) → IsListening n (old slot) → KeepsAt slot n old new []
-    lost es old new is l = subst (λ (o : Option (Column V)). Keeps n (old slot) o []) (sym is) (loses n es (old slot) l)
-
     labelled : (s : K) (e : Entity) (given : Option Bool) (p : Population) (old new : Table K V) → GivesMarker (λ _. Unit {0}) p old s e given new → IsListening n (old slot) → KeepsAt slot n old new []
     labelled s e None p old new g l = same_table slot n old new g.2 l
     labelled s e (Some false) p old new g l = same_table slot n old new g.1 l
@@ -119,21 +95,14 @@ module _ {K V : Type 0} where
     told_one : (old new : State K V) → OneStep old new → IsFollowed slot n old → KeepsAt slot n old.table new.table []
     told_one old new (inl s) l = same_table slot n old.table new.table s.1.table l
     told_one old new (inr (inl s)) l = same_table slot n old.table new.table s.1.table l
-    told_one old new (inr (inr (inl s))) l = lost s.0 old.table new.table (s.1.table slot) l
+    told_one old new (inr (inr (inl s))) l = dropped_keeps slot n s.0 old.table new.table (s.1.table slot) l
     told_one old new (inr (inr (inr (inl s)))) l = same_table slot n old.table new.table s.1.table l
-    told_one old new (inr (inr (inr (inr (inl s))))) l = starts s.0 old.table new.table (old.table s.0) refl s.1.table l
+    told_one old new (inr (inr (inr (inr (inl s))))) l = registered_keeps slot n here tells s.0 old.table new.table (old.table s.0) refl s.1.table l
     told_one old new (inr (inr (inr (inr (inr (inl s)))))) l = inserted_keeps slot n here tells (λ _. s.0) old new s.1 s.2 s.3 s.4 l
-    told_one old new (inr (inr (inr (inr (inr (inr (inl s))))))) l = removes old.people s.0 s.1 s.2 old.table new.table s.3.table l
+    told_one old new (inr (inr (inr (inr (inr (inr (inl s))))))) l = removed_keeps slot n here tells old.people s.0 s.1 s.2 old.table new.table s.3.table l
     told_one old new (inr (inr (inr (inr (inr (inr (inr (inl s)))))))) l = one_quiet slot n here tells s.0 old.table new.table s.1.table.column _ s.1.table.registered s.1.table.cleared l (λ same. empties n s.1.table.column)
-    told_one old new (inr (inr (inr (inr (inr (inr (inr (inr (inl s))))))))) l = lost _ old.table new.table (s.1.table slot) l
+    told_one old new (inr (inr (inr (inr (inr (inr (inr (inr (inl s))))))))) l = dropped_keeps slot n _ old.table new.table (s.1.table slot) l
     told_one old new (inr (inr (inr (inr (inr (inr (inr (inr (inr s))))))))) l = labelled s.0 s.1 s.2.given old.people old.table new.table s.2.table l
-
-    advances_more : (a b c : Option (Column V)) → Advances n a b [] → Advances n b c [] → Advances n a c []
-    advances_more a b c f k = record {
-      events = f.events ++ k.events;
-      leads = leads_more (values_of a) (values_of b) (values_of c) f.events k.events f.leads k.leads;
-      told = k.told ∙ ap (λ xs. xs ++ k.events) f.told ∙ append_assoc (unread_at n a) f.events k.events;
-    }
 
     -- what a reader knows of a state that the first one led to
     record Heard (first s : State K V) : Type 0 where
@@ -149,7 +118,7 @@ module _ {K V : Type 0} where
         record {
           followed = last.listening;
           living = λ w. living_more s.0 new s.2 (before.living w);
-          follows = λ w. advances_more (old.table slot) (s.0.table slot) (new.table slot) (before.follows w) (last.advances (living_below slot s.0 (before.living w)));
+          follows = λ w. advances_more n (old.table slot) (s.0.table slot) (new.table slot) [] [] (before.follows w) (last.advances (living_below slot s.0 (before.living w)));
         }
 
     -- whatever is queued, where each job of the user's spares each reader
