@@ -1,7 +1,7 @@
 //! Entities that move: two component types, a system over their storages, and a few steps.
 use crate::game::{Parts, Position, Velocity};
 use anyhow::Result;
-use composed::{Builder, Empty, Entity, ForEach, Has, Join, MaskedStorage, TwoFields, World};
+use composed::{Builder, Empty, Entity, ForEach, Has, MaskedStorage, TwoFields, World};
 use std::alloc::{AllocError, Global};
 
 /// Moves each entity that has a velocity by one step.
@@ -43,10 +43,10 @@ pub fn place<P, V, S: Has<Position, P> + Has<Velocity, V>>(
 /// Where each entity is, to the end of a line.
 pub fn show<P, S: Has<Position, P>>(text: &mut String, world: &World<S>) -> Result<()> {
     let positions = world.read_storage::<Position, _>()?;
-    let mut walk = (world.entities(), &positions).join();
-    while let Some((entity, position)) = walk.next() {
-        let Position { x, y } = *position;
-        write!(text, " {}:({x:.1}, {y:.1})", entity.id())?;
+    for id in positions.mask().iter() {
+        if let Some(Position { x, y }) = positions.storage().get(id).copied() {
+            write!(text, " {id}:({x:.1}, {y:.1})")?;
+        }
     }
     writeln!(text)?;
     Ok(())
