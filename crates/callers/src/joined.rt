@@ -9,12 +9,13 @@ ghost use Rattle.entities.specs.Population.{index_of, IsAlive};
 ghost use Rattle.storages.specs.Slot.{indices_of};
 
 use crate::components::Health;
+use crate::own_world::Place;
 use composed::{
     BitAnd, BitSet, BitSetAll, BitSetLike, EntitiesRes, Entity, INDEX_LIMIT, Index, Join,
     MaskedStorage, ParJoin, par_update,
 };
 use std::alloc::{Alloc, AllocError, Global};
-use std::thread::Threads;
+use std::thread::{Threads, join_mut};
 
 /// A join gives what an entity has that is alive.
 pub fn points_at(healths: &MaskedStorage<Health>, entities: &EntitiesRes, e: Entity) -> Option<u32>
@@ -104,4 +105,16 @@ pub fn all_healed(
             })
         },
     )
+}
+
+/// Two systems side by side, each on a storage of its own: both are emptied.
+pub fn both_cleared(
+    rt: &impl Threads,
+    healths: &mut MaskedStorage<Health>,
+    places: &mut MaskedStorage<Place>,
+) -> (Result<(), AllocError>, Result<(), AllocError>)
+    ensures healths { OnOk result.0 (healths.new.map ≡ map.empty) }
+    ensures places { OnOk result.1 (places.new.map ≡ map.empty) }
+{
+    join_mut(rt, &mut || healths.clear(), &mut || places.clear())
 }

@@ -26,6 +26,7 @@ mod sets;
 mod spots;
 mod tallies;
 mod traits;
+mod turns;
 mod typed;
 mod views;
 mod worlds;

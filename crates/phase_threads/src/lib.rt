@@ -1,4 +1,4 @@
-//! Passes of a shared phase in threads.
+//! Phases in threads: `in_threads` opens one, lets each pass take its `Turn` in a thread, and closes it; `in_threads_by` takes a closure for the turn.
 #![tactic(auto)]
 
 ghost use Rattle.std.specs.Prelude.{◌≡◌, ℕ, length};
@@ -6,10 +6,16 @@ ghost use Rattle.std.specs.List.{All};
 ghost use Rattle.entities.specs.Phase.Board.{IsPassOf};
 ghost use Rattle.entities.specs.Phase.Opened.{board_of};
 
+mod run;
+mod seats;
+mod turn;
+
 use entities::{EntitiesRes, Pass, Shared};
 use rayon::prelude::*;
+pub use run::{in_threads, in_threads_by};
 use std::alloc::Global;
 use std::thread::Threads;
+pub use turn::Turn;
 
 /// Each pass creates once, in threads. How many were given an entity is told at the close.
 pub fn create_all(rt: &(impl Threads + Sync), shared: &Shared<'_>, passes: &mut [Pass])

@@ -4,9 +4,52 @@ ghost use Rattle.entities.specs.Phase.Opened.{entities_of, board_of};
 ghost use Rattle.entities.specs.Phase.Calls.{IsOpen};
 
 use super::*;
-use entities::{Closed, Entity, OpenError};
+use entities::{Closed, Entity, Exhausted, OpenError};
 use std::alloc::Global;
 use std::test::Fail;
+
+/// A pass that creates once.
+#[derive(Drop)]
+pub struct Spawn;
+
+impl Turn for Spawn {
+    type Answer = Option<Entity>;
+
+    fn turn(&self, shared: &Shared<'_>, pass: &mut Pass) -> Option<Entity> {
+        shared.create(pass).ok()
+    }
+}
+
+/// A pass that creates twice, and deletes one that lived.
+#[derive(Drop)]
+pub struct Replace {
+    pub old: Entity,
+}
+
+impl Turn for Replace {
+    type Answer = Result<(Entity, Entity), Exhausted>;
+
+    fn turn(&self, shared: &Shared<'_>, pass: &mut Pass) -> Result<(Entity, Entity), Exhausted> {
+        let first = shared.create(pass)?;
+        let second = shared.create(pass)?;
+        let _ = shared.delete(pass, self.old);
+        Ok((first, second))
+    }
+}
+
+/// A pass that deletes an entity. It answers whether it could.
+#[derive(Drop)]
+pub struct Delete {
+    pub entity: Entity,
+}
+
+impl Turn for Delete {
+    type Answer = bool;
+
+    fn turn(&self, shared: &Shared<'_>, pass: &mut Pass) -> bool {
+        shared.delete(pass, self.entity).is_ok()
+    }
+}
 
 /// What a phase of two entities and three passes answers, by name.
 #[derive(Drop)]
@@ -219,9 +262,159 @@ fn too_many_are_refused(
         && create(entities) == entity(0)
 }
 
+/// Whether the entity that lives at an index stands once among what was answered.
+fn is_given_once(entities: &EntitiesRes, answers: &[Option<Entity>], index: u32) -> bool {
+    let wanted = entity(index);
+    answers.iter().filter(|e| **e == wanted).count() == 1 && lives_first(entities, index)
+}
+
+/// Whether each of the first four entities stands once among what was answered.
+fn each_is_given_once(entities: &EntitiesRes, answers: &[Option<Entity>]) -> bool {
+    for index in 0..4u32 {
+        if !is_given_once(entities, answers, index) {
+            return false;
+        }
+    }
+    true
+}
+
+/// Whether four passes in threads, each of which creates once, are given four entities, each of them once.
+fn four_are_born(rt: &(impl Threads + Sync), alloc: Global, entities: &mut EntitiesRes) -> bool {
+    match in_threads(rt, alloc, entities, 4, 4, &Spawn) {
+        Ok((ended, answers)) => {
+            Ok(ended) == closed(4, 4)
+                && answers.len() == 4
+                && each_is_given_once(entities, answers.as_slice())
+        }
+        Err(_) => false,
+    }
+}
+
+/// What two passes answer that each delete the entity.
+fn deleted_by_two(
+    rt: &(impl Threads + Sync),
+    alloc: Global,
+    entities: &mut EntitiesRes,
+    entity: Entity,
+) -> Result<(Closed, Vec<bool>), OpenError> {
+    in_threads(rt, alloc, entities, 0, 2, &Delete { entity })
+}
+
+fn are_both(answers: &[bool]) -> bool {
+    matches!(answers, [true, true])
+}
+
+/// Whether an entity that two passes in threads delete is marked once, lives on, and dies at the merge.
+fn marked_dies_at_the_merge(
+    rt: &(impl Threads + Sync),
+    alloc: Global,
+    entities: &mut EntitiesRes,
+) -> Result<bool, Fail> {
+    let Some(old) = create(entities) else {
+        return Ok(false);
+    };
+    let Ok((ended, answers)) = deleted_by_two(rt, alloc, entities, old) else {
+        return Ok(false);
+    };
+    let told = are_both(answers.as_slice()) && ended.births == 0 && ended.marks == 1;
+    let lived = lives(entities, old);
+    let dead = merged(alloc, entities)?;
+    Ok(told && lived && is_dead(entities, dead.as_slice()))
+}
+
+/// Whether one of two answers is a refusal.
+fn one_is_refused(answers: &[Result<(Entity, Entity), Exhausted>]) -> bool {
+    match answers {
+        [first, second] => first.is_err() != second.is_err(),
+        _ => false,
+    }
+}
+
+/// Whether of two passes in threads that each create twice, of three in the reserve, one is refused. The other one deletes.
+fn one_of_two_is_refused(
+    rt: &(impl Threads + Sync),
+    alloc: Global,
+    entities: &mut EntitiesRes,
+) -> bool {
+    let Some(old) = create(entities) else {
+        return false;
+    };
+    match in_threads(rt, alloc, entities, 3, 2, &Replace { old }) {
+        Ok((ended, answers)) => {
+            ended.births == 3 && ended.marks == 1 && one_is_refused(answers.as_slice())
+        }
+        Err(_) => false,
+    }
+}
+
+/// Two passes create twice each, in threads, and delete one that lived: a closure is the turn.
+fn replaced_by_two(
+    rt: &(impl Threads + Sync),
+    alloc: Global,
+    entities: &mut EntitiesRes,
+    old: Entity,
+) -> Result<usize, OpenError> {
+    let (closed, _) = in_threads_by(
+        rt,
+        alloc,
+        entities,
+        4,
+        2,
+        &|shared: &Shared<'_>, pass: &mut Pass| {
+            let first = shared.create(pass);
+            let second = shared.create(pass);
+            let deleted = shared.delete(pass, old);
+            first.is_ok() && second.is_ok() && deleted.is_ok()
+        },
+    )?;
+    Ok(closed.births)
+}
+
+/// Whether two passes in threads that each create twice and delete one, by a closure, bear four, and the one dies at the merge.
+fn a_closure_replaces(
+    rt: &(impl Threads + Sync),
+    alloc: Global,
+    entities: &mut EntitiesRes,
+) -> Result<bool, Fail> {
+    let Some(old) = create(entities) else {
+        return Ok(false);
+    };
+    let born = replaced_by_two(rt, alloc, entities, old);
+    let dead = merged(alloc, entities)?;
+    Ok(born == Ok(4) && is_dead(entities, dead.as_slice()))
+}
+
+/// Why a phase with this reserve and as many passes in threads, each of which creates once, is not opened.
+fn refusal(
+    rt: &(impl Threads + Sync),
+    alloc: Global,
+    entities: &mut EntitiesRes,
+    reserve: u32,
+    passes: usize,
+) -> Option<OpenError> {
+    in_threads(rt, alloc, entities, reserve, passes, &Spawn).err()
+}
+
+/// Whether a phase in threads that is refused changes nothing, and one without passes bears nobody.
+fn refused_leave_all(
+    rt: &(impl Threads + Sync),
+    alloc: Global,
+    entities: &mut EntitiesRes,
+) -> bool {
+    refusal(rt, alloc, entities, 1, 4097) == Some(OpenError::TooManyPasses)
+        && refusal(rt, alloc, entities, 16_777_217, 1) == Some(OpenError::IndexLimit)
+        && refusal(rt, alloc, entities, 1, 0) == None
+        && create(entities) == entity(0)
+}
+
 /// What is told of entities.
 #[derive(Clone, Copy)]
 enum Story {
+    FourAreBorn,
+    AClosureReplaces,
+    MarkedDiesAtTheMerge,
+    OneOfTwoIsRefused,
+    RefusedLeaveAll,
     ThirdIsRefused,
     TwoAreGiven,
     PhasesGoOn,
@@ -233,6 +426,11 @@ enum Story {
 fn comes_true(rt: &(impl Threads + Sync), alloc: Global, story: Story) -> Result<bool, Fail> {
     let mut entities = EntitiesRes::new(alloc);
     match story {
+        Story::FourAreBorn => Ok(four_are_born(rt, alloc, &mut entities)),
+        Story::AClosureReplaces => a_closure_replaces(rt, alloc, &mut entities),
+        Story::MarkedDiesAtTheMerge => marked_dies_at_the_merge(rt, alloc, &mut entities),
+        Story::OneOfTwoIsRefused => Ok(one_of_two_is_refused(rt, alloc, &mut entities)),
+        Story::RefusedLeaveAll => Ok(refused_leave_all(rt, alloc, &mut entities)),
         Story::ThirdIsRefused => third_is_refused(alloc, &mut entities),
         Story::TwoAreGiven => two_are_given(alloc, &mut entities),
         Story::PhasesGoOn => Ok(phases_go_on(rt, alloc, &mut entities)),
@@ -258,5 +456,35 @@ fn passes_create_in_threads(rt: HostRuntime) -> Result<(), Fail> {
     assert!(rt; comes_true(&rt, rt.alloc(), Story::PhasesGoOn)?);
     assert!(rt; comes_true(&rt, rt.alloc(), Story::AllAreGiven)?);
     assert!(rt; comes_true(&rt, rt.alloc(), Story::TooManyAreRefused)?);
+    Ok(())
+}
+
+#[test]
+fn births_in_four_threads_are_given_once_each(rt: HostRuntime) -> Result<(), Fail> {
+    assert!(rt; comes_true(&rt, rt.alloc(), Story::FourAreBorn)?);
+    Ok(())
+}
+
+#[test]
+fn a_closure_creates_and_deletes_in_threads(rt: HostRuntime) -> Result<(), Fail> {
+    assert!(rt; comes_true(&rt, rt.alloc(), Story::AClosureReplaces)?);
+    Ok(())
+}
+
+#[test]
+fn what_threads_mark_dies_at_the_merge(rt: HostRuntime) -> Result<(), Fail> {
+    assert!(rt; comes_true(&rt, rt.alloc(), Story::MarkedDiesAtTheMerge)?);
+    Ok(())
+}
+
+#[test]
+fn a_reserve_of_three_refuses_one_of_two_pairs(rt: HostRuntime) -> Result<(), Fail> {
+    assert!(rt; comes_true(&rt, rt.alloc(), Story::OneOfTwoIsRefused)?);
+    Ok(())
+}
+
+#[test]
+fn a_phase_in_threads_that_is_refused_changes_nothing(rt: HostRuntime) -> Result<(), Fail> {
+    assert!(rt; comes_true(&rt, rt.alloc(), Story::RefusedLeaveAll)?);
     Ok(())
 }

@@ -1,0 +1,3 @@
+mod Seated
+mod Unused
+mod Retold

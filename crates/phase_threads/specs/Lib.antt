@@ -1,0 +1,4 @@
+pub mod Seating
+pub mod Phases
+pub mod PhaseLaws
+pub mod Calling
