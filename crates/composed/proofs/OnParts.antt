@@ -2,7 +2,7 @@
 use Rattle.std.proofs.Common.{◌≡◌, Option, Some, None, ap, sym, ◌∙◌}
 use Rattle.std.specs.Prelude.{IfSome}
 use Rattle.std.specs.Borrow.{Bor, MutBor}
-use Rattle.composed.specs.Two.{OnTwo, OnTwoBeside, OnTwoAnd, CallsBeside}
+use Rattle.composed.specs.Two.{OnTwo, OnTwoBeside, OnTwoAnd, OnTwoWith, CallsBeside}
 use Rattle.composed.specs.Three.{OnThree, OnThreeBeside, CallsThree, CallsThreeBeside}
 
 -- a part that a call left in a way is in a whole that it left in that way
@@ -22,6 +22,13 @@ pub on_part_and : {R S W E M N : Type 0} (h : S → W) (r : Option R) (beside e_
 on_part_and h None beside e_n one other with_two post n o = tt
 on_part_and h (Some a) beside e_n one other with_two post n o =
     record { e = o.e; x = o.x; y = o.y; e' = o.e'; x' = o.x'; y' = o.y'; at_e = o.at_e; at_x = o.at_x; at_y = o.at_y; called = o.called; is_e = o.is_e; is = ap h o.is }
+
+pub on_part_with : {R S W D E M N : Type 0} (h : S → W) (r : Option R) (first d_n : D) (rest e_n : E) (one : Option M) (other : Option N) (with_two : M → N → S)
+    (post : R → MutBor D → MutBor E → MutBor M → MutBor N → MutBor D → MutBor E → MutBor M → MutBor N → Type 0) (n : S)
+    → IfSome r (λ a. OnTwoWith first rest one other with_two (post a) d_n e_n n) → IfSome r (λ a. OnTwoWith first rest one other (λ v w. h (with_two v w)) (post a) d_n e_n (h n))
+on_part_with h None first d_n rest e_n one other with_two post n o = tt
+on_part_with h (Some a) first d_n rest e_n one other with_two post n o =
+    record { d = o.d; e = o.e; x = o.x; y = o.y; d' = o.d'; e' = o.e'; x' = o.x'; y' = o.y'; at_d = o.at_d; at_e = o.at_e; at_x = o.at_x; at_y = o.at_y; called = o.called; is_d = o.is_d; is_e = o.is_e; is = ap h o.is }
 
 pub on_part_three : {R S W M N O : Type 0} (h : S → W) (r : Option R) (one : Option M) (other : Option N) (third : Option O) (with_three : M → N → O → S)
     (post : R → MutBor M → MutBor N → MutBor O → MutBor M → MutBor N → MutBor O → Type 0) (n : S)

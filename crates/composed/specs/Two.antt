@@ -41,6 +41,26 @@ pub record OnTwoAnd {S E M N : Type 0} (beside : E) (one : Option M) (other : Op
   pub is_e : e_n ≡ e'.now
   pub is : n ≡ with_two x'.now y'.now
 
+-- The same of a call that writes to two things beside both, which end as d_n and e_n.
+pub record OnTwoWith {S D E M N : Type 0} (first : D) (rest : E) (one : Option M) (other : Option N) (with_two : M → N → S)
+    (post : MutBor D → MutBor E → MutBor M → MutBor N → MutBor D → MutBor E → MutBor M → MutBor N → Type 0) (d_n : D) (e_n : E) (n : S) : Type 0 where
+  pub d : MutBor D
+  pub e : MutBor E
+  pub x : MutBor M
+  pub y : MutBor N
+  pub d' : MutBor D
+  pub e' : MutBor E
+  pub x' : MutBor M
+  pub y' : MutBor N
+  pub at_d : d.now ≡ first
+  pub at_e : e.now ≡ rest
+  pub at_x : one ≡ Some x.now
+  pub at_y : other ≡ Some y.now
+  pub called : post d e x y d' e' x' y'
+  pub is_d : d_n ≡ d'.now
+  pub is_e : e_n ≡ e'.now
+  pub is : n ≡ with_two x'.now y'.now
+
 -- A call that reads e took m and n to m' and n'.
 pub record CallsBeside {E M N : Type 0} (e : E) (m : M) (n : N) (m' : M) (n' : N) (post : Bor E → MutBor M → MutBor N → MutBor M → MutBor N → Type 0) : Type 0 where
   pub b : Bor E

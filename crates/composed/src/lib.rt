@@ -7,6 +7,10 @@ mod empty;
 mod has;
 mod marking;
 mod only;
+mod saved_error;
+mod saved_lists;
+mod saved_types;
+mod saves_world;
 mod three;
 mod two;
 mod with_three;
@@ -18,6 +22,9 @@ pub use empty::{Empty, Of2, Of3, Of4, Of5, Of6, Of7, Of8};
 pub use has::{Here, InFirst, InRest};
 pub use marking::Marking;
 pub use only::{Only, Sole};
+pub use saved_error::{LoadWorldError, SaveWorldError};
+pub use saved_types::SavedTypes;
+pub use saves_world::SavesWorld;
 pub use three::{
     FirstAcross, FirstCrossed, SecondAcross, SecondCrossed, ThirdAcross, ThirdCrossed, ThreeFields,
 };

@@ -1,7 +1,7 @@
 //! Two storages of a struct at once.
-ghost use Rattle.std.specs.Prelude.{◌≡◌, ◌⊎◌, ◌↔◌, Option, Some, None, IsSome, IsTrue, IfSome, IfNone};
+ghost use Rattle.std.specs.Prelude.{◌≡◌, ◌⊎◌, ◌↔◌, Option, Some, None, IsSome, IsTrue, IfSome, IfNone, MatchOption};
 ghost use Rattle.std.specs.Borrow.{MutBor};
-ghost use Rattle.composed.specs.Two.{OnTwo, OnTwoAnd};
+ghost use Rattle.composed.specs.Two.{OnTwo, OnTwoAnd, OnTwoWith};
 
 use crate::both::Both;
 use crate::has::{InFirst, InRest};
@@ -31,6 +31,10 @@ pub trait TwoFields<M, N, P>: Sized {
     fn has_two(&self) -> bool
         ensures { IsTrue result ↔ (IsSome (one self.now) × IsSome (other self.now)) };
 
+    /// Both, to read them. It is none where one of both is not registered. It takes constant time.
+    fn two(&self) -> Option<(&M, &N)>
+        ensures { MatchOption result ((one self.now ≡ None) ⊎ (other self.now ≡ None)) (λ r. (one self.now ≡ Some r.0.now) × (other self.now ≡ Some r.1.now)) };
+
     /// Calls on both, to write to them: what the call left of each is what the struct has, and nothing else changes. It is none, without the call
     /// and without a change, where one of both is not registered. It takes what the call takes.
     /// Ports `SystemData` with two `WriteStorage`, or a `ReadStorage` beside a `WriteStorage`.
@@ -52,6 +56,20 @@ pub trait TwoFields<M, N, P>: Sized {
         ensures same { IfNone result (self.new ≡ self.old) }
         ensures beside { IfNone result (beside.new ≡ beside.old) };
 
+    /// The same with a value that the call takes, and with two things that stand beside the struct, which it writes too.
+    fn with_two_beside<G: Drop, D, E, R, F: FnOnce(G, &mut D, &mut E, &mut M, &mut N) -> R>(
+        &mut self,
+        given: G,
+        first: &mut D,
+        rest: &mut E,
+        f: F,
+    ) -> Option<R>
+        requires { (d : MutBor D) (e : MutBor E) (x : MutBor M) (y : MutBor N) → d.now ≡ first.old → e.now ≡ rest.old → one self.old ≡ Some x.now → other self.old ≡ Some y.now → F.pre f given d e x y }
+        ensures some { IfSome result (λ r. OnTwoWith first.old rest.old (one self.old) (other self.old) (with_two self.old) (λ d e x y d' e' x' y'. F.post f given d e x y r d' e' x' y') first.new rest.new self.new) }
+        ensures none { IfNone result ((one self.old ≡ None) ⊎ (other self.old ≡ None)) }
+        ensures same { IfNone result (self.new ≡ self.old) }
+        ensures beside { IfNone result ((first.new ≡ first.old) × (rest.new ≡ rest.old)) };
+
     ghost puts_one: { (s : Self) (v : M) (w : N) → one (with_two s v w) ≡ Some v };
 
     ghost puts_other: { (s : Self) (v : M) (w : N) → other (with_two s v w) ≡ Some w };
@@ -70,6 +88,13 @@ impl<M, N, I, J, A: Field<M, I>, B: Field<N, J>> TwoFields<M, N, Across<I, J>> f
 
     fn has_two(&self) -> bool {
         self.first.field().is_some() && self.rest.field().is_some()
+    }
+
+    fn two(&self) -> Option<(&M, &N)> {
+        match (self.first.field(), self.rest.field()) {
+            (Some(one), Some(other)) => Some((one, other)),
+            _ => None,
+        }
     }
 
     fn with_two<R, F: FnOnce(&mut M, &mut N) -> R>(&mut self, f: F) -> Option<R> {
@@ -103,6 +128,25 @@ impl<M, N, I, J, A: Field<M, I>, B: Field<N, J>> TwoFields<M, N, Across<I, J>> f
             },
         }
     }
+
+    fn with_two_beside<G: Drop, D, E, R, F: FnOnce(G, &mut D, &mut E, &mut M, &mut N) -> R>(
+        &mut self,
+        given: G,
+        first: &mut D,
+        rest: &mut E,
+        f: F,
+    ) -> Option<R> {
+        if self.rest.field().is_none() {
+            return None;
+        }
+        match self.first.field_mut() {
+            None => None,
+            Some(one) => match self.rest.field_mut() {
+                None => unreachable!(),
+                Some(other) => Some(f(given, first, rest, one, other)),
+            },
+        }
+    }
 }
 
 impl<M, N, I, J, A: Field<N, J>, B: Field<M, I>> TwoFields<M, N, Crossed<I, J>> for Both<A, B> {
@@ -118,6 +162,13 @@ impl<M, N, I, J, A: Field<N, J>, B: Field<M, I>> TwoFields<M, N, Crossed<I, J>> 
 
     fn has_two(&self) -> bool {
         self.rest.field().is_some() && self.first.field().is_some()
+    }
+
+    fn two(&self) -> Option<(&M, &N)> {
+        match (self.rest.field(), self.first.field()) {
+            (Some(one), Some(other)) => Some((one, other)),
+            _ => None,
+        }
     }
 
     fn with_two<R, F: FnOnce(&mut M, &mut N) -> R>(&mut self, f: F) -> Option<R> {
@@ -151,6 +202,25 @@ impl<M, N, I, J, A: Field<N, J>, B: Field<M, I>> TwoFields<M, N, Crossed<I, J>> 
             },
         }
     }
+
+    fn with_two_beside<G: Drop, D, E, R, F: FnOnce(G, &mut D, &mut E, &mut M, &mut N) -> R>(
+        &mut self,
+        given: G,
+        first: &mut D,
+        rest: &mut E,
+        f: F,
+    ) -> Option<R> {
+        if self.rest.field().is_none() {
+            return None;
+        }
+        match self.first.field_mut() {
+            None => None,
+            Some(other) => match self.rest.field_mut() {
+                None => unreachable!(),
+                Some(one) => Some(f(given, first, rest, one, other)),
+            },
+        }
+    }
 }
 
 impl<M, N, P, A: TwoFields<M, N, P>, B> TwoFields<M, N, InFirst<P>> for Both<A, B> {
@@ -168,6 +238,10 @@ impl<M, N, P, A: TwoFields<M, N, P>, B> TwoFields<M, N, InFirst<P>> for Both<A, 
         self.first.has_two()
     }
 
+    fn two(&self) -> Option<(&M, &N)> {
+        self.first.two()
+    }
+
     fn with_two<R, F: FnOnce(&mut M, &mut N) -> R>(&mut self, f: F) -> Option<R> {
         self.first.with_two(f)
     }
@@ -178,6 +252,16 @@ impl<M, N, P, A: TwoFields<M, N, P>, B> TwoFields<M, N, InFirst<P>> for Both<A, 
         f: F,
     ) -> Option<R> {
         self.first.with_two_and(beside, f)
+    }
+
+    fn with_two_beside<G: Drop, D, E, R, F: FnOnce(G, &mut D, &mut E, &mut M, &mut N) -> R>(
+        &mut self,
+        given: G,
+        first: &mut D,
+        rest: &mut E,
+        f: F,
+    ) -> Option<R> {
+        self.first.with_two_beside(given, first, rest, f)
     }
 }
 
@@ -196,6 +280,10 @@ impl<M, N, P, A, B: TwoFields<M, N, P>> TwoFields<M, N, InRest<P>> for Both<A, B
         self.rest.has_two()
     }
 
+    fn two(&self) -> Option<(&M, &N)> {
+        self.rest.two()
+    }
+
     fn with_two<R, F: FnOnce(&mut M, &mut N) -> R>(&mut self, f: F) -> Option<R> {
         self.rest.with_two(f)
     }
@@ -206,5 +294,15 @@ impl<M, N, P, A, B: TwoFields<M, N, P>> TwoFields<M, N, InRest<P>> for Both<A, B
         f: F,
     ) -> Option<R> {
         self.rest.with_two_and(beside, f)
+    }
+
+    fn with_two_beside<G: Drop, D, E, R, F: FnOnce(G, &mut D, &mut E, &mut M, &mut N) -> R>(
+        &mut self,
+        given: G,
+        first: &mut D,
+        rest: &mut E,
+        f: F,
+    ) -> Option<R> {
+        self.rest.with_two_beside(given, first, rest, f)
     }
 }

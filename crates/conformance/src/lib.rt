@@ -26,6 +26,8 @@ mod own_jobs;
 #[cfg(test)]
 mod runs;
 #[cfg(test)]
+mod saved_worlds;
+#[cfg(test)]
 mod saving_scripts;
 #[cfg(test)]
 mod scripts;
