@@ -56,8 +56,13 @@ module _ {M I V D A : Type 0} (id_of : M → I) (eq : I → I → Bool) (c : Con
         → OnOk r (LeavesIn o o' (λ s s'. LoadsRecords id_of eq c mapping left (λ p. rows (h p)) ChangesOf StoresOf records (stand e a p s) (stand e' a' q s')))
         → OnOk r (LeavesIn o o' (λ s s'. LoadsRecords id_of eq c mapping left rows Changes Stores records (stand e a (h p) s) (stand e' a' l' s')))
     lent_loaded StoresOf Stores f records (Ok v) o o' e e' a a' p q l' is w = subst (λ (l : L). LeavesIn o o' (λ s s'. LoadsRecords id_of eq c mapping left rows Changes Stores records (stand e a (h p) s) (stand e' a' l s'))) is
-        (record { marks = w.marks; marks' = w.marks'; marked = w.marked; is_marked = w.is_marked;
-          leaves = record { loads = w.leaves.loads; stores = stores_each h StoresOf Stores c f p q records w.leaves.stores; changes = each p q w.leaves.changes; told = w.leaves.told } })
+        (record {
+          marks = w.marks;
+          marks' = w.marks';
+          marked = w.marked;
+          is_marked = w.is_marked;
+          leaves = record { loads = w.leaves.loads; stores = stores_each h StoresOf Stores c f p q records w.leaves.stores; changes = each p q w.leaves.changes; told = w.leaves.told };
+        })
     lent_loaded StoresOf Stores f records (Err x) o o' e e' a a' p q l' is w = tt
 
     pub lent_stops : (Partly : Partial D V) (records : List (EntityData M D)) (r : Result (Unit {0}) LoadError) (o o' : Option (Slot M)) (e e' : Census) (a a' : A) (p q : P) (l' : L) → h q ≡ l'
@@ -87,31 +92,45 @@ module _ {M I V D A : Type 0} (id_of : M → I) (eq : I → I → Bool) (c : Con
 
     pub two_loaded : (Stores : X × Y → ℕ → V → X × Y → Type 0) (post : Post) (r : Result (Unit {0}) LoadError) (c1 c2 : Census) (e1 e2 : E)
         → ((d : MutBor Census) (e : MutBor E) (x : MutBor X) (y : MutBor Y) (d' : MutBor Census) (e' : MutBor E) (x' : MutBor X) (y' : MutBor Y) → post d e x y d' e' x' y'
-            → OnOk r (LeavesIn (field e.now) (field e'.now) (λ s s'. LoadsRecords id_of eq c mapping left rows Changes Stores records (stand d.now (allocator e.now) (x.now, y.now) s) (stand d'.now (allocator e'.now) (x'.now, y'.now) s'))))
+        → OnOk r (LeavesIn (field e.now) (field e'.now) (λ s s'. LoadsRecords id_of eq c mapping left rows Changes Stores records (stand d.now (allocator e.now) (x.now, y.now) s) (stand d'.now (allocator e'.now) (x'.now, y'.now) s'))))
         → OnTwoWith c1 e1 (one fields) (other fields) (with_two fields) post c2 e2 fields' → OnOk r (IsLoaded Stores c1 e1 c2 e2)
     two_loaded Stores post (Err x) c1 c2 e1 e2 does o = tt
     two_loaded Stores post (Ok v) c1 c2 e1 e2 does o =
         let w = does o.d o.e o.x o.y o.d' o.e' o.x' o.y' o.called in
         let here : IsLoaded Stores o.d.now o.e.now o.d'.now o.e'.now = record {
-          stored = (o.x.now, o.y.now); marks = w.marks; stored' = (o.x'.now, o.y'.now); marks' = w.marks';
+          stored = (o.x.now, o.y.now);
+          marks = w.marks;
+          stored' = (o.x'.now, o.y'.now);
+          marks' = w.marks';
           at = ap (λ u. two_of u (other fields)) o.at_x ∙ ap (λ u. two_of (Some o.x.now) u) o.at_y;
-          marked = w.marked; leaves = record { records = records; read = read; loads = w.leaves }; is = o.is; is_marked = w.is_marked } in
+          marked = w.marked;
+          leaves = record { records = records; read = read; loads = w.leaves };
+          is = o.is;
+          is_marked = w.is_marked;
+        } in
         subst (λ k. IsLoaded Stores k e1 c2 e2) o.at_d (subst (λ k. IsLoaded Stores o.d.now k c2 e2) o.at_e
-            (subst (λ k. IsLoaded Stores o.d.now o.e.now k e2) (sym o.is_d) (subst (λ k. IsLoaded Stores o.d.now o.e.now o.d'.now k) (sym o.is_e) here)))
+        (subst (λ k. IsLoaded Stores o.d.now o.e.now k e2) (sym o.is_d) (subst (λ k. IsLoaded Stores o.d.now o.e.now o.d'.now k) (sym o.is_e) here)))
 
     pub two_stops : (Partly : Partial D V) (post : Post) (r : Result (Unit {0}) LoadError) (c1 c2 : Census) (e1 e2 : E)
         → ((d : MutBor Census) (e : MutBor E) (x : MutBor X) (y : MutBor Y) (d' : MutBor Census) (e' : MutBor E) (x' : MutBor X) (y' : MutBor Y) → post d e x y d' e' x' y'
-            → IfErr r (λ z. LeavesIn (field e.now) (field e'.now) (λ s s'. StopsRecords id_of eq c mapping left rows Changes Partly records z (stand d.now (allocator e.now) (x.now, y.now) s) (stand d'.now (allocator e'.now) (x'.now, y'.now) s'))))
+        → IfErr r (λ z. LeavesIn (field e.now) (field e'.now) (λ s s'. StopsRecords id_of eq c mapping left rows Changes Partly records z (stand d.now (allocator e.now) (x.now, y.now) s) (stand d'.now (allocator e'.now) (x'.now, y'.now) s'))))
         → OnTwoWith c1 e1 (one fields) (other fields) (with_two fields) post c2 e2 fields' → IfErr r (λ z. IsStopped Partly z c1 e1 c2 e2)
     two_stops Partly post (Ok v) c1 c2 e1 e2 does o = tt
     two_stops Partly post (Err z) c1 c2 e1 e2 does o =
         let w = does o.d o.e o.x o.y o.d' o.e' o.x' o.y' o.called in
         let here : IsStopped Partly z o.d.now o.e.now o.d'.now o.e'.now = record {
-          stored = (o.x.now, o.y.now); marks = w.marks; stored' = (o.x'.now, o.y'.now); marks' = w.marks';
+          stored = (o.x.now, o.y.now);
+          marks = w.marks;
+          stored' = (o.x'.now, o.y'.now);
+          marks' = w.marks';
           at = ap (λ u. two_of u (other fields)) o.at_x ∙ ap (λ u. two_of (Some o.x.now) u) o.at_y;
-          marked = w.marked; leaves = record { records = records; read = read; stops = w.leaves }; is = o.is; is_marked = w.is_marked } in
+          marked = w.marked;
+          leaves = record { records = records; read = read; stops = w.leaves };
+          is = o.is;
+          is_marked = w.is_marked;
+        } in
         subst (λ k. IsStopped Partly z k e1 c2 e2) o.at_d (subst (λ k. IsStopped Partly z o.d.now k c2 e2) o.at_e
-            (subst (λ k. IsStopped Partly z o.d.now o.e.now k e2) (sym o.is_d) (subst (λ k. IsStopped Partly z o.d.now o.e.now o.d'.now k) (sym o.is_e) here)))
+        (subst (λ k. IsStopped Partly z o.d.now o.e.now k e2) (sym o.is_d) (subst (λ k. IsStopped Partly z o.d.now o.e.now o.d'.now k) (sym o.is_e) here)))
 
   -- and one that was loaded into one storage is loaded into the struct of it
   module _ {F X : Type 0} (part : F → Option X) (with_part : F → X → F) (rows : (record { 0 : X }) → ℕ → V) (Changes : (record { 0 : X }) → (record { 0 : X }) → Type 0)
@@ -126,12 +145,28 @@ module _ {M I V D A : Type 0} (id_of : M → I) (eq : I → I → Bool) (c : Con
         → LeavesIn o o' (λ s s'. LoadsRecords id_of eq c mapping left rows Changes Stores records (stand c1 a1 (record { 0 = x }) s) (stand c2 a2 (record { 0 = x' }) s'))
         → LeavesBoth lone with_lone (λ l m l' m'. LoadsList id_of eq c mapping left rows Changes Stores list (stand c1 a1 l m) (stand c2 a2 l' m')) fields o (with_part fields x') o'
     one_loaded Stores c1 c2 a1 a2 o o' w = record {
-      stored = record { 0 = x }; marks = w.marks; stored' = record { 0 = x' }; marks' = w.marks'; at = ap (one_of (λ s. record { 0 = s })) at;
-      marked = w.marked; leaves = record { records = records; read = read; loads = w.leaves }; is = refl; is_marked = w.is_marked }
+      stored = record { 0 = x };
+      marks = w.marks;
+      stored' = record { 0 = x' };
+      marks' = w.marks';
+      at = ap (one_of (λ s. record { 0 = s })) at;
+      marked = w.marked;
+      leaves = record { records = records; read = read; loads = w.leaves };
+      is = refl;
+      is_marked = w.is_marked;
+    }
 
     pub one_stops : (Partly : Partial D V) (z : LoadError) (c1 c2 : Census) (a1 a2 : A) (o o' : Option (Slot M))
         → LeavesIn o o' (λ s s'. StopsRecords id_of eq c mapping left rows Changes Partly records z (stand c1 a1 (record { 0 = x }) s) (stand c2 a2 (record { 0 = x' }) s'))
         → LeavesBoth lone with_lone (λ l m l' m'. StopsList id_of eq c mapping left rows Changes Partly list z (stand c1 a1 l m) (stand c2 a2 l' m')) fields o (with_part fields x') o'
     one_stops Partly z c1 c2 a1 a2 o o' w = record {
-      stored = record { 0 = x }; marks = w.marks; stored' = record { 0 = x' }; marks' = w.marks'; at = ap (one_of (λ s. record { 0 = s })) at;
-      marked = w.marked; leaves = record { records = records; read = read; stops = w.leaves }; is = refl; is_marked = w.is_marked }
+      stored = record { 0 = x };
+      marks = w.marks;
+      stored' = record { 0 = x' };
+      marks' = w.marks';
+      at = ap (one_of (λ s. record { 0 = s })) at;
+      marked = w.marked;
+      leaves = record { records = records; read = read; stops = w.leaves };
+      is = refl;
+      is_marked = w.is_marked;
+    }

@@ -14,8 +14,8 @@ ghost use Rattle.saveload.specs.Tuples.{one_place, two_places};
 use crate::marking::Marking;
 use crate::saved_error::SaveWorldError;
 use saveload::{
-    ConvertSaveload, DeserializeComponents, EntityData, JsonData, JsonPlaces, LoadError, Marker, MarkerAllocator,
-    SerializeComponents, deserialize, serialize_to_json,
+    ConvertSaveload, DeserializeComponents, EntityData, JsonData, JsonPlaces, LoadError, Marker,
+    MarkerAllocator, SerializeComponents, deserialize, serialize_to_json,
 };
 use specs::EntitiesRes;
 use std::alloc::Global;
@@ -42,7 +42,14 @@ where
     match &mut marking.markers.field {
         None => unreachable!(),
         Some(markers) => {
-            deserialize(alloc, masked, entities, markers, &mut marking.allocator, list)
+            deserialize(
+                alloc,
+                masked,
+                entities,
+                markers,
+                &mut marking.allocator,
+                list,
+            )
         }
     }
 }

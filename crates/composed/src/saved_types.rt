@@ -88,9 +88,9 @@ pub trait SavedTypes<M: Marker + Copy + JsonData, F, P> {
             fields.old marking.old.markers.field fields.new marking.new.markers.field) }
         ensures refused { IfErr result (NotLoaded (IsMissing (lent fields.old) marking.old.markers.field × IsSame fields.old entities.old marking.old fields.new entities.new marking.new)
             (λ e. IsUnreadOr (lent fields.old) marking.old.markers.field (list_in M.from Self.Data.from text.now) (IsSame fields.old entities.old marking.old fields.new entities.new marking.new)
-                (LeavesBoth lent with_lent (λ l m l' m'. StopsList M.id_of M.Identifier.eq conversion M.Allocator.mapping M.Allocator.ids_past rows Changes Partly
-                    (list_in M.from Self.Data.from text.now) e (stand entities.old marking.old.allocator l m) (stand entities.new marking.new.allocator l' m'))
-                    fields.old marking.old.markers.field fields.new marking.new.markers.field) e)) };
+            (LeavesBoth lent with_lent (λ l m l' m'. StopsList M.id_of M.Identifier.eq conversion M.Allocator.mapping M.Allocator.ids_past rows Changes Partly
+            (list_in M.from Self.Data.from text.now) e (stand entities.old marking.old.allocator l m) (stand entities.new marking.new.allocator l' m'))
+            fields.old marking.old.markers.field fields.new marking.new.markers.field) e)) };
 }
 
 impl<M: Marker + Copy + JsonData, A, F: Field<MaskedStorage<A>, P>, P> SavedTypes<M, F, P> for (A,)

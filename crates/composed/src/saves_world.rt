@@ -69,9 +69,9 @@ where
             (fields self.old) (markers self.old) (fields self.new) (markers self.new)) }
         ensures refused { IfErr result (NotLoaded (IsMissing (T.lent (fields self.old)) (markers self.old) × (self.new ≡ self.old))
             (λ e. IsUnreadOr (T.lent (fields self.old)) (markers self.old) (list_in M.from T.Data.from text.now) (self.new ≡ self.old)
-                (LeavesBoth T.lent T.with_lent (λ l m l' m'. StopsList M.id_of M.Identifier.eq T.conversion M.Allocator.mapping M.Allocator.ids_past T.rows T.Changes T.Partly
-                    (list_in M.from T.Data.from text.now) e (stand (entities self.old) (allocator self.old) l m) (stand (entities self.new) (allocator self.new) l' m'))
-                    (fields self.old) (markers self.old) (fields self.new) (markers self.new)) e)) }
+            (LeavesBoth T.lent T.with_lent (λ l m l' m'. StopsList M.id_of M.Identifier.eq T.conversion M.Allocator.mapping M.Allocator.ids_past T.rows T.Changes T.Partly
+            (list_in M.from T.Data.from text.now) e (stand (entities self.old) (allocator self.old) l m) (stand (entities self.new) (allocator self.new) l' m'))
+            (fields self.old) (markers self.old) (fields self.new) (markers self.new)) e)) }
         ensures only { self.new ≡ left self.old (entities self.new) (fields self.new) (markers self.new) (allocator self.new) };
 }
 

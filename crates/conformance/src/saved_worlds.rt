@@ -44,7 +44,9 @@ fn is_not_saved(world: &mut World<Stored>, alloc: Global) -> bool {
 
 /// Whether a text is loaded.
 fn is_loaded(world: &mut World<Stored>, alloc: Global, text: &str) -> bool {
-    world.load_from_json::<(Position, Link), _>(alloc, text).is_ok()
+    world
+        .load_from_json::<(Position, Link), _>(alloc, text)
+        .is_ok()
 }
 
 /// The same of the positions alone.
