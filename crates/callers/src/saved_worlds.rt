@@ -3,7 +3,7 @@ ghost use Rattle.std.specs.Prelude.{◌≡◌, Err, IsSome, OnOk, refl};
 ghost use Rattle.saveload.specs.Wrapped.{link_conversion, link_faithful};
 ghost use Rattle.composed.specs.declared.saved_error.LoadWorldError.TheVariants.{Unregistered};
 
-use crate::saved_types::{Pose, Vigour};
+use crate::saved_types::{Bag, Pose};
 use composed::{Both, LoadWorldError, Marking, Of3, SaveWorldError, SavesWorld};
 use saveload::{
     ConvertSaveload, LoadError, Marker, SaveError, SimpleMarker, SimpleMarkerAllocator,
@@ -67,20 +67,20 @@ pub struct Kept;
 pub type Label = SimpleMarker<Kept>;
 
 /// A level: three component types, and markers.
-pub type Level = World<Both<Of3<Pose, Vigour, Ward>, Marking<Label, SimpleMarkerAllocator<Kept>>>>;
+pub type Level = World<Both<Of3<Pose, Bag, Ward>, Marking<Label, SimpleMarkerAllocator<Kept>>>>;
 
-/// The text of a level, which stays as it is: how much is left of each that has a marker, and whom it guards.
+/// The text of a level, which stays as it is: what each that has a marker carries, and whom it guards.
 pub fn level_saved(level: &mut Level, alloc: Global) -> Result<String, SaveWorldError>
     ensures same { level.new ≡ level.old }
 {
-    level.save_to_json::<(Vigour, Ward), _>(alloc)
+    level.save_to_json::<(Bag, Ward), _>(alloc)
 }
 
 /// Takes a text's entities up in a level. Where not all is registered nothing changes.
 pub fn level_loaded(level: &mut Level, alloc: Global, text: &str) -> Result<(), LoadWorldError>
     ensures same { result ≡ Err Unregistered → level.new ≡ level.old }
 {
-    level.load_from_json::<(Vigour, Ward), _>(alloc, text)
+    level.load_from_json::<(Bag, Ward), _>(alloc, text)
 }
 
 /// Carries the poses of all that have markers over from one level into another. The first stays as it is.
