@@ -1,5 +1,5 @@
 -- What a load leaves of the storages that were lent to it.
-use Rattle.std.proofs.Common.{◌≡◌, ℕ, Bool, List, [], ◌∷◌, Option, Some, None, Ok, Err, Result, ap, refl, sym, subst, inl, inr, ◌∙◌}
+use Rattle.std.proofs.Common.{◌≡◌, ℕ, Bool, List, [], ◌∷◌, Option, Some, Ok, Err, Result, ap, refl, sym, subst, inl, inr, ◌∙◌}
 use Rattle.std.specs.Prelude.{OnOk, IfErr}
 use Rattle.entities.specs.Census.{Census}
 use Rattle.entities.specs.Population.{index_of}
@@ -14,7 +14,7 @@ use Rattle.saveload.specs.declared.error.LoadError.{LoadError}
 use Rattle.std.specs.Borrow.{MutBor}
 use Rattle.composed.specs.Stored.{LeavesIn, LeavesBoth, one_of, two_of}
 use Rattle.composed.specs.Two.{OnTwoWith}
-use Rattle.composed.specs.Loading.{Stand, stand, LoadsRecords, StopsRecords, LoadsList, StopsList, NotLoaded, IsUnreadOr}
+use Rattle.composed.specs.Loading.{stand, LoadsRecords, StopsRecords, LoadsList, StopsList, NotLoaded, IsUnreadOr}
 use Rattle.composed.specs.declared.saved_error.LoadWorldError.{LoadWorldError}
 use Rattle.composed.specs.declared.saved_error.LoadWorldError.TheVariants.{Unregistered, Refused}
 
