@@ -19,21 +19,12 @@ use std::{error, fmt};
 use storages::{Component, UnprotectedStorage};
 
 /// Why a builder did not give a component, with the component. Its entity is marked, if it is alive.
-#[derive(Debug)]
+#[derive(Debug, Drop)]
 pub struct BuildError<T> {
     /// Why the component was refused.
     pub refusal: Refusal,
     /// The component.
     pub component: T,
-}
-
-impl<T: Drop> Drop for BuildError<T> {
-    fn drop(self) {
-        let BuildError {
-            refusal: _refusal,
-            component: _component,
-        } = self;
-    }
 }
 
 impl<T> fmt::Display for BuildError<T> {
