@@ -38,7 +38,9 @@ impl<M: Marker> ConvertSaveload<M> for Target {
     }
 
     fn mentions(alloc: Global, saved: &M) -> Result<Vec<M>, AllocError> {
-        Ok(vec![in alloc; saved.clone()?]?)
+        let mut list = Vec::with_capacity(alloc, 1)?;
+        list.push(saved.clone()?)?;
+        Ok(list)
     }
 
     fn convert_into<F: Fn(Entity) -> Option<M>>(
