@@ -9,8 +9,8 @@ would prove all of them again: more than an hour of a processor. This writes the
 
 A stamp is the sum of all that a library is built from: the kit, its own files, and those of the libraries below it. What stands without a stamp before `rt ci`
 may be built of other sources, and `rt ci` would put it back: --begin removes it, and records each library's sum and the time. Afterwards
-a library gets its stamp only where its sum is the recorded one and all of its files are younger than the record. Whatever else is found, and where the kit has another form,
-no stamp is written, and the library is built again.
+a library gets its stamp only where its sum is the recorded one, all of its files are younger than the record, and so it is of each library below it: where a run kept one that
+was proved before, that one is built again, and what stands on it would stand on another. Whatever else is found, and where the kit has another form, no stamp is written, and the library is built again.
 
 Run at the top of the repository."""
 import glob
@@ -43,6 +43,16 @@ def oldest(folder):
     return min((os.stat(f"{at}/{it}").st_mtime_ns for at, _, names in os.walk(folder) for it in names), default=0)
 
 
+def below():
+    """The libraries of this repository that each crate stands on."""
+    found = {}
+    with open("crates.txt", encoding="utf-8") as it:
+        for line in it:
+            head, _, uses = line.partition(":")
+            found[head.split()[0]] = uses.split()
+    return {name: [it for it in uses if it in found] for name, uses in found.items()}
+
+
 def begin():
     """Removes what has no stamp, and records the sums and the time."""
     if os.path.exists(RECORD):
@@ -56,15 +66,26 @@ def begin():
 
 
 def end():
-    """Writes the stamp of each library that was built since of the sources that are recorded."""
+    """Writes the stamp of each library that was built since of the sources that are recorded, with all that it stands on."""
     with open(RECORD, encoding="utf-8") as it:
         record = json.load(it)
     os.remove(RECORD)
-    for name, stamp in stamps().items():
+    sums, uses, stands = stamps(), below(), {}
+
+    def is_built(name):
+        """Whether a library was built in this run of these sources, or has a stamp, and so has each that it stands on."""
+        if name not in stands:
+            folder = f"crates/{name}/out/rlib"
+            there = os.path.isdir(f"{folder}/{name}.rlib") and all(is_built(it) for it in uses.get(name, []))
+            built = record["stamps"].get(name) == sums.get(name) and oldest(folder) >= record["time"]
+            stands[name] = there and (os.path.exists(f"{folder}/stamp") or built)
+        return stands[name]
+
+    for name, stamp in sums.items():
         folder = f"crates/{name}/out/rlib"
         if not os.path.isdir(f"{folder}/{name}.rlib") or os.path.exists(f"{folder}/stamp"):
             continue
-        if record["stamps"].get(name) != stamp or oldest(folder) < record["time"]:
+        if not is_built(name):
             print(f"library {name}: not built of these sources in this run: it is built again for the wrong bodies", flush=True)
             continue
         with open(f"{folder}/stamp", "w", encoding="utf-8") as it:

@@ -491,18 +491,35 @@ class KeptLibraries(Tree):
         super().setUp()
         self.take("tools/keep_libraries.py")
         os.mkdir(f"{self.top}/.git")
+        self.write("crates.txt", "low:\nhigh: low\n")
         self.write("crates/low/src/lib.rt", SOURCE)
+        self.write("crates/high/src/lib.rt", SOURCE)
         self.write("bin/rt", PASSES, runs=True)
         self.write("bin/rtlib.py", KIT)
 
     def keep(self, *words):
         return self.run_in("python3", "tools/keep_libraries.py", *words)
 
-    def build(self):
-        self.write("crates/low/out/rlib/low.rlib/format", "built\n")
+    def build(self, name="low"):
+        self.write(f"crates/{name}/out/rlib/{name}.rlib/format", "built\n")
 
-    def is_stamped(self):
-        return os.path.exists(f"{self.top}/crates/low/out/rlib/stamp")
+    def is_stamped(self, name="low"):
+        return os.path.exists(f"{self.top}/crates/{name}/out/rlib/stamp")
+
+    def test_what_stands_on_what_was_built(self):
+        self.keep("--begin")
+        self.build()
+        self.build("high")
+        self.keep()
+        self.assertTrue(self.is_stamped("high"))
+
+    def test_what_stands_on_what_is_older(self):
+        self.keep("--begin")
+        self.build()
+        self.build("high")
+        os.utime(f"{self.top}/crates/low/out/rlib/low.rlib/format", (0, 0))
+        self.keep()
+        self.assertFalse(self.is_stamped("high"))
 
     def test_what_was_built_of_these_sources(self):
         self.keep("--begin")
