@@ -8,6 +8,8 @@ mod equality_tests;
 #[cfg(test)]
 mod json_tests;
 #[cfg(test)]
+mod link_tests;
+#[cfg(test)]
 mod marker_tests;
 #[cfg(test)]
 mod own_marker_tests;
