@@ -11,7 +11,7 @@ use std::fmt;
 use std::marker::PhantomData;
 use storages::{Component, Kind};
 
-/// What a [`Link`] stands for, as a unit struct of the user's: it says which storage keeps the links.
+/// What a [`Link`](crate::Link) stands for, as a unit struct of the user's: it says which storage keeps the links.
 ///
 /// Ports `specs::Component` of a struct of one `Entity`, which names its storage.
 ///
@@ -29,8 +29,8 @@ pub trait Relation: Sized {
 
 /// A component that refers to another entity, of a relation `R`: links of two relations are two types of components.
 ///
-/// It takes as much room as its entity. It is saved as the marker of its entity alone; a save refuses it by `SaveError::Unmarked`
-/// where the entity has none. Ports a struct of one `Entity` with `#[derive(ConvertSaveload)]` of `specs-derive`.
+/// It is saved as the marker of its entity alone; a save refuses it by `SaveError::Unmarked` where the entity has none.
+/// Ports a struct of one `Entity` with `#[derive(ConvertSaveload)]` of `specs-derive`.
 #[derive_where(PartialEq, Eq)]
 pub struct Link<R> {
     /// Whom it refers to.
