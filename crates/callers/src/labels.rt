@@ -9,7 +9,9 @@ ghost use Rattle.specs.specs.Queue.{queued};
 ghost use Rattle.specs.specs.State.{core_state};
 ghost use Rattle.specs.specs.declared.job.Job.TheVariants.{Insert, Mark};
 
-use specs::{Builder, Core, EntitiesRes, Entity, MarkError, Storages, WorldJob, WorldParts};
+use specs::{
+    Builder, Core, EntitiesRes, Entity, MarkError, MarkedBuilder, Storages, WorldJob, WorldParts,
+};
 
 /// Whether an entity has a marker: it gets one if it lives.
 pub fn labelled<S: Storages>(

@@ -120,6 +120,7 @@ pub use specs::Lookup;
 pub use specs::MOST_PASSES;
 pub use specs::Maintained;
 pub use specs::MarkError;
+pub use specs::MarkedBuilder;
 pub use specs::Marker;
 pub use specs::MarkerAllocator;
 pub use specs::MaskExpr;

@@ -4,7 +4,7 @@ use crate::calls::{fresh, register};
 use composed::{Both, LoadWorldError, Marking, Of3, SaveWorldError, SavesWorld};
 use saveload::{LoadError, SimpleMarker, SimpleMarkerAllocator};
 use slots::{Health, Link, Position, Saved};
-use specs::{Builder, Entity, NoJob, World, slot};
+use specs::{Builder, Entity, MarkedBuilder, NoJob, World, slot};
 use std::alloc::Global;
 use std::process::Abort;
 use std::test::Fail;

@@ -4,7 +4,7 @@ use crate::calls::{die, got, is_done, maintained};
 use composed::Sole;
 use saveload::{Marker, SimpleMarker};
 use slots::{Labels, Saved};
-use specs::{Builder, CloneStorages, Command, Entity, MarkError, Storages, World};
+use specs::{Builder, CloneStorages, Command, Entity, MarkError, MarkedBuilder, Storages, World};
 use std::alloc::Global;
 use std::process::Abort;
 use std::test::Fail;

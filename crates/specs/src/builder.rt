@@ -54,6 +54,16 @@ pub trait Builder<S: Held>: Sized {
     fn build(self) -> Entity;
 }
 
+/// Gives a marker to an entity that is being built. Ports `specs::saveload::MarkedBuilder`.
+pub trait MarkedBuilder<S: Held>: Sized {
+    /// Why there is none.
+    type Refused;
+
+    /// The builder again, once its entity has a marker in a slot of markers, a new one or the one that it had, or one is queued for it. A refused
+    /// call drops the builder, so that the entity is marked as one that dies.
+    fn marked(self, slot: S::Slot) -> Result<Self, Self::Refused>;
+}
+
 /// A builder of an entity that was born. Dropped unbuilt, it marks the entity if it is alive, in room got when the entity was made.
 /// Ports `specs::world::EntityBuilder`.
 pub struct EntityBuilder<'a, S> {
@@ -78,24 +88,6 @@ impl<'a, S> EntityBuilder<'a, S> {
         ensures { result ≡ built self.now }
     {
         self.entity
-    }
-}
-
-impl<'a, S: Storages> EntityBuilder<'a, S> {
-    /// The builder again, once its entity has a marker in a slot of markers: a new one, or the one that it had. A refused call drops the builder, so
-    /// that the entity is marked as one that dies. Ports `MarkedBuilder::marked`.
-    pub fn marked(self, slot: S::Slot) -> Result<Self, MarkError>
-        ensures* rests { sem 𝓛 (RestsMarked S.row S.table S.ids self.entry result) }
-        ensures same_reference { IfOk result (λ b. (lent_to b).ghost_name ≡ (lent_to self.entry).ghost_name) }
-        ensures entity { IfOk result (λ b. built b ≡ built self.entry) }
-        ensures ok { IfOk result (λ b. HasMarkerThen S.marks slot (built self.entry) (shown S.table S.ids self.entry) (shown S.table S.ids b)) }
-        ensures living { IfOk result (λ b. KeepsLiving (shown S.table S.ids self.entry) (shown S.table S.ids b)) }
-        ensures goes_on { IfOk result (λ b. GoesOn (shown S.table S.ids self.entry) (shown S.table S.ids b)) }
-        ensures gone { IfOk result (λ b. KeepsGone (shown S.table S.ids self.entry).people (shown S.table S.ids b).people) }
-        ensures refused { IfErr result (GetsNoMarker S.marks (shown S.table S.ids self.entry) slot (built self.entry)) }
-    {
-        let EntityBuilder { core, entity } = self;
-        core.build_marked(entity, slot)
     }
 }
 
@@ -147,5 +139,23 @@ impl<'a, S: Held> Builder<S> for EntityBuilder<'a, S> {
     {
         let EntityBuilder { core: _, entity } = self;
         entity
+    }
+}
+
+impl<'a, S: Storages> MarkedBuilder<S> for EntityBuilder<'a, S> {
+    type Refused = MarkError;
+
+    fn marked(self, slot: S::Slot) -> Result<Self, MarkError>
+        ensures* rests { sem 𝓛 (RestsMarked S.row S.table S.ids self.entry result) }
+        ensures same_reference { IfOk result (λ b. (lent_to b).ghost_name ≡ (lent_to self.entry).ghost_name) }
+        ensures entity { IfOk result (λ b. built b ≡ built self.entry) }
+        ensures ok { IfOk result (λ b. HasMarkerThen S.marks slot (built self.entry) (shown S.table S.ids self.entry) (shown S.table S.ids b)) }
+        ensures living { IfOk result (λ b. KeepsLiving (shown S.table S.ids self.entry) (shown S.table S.ids b)) }
+        ensures goes_on { IfOk result (λ b. GoesOn (shown S.table S.ids self.entry) (shown S.table S.ids b)) }
+        ensures gone { IfOk result (λ b. KeepsGone (shown S.table S.ids self.entry).people (shown S.table S.ids b).people) }
+        ensures refused { IfErr result (GetsNoMarker S.marks (shown S.table S.ids self.entry) slot (built self.entry)) }
+    {
+        let EntityBuilder { core, entity } = self;
+        core.build_marked(entity, slot)
     }
 }

@@ -12,7 +12,7 @@ ghost use Rattle.specs.specs.Refused.{CreateIsRefused};
 ghost use Rattle.specs.specs.State.{core_state, OnPeople};
 ghost use Rattle.specs.specs.declared.job.Job.TheVariants.{Insert, Mark};
 
-use crate::builder::{BuildError, Builder};
+use crate::builder::{BuildError, Builder, MarkedBuilder};
 use crate::building::mark_if_alive;
 use crate::command::Refusal;
 use crate::has::Has;
@@ -195,19 +195,6 @@ impl<'a, S: Held, J: Drop> LazyBuilder<'a, S, J> {
         let LazyBuilder { parts, entity } = self;
         parts.build_with(entity, Job::Insert(entity, value))
     }
-
-    /// Queues a marker, in a slot of markers. A refused call drops the builder. Ports `MarkedBuilder::marked`.
-    pub fn marked(self, slot: S::Slot) -> Result<Self, AllocFailed<Job<S, J>>>
-        ensures* rests { sem 𝓛 (RestsMarked S.row J.row S.Slot.row S.Value.row S.table S.ids self.entry result) }
-        ensures same_reference { IfOk result (λ b. (lent_to b).ghost_name ≡ (lent_to self.entry).ghost_name) }
-        ensures entity { IfOk result (λ b. built b ≡ built self.entry) }
-        ensures core { IfOk result (λ b. shown S.table S.ids b ≡ shown S.table S.ids self.entry) }
-        ensures queue { IfOk result (λ b. waiting b ≡ waiting self.entry ++ Mark slot (built self.entry) ∷ []) }
-        ensures back { IfErr result (λ r. r.value ≡ Mark slot (built self.entry)) }
-    {
-        let LazyBuilder { parts, entity } = self;
-        parts.build_with(entity, Job::Mark(slot, entity))
-    }
 }
 
 impl<'a, S: Held, J: Drop> Builder<S> for LazyBuilder<'a, S, J> {
@@ -253,5 +240,21 @@ impl<'a, S: Held, J: Drop> Builder<S> for LazyBuilder<'a, S, J> {
     {
         let LazyBuilder { parts: _, entity } = self;
         entity
+    }
+}
+
+impl<'a, S: Held, J: Drop> MarkedBuilder<S> for LazyBuilder<'a, S, J> {
+    type Refused = AllocFailed<Job<S, J>>;
+
+    fn marked(self, slot: S::Slot) -> Result<Self, AllocFailed<Job<S, J>>>
+        ensures* rests { sem 𝓛 (RestsMarked S.row J.row S.Slot.row S.Value.row S.table S.ids self.entry result) }
+        ensures same_reference { IfOk result (λ b. (lent_to b).ghost_name ≡ (lent_to self.entry).ghost_name) }
+        ensures entity { IfOk result (λ b. built b ≡ built self.entry) }
+        ensures core { IfOk result (λ b. shown S.table S.ids b ≡ shown S.table S.ids self.entry) }
+        ensures queue { IfOk result (λ b. waiting b ≡ waiting self.entry ++ Mark slot (built self.entry) ∷ []) }
+        ensures back { IfErr result (λ r. r.value ≡ Mark slot (built self.entry)) }
+    {
+        let LazyBuilder { parts, entity } = self;
+        parts.build_with(entity, Job::Mark(slot, entity))
     }
 }

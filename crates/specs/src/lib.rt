@@ -31,7 +31,7 @@ mod world_job;
 mod writing;
 
 pub use act::{Act, Doing};
-pub use builder::{BuildError, Builder, EntityBuilder};
+pub use builder::{BuildError, Builder, EntityBuilder, MarkedBuilder};
 pub use channel_call::{ChannelCall, ChannelReply};
 pub use command::{Command, Maintained, Refusal, Reply, SetExpr};
 pub use core_parts::{Core, DeleteError, Parts};
