@@ -3,6 +3,7 @@
 #![tactic(auto)]
 
 mod acts;
+mod beside_living;
 mod by_closure;
 mod causes;
 mod changes;
@@ -41,6 +42,8 @@ pub use acts::Win;
 pub use acts::scored;
 pub use acts::seated;
 pub use acts::turned;
+pub use beside_living::first_light_load_is_raised;
+pub use beside_living::first_living_is_loaded;
 pub use by_closure::Pace;
 pub use by_closure::TooFar;
 pub use by_closure::Way;

@@ -1,7 +1,8 @@
--- A call on two or three parts of a part.
+-- A call on one, two or three parts of a part.
 use Rattle.std.proofs.Common.{◌≡◌, Option, Some, None, ap, sym, ◌∙◌}
 use Rattle.std.specs.Prelude.{IfSome}
 use Rattle.std.specs.Borrow.{Bor, MutBor}
+use Rattle.composed.specs.One.{OnOneBeside}
 use Rattle.composed.specs.Two.{OnTwo, OnTwoBeside, OnTwoAnd, OnTwoWith, CallsBeside}
 use Rattle.composed.specs.Three.{OnThree, OnThreeBeside, CallsThree, CallsThreeBeside}
 
@@ -10,6 +11,12 @@ pub on_part : {R S W M N : Type 0} (h : S → W) (r : Option R) (one : Option M)
     → IfSome r (λ a. OnTwo one other with_two (post a) n) → IfSome r (λ a. OnTwo one other (λ v w. h (with_two v w)) (post a) (h n))
 on_part h None one other with_two post n o = tt
 on_part h (Some a) one other with_two post n o = record { x = o.x; y = o.y; x' = o.x'; y' = o.y'; at_x = o.at_x; at_y = o.at_y; called = o.called; is = ap h o.is }
+
+pub on_part_one : {R S W E M : Type 0} (h : S → W) (r : Option R) (beside : E) (one : Option M) (with_one : M → S) (post : R → Bor E → MutBor M → MutBor M → Type 0) (n : S)
+    → IfSome r (λ a. OnOneBeside beside one with_one (post a) n) → IfSome r (λ a. OnOneBeside beside one (λ v. h (with_one v)) (post a) (h n))
+on_part_one h None beside one with_one post n o = tt
+on_part_one h (Some a) beside one with_one post n o =
+    record { e = o.e; x = o.x; x' = o.x'; at_e = o.at_e; at_x = o.at_x; called = o.called; is = ap h o.is }
 
 pub on_part_beside : {R S W E M N : Type 0} (h : S → W) (r : Option R) (beside : E) (one : Option M) (other : Option N) (with_two : M → N → S) (post : R → Bor E → MutBor M → MutBor N → MutBor M → MutBor N → Type 0) (n : S)
     → IfSome r (λ a. OnTwoBeside beside one other with_two (post a) n) → IfSome r (λ a. OnTwoBeside beside one other (λ v w. h (with_two v w)) (post a) (h n))

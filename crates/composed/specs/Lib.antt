@@ -1,6 +1,7 @@
 pub mod Both
 pub mod Places
 pub mod Exact
+pub mod One
 pub mod Two
 pub mod Three
 pub mod Stored

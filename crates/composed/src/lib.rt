@@ -13,6 +13,7 @@ mod saved_types;
 mod saves_world;
 mod three;
 mod two;
+mod with_one;
 mod with_three;
 mod with_two;
 
@@ -29,6 +30,7 @@ pub use three::{
     FirstAcross, FirstCrossed, SecondAcross, SecondCrossed, ThirdAcross, ThirdCrossed, ThreeFields,
 };
 pub use two::{Across, Crossed, TwoFields};
+pub use with_one::WithOne;
 pub use with_three::WithThree;
 pub use with_two::WithTwo;
 
