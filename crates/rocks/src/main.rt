@@ -1,65 +1,38 @@
 //! A game: rocks fly through space, ships that meet them win points, and the ships are saved and loaded into another space.
 #![tactic(auto)]
 
-mod deeds;
-mod lookout;
-mod meetings;
-mod motion;
 mod parts;
-mod saved;
-mod show;
-mod spawn;
+mod turn;
 
-use anyhow::Result;
-use composed::{Builder, Empty, Has, MaskedStorage, Storages, TwoFields, World};
-use parts::{Cargo, Game, Label, Name, Position, Score, Space, Stores, Target, Velocity};
-use saved::Carries;
+use anyhow::{Context, Result};
+use composed::{
+    Builder, Doing, Empty, Entity, Has, Link, MaskedStorage, Pass, SavedText, Shared, Storages,
+    TwoFields, WithTwo, World, in_threads_by, slot,
+};
+use parts::{Cargo, Carries, Hunts, Label, Name, Position, Score, Stores, Velocity};
 use std::alloc::{Alloc, Global};
+use std::cmp::Reverse;
+use std::marker::PhantomData;
 use std::thread::Threads;
+use turn::{Deed, Seen, move_all, pairs, swept};
 
-/// Three turns: all move, those that meet win or burst, and what waited is done.
-fn play<P, V, N, C, T, O, L, Q, S: Game<P, V, N, C, T, O, L, Q>>(
-    space: &mut Space<S, O>,
+/// A space, and what is told of it. Its storages are any that have each type at a place: the prover is faster with them than with known ones.
+#[derive(Drop)]
+struct Game<S: Storages + Drop, P, V, N, C, T, O, L, Q, R> {
+    space: World<S, Doing<Deed<O>>>,
+    text: String,
     alloc: Global,
-    text: &mut String,
-) -> Result<()> {
-    let mut scores = space.write_storage::<Score, _>()?;
-    let reader = scores.masked_mut().register_reader()?;
-    for turn in 1..=3 {
-        motion::step(space)?;
-        let met = meetings::meetings(space, alloc, 0.75)?;
-        let done = space.maintain(u64::MAX)?;
-        writeln!(text, "turn {turn}: {met} near, {} jobs", done.ran)?;
-        let mut scores = space.write_storage::<Score, _>()?;
-        show::log(scores.masked_mut(), &reader, text)?;
-    }
-    Ok(())
+    of: PhantomData<(P, V, N, C, T, L, Q, R)>,
 }
 
-/// What came of it.
-fn ending<P, V, N, C, T, O, L, Q, S: Game<P, V, N, C, T, O, L, Q>>(
-    space: &Space<S, O>,
-    alloc: Global,
-    text: &mut String,
-) -> Result<()> {
-    let names = space.read_storage::<Name, _>()?;
-    show::cargos(&names, &space.read_storage()?, text)?;
-    show::board(&names, &space.read_storage()?, alloc, text)?;
-    show::hunts(&names, &space.read_storage()?, text)
-}
-
-/// The story of two ships, and how they come into another space. The spaces are locals here alone, where the type of their storages is not known: a
-/// function that owns storages of a known type is slow to prove.
-fn told<P, V, N, C, T, O, L, Q, R, S>(
-    rt: &(impl Threads + Alloc<A = Global> + Sync),
-) -> Result<String>
+impl<S, P, V, N, C, T, O, L, Q, R> Game<S, P, V, N, C, T, O, L, Q, R>
 where
     S: Storages
         + Has<Position, P>
         + Has<Velocity, V>
         + Has<Name, N>
         + Has<Cargo, C>
-        + Has<Target, T>
+        + Has<Link<Hunts>, T>
         + Has<Score, O>
         + Has<Label, L>
         + TwoFields<MaskedStorage<Position>, MaskedStorage<Velocity>, Q>
@@ -67,25 +40,160 @@ where
         + Empty
         + Drop,
 {
-    let alloc = rt.alloc();
-    let mut text = String::new(alloc);
-    let mut space: Space<S, O> = World::new(alloc, S::empty(alloc));
-    let mut other: Space<S, O> = World::new(alloc, S::empty(alloc));
-    spawn::register(&mut space)?;
-    spawn::begin(&mut space, alloc)?;
-    play(&mut space, alloc, &mut text)?;
-    lookout::look_out(rt, &mut space, alloc, &mut text)?;
-    ending(&space, alloc, &mut text)?;
-    spawn::register(&mut other)?;
-    other.create_entity()?.build();
-    let saved = S::save(space.parts().core.parts(), alloc)?;
-    writeln!(text, "{saved}")?;
-    S::load(other.parts().core.parts(), alloc, saved.as_str())?;
-    ending(&other, alloc, &mut text)?;
-    Ok(text)
+    /// The story of two ships, and how they come into another space.
+    fn told(rt: &(impl Threads + Alloc<A = Global> + Sync)) -> Result<String> {
+        let mut game = Self::new(rt.alloc())?;
+        game.begin()?;
+        game.play()?;
+        game.look_out(rt)?;
+        game.ending()?;
+        let mut other = Self::new(rt.alloc())?;
+        other.space.create_entity()?.build();
+        let from = game.space.parts().core.parts();
+        let saved = S::carry(from, other.space.parts().core.parts(), game.alloc)?;
+        other.ending()?;
+        write!(game.text, "{saved}\n{}", other.text)?;
+        Ok(game.text)
+    }
+
+    /// An empty space.
+    fn new(alloc: Global) -> Result<Self> {
+        let mut space: World<S, Doing<Deed<O>>> = World::new(alloc, S::empty(alloc));
+        space.register::<Position, _>()?;
+        space.register::<Velocity, _>()?;
+        space.register::<Name, _>()?;
+        space.register::<Cargo, _>()?;
+        space.register::<Link<Hunts>, _>()?;
+        space.register::<Score, _>()?;
+        space.register::<Label, _>()?;
+        Ok(Game {
+            space,
+            text: String::new(alloc),
+            alloc,
+            of: PhantomData,
+        })
+    }
+
+    /// A ship with a name, a cargo and a score, that stands still and is saved.
+    fn ship(&mut self, name: &str, at: Position) -> Result<Entity> {
+        let name = Name(SavedText::from_str(self.alloc, name)?);
+        let cargo = Cargo(vec![in self.alloc; 1, 2, 3]?);
+        let builder = self.space.create_entity()?.with(at)?.with(name)?;
+        let ship = builder.with(cargo)?.with(Score(0))?.build();
+        self.space.parts().core.mark(slot::<Label, S, L>(), ship)?;
+        Ok(ship)
+    }
+
+    /// Two ships that hunt each other, and five rocks.
+    fn begin(&mut self) -> Result<()> {
+        let ada = self.ship("Ada", Position(0.0, 0.0))?;
+        let bob = self.ship("Bob", Position(4.0, 0.0))?;
+        let mut hunts = self.space.write_storage::<Link<Hunts>, _>()?;
+        hunts.insert(ada, Link::new(bob))?;
+        hunts.insert(bob, Link::new(ada))?;
+        for i in 0..5 {
+            let rock = self.space.create_entity()?;
+            let rock = rock.with(Position(f64::from(i), 1.0))?;
+            rock.with(Velocity(0.0, -0.5))?.build();
+        }
+        Ok(())
+    }
+
+    /// Three turns: all move, those that meet win or burst, and what waited is done.
+    fn play(&mut self) -> Result<()> {
+        let mut scores = self.space.write_storage::<Score, _>()?;
+        let reader = scores.masked_mut().register_reader()?;
+        for turn in 1..=3 {
+            self.space.with_two(move_all).context("not registered")??;
+            let met = self.meetings()?;
+            let done = self.space.maintain(u64::MAX)?;
+            writeln!(self.text, "turn {turn}: {met} near, {} jobs", done.ran)?;
+            let mut scores = self.space.write_storage::<Score, _>()?;
+            for event in scores.masked_mut().read(&reader)? {
+                writeln!(self.text, "  {event:?}")?;
+            }
+        }
+        Ok(())
+    }
+
+    /// Ships meet rocks that are near. It answers how many pairs were near.
+    fn meetings(&mut self) -> Result<usize> {
+        let positions = self.space.read_storage()?;
+        let list = swept(self.space.entities(), &positions, self.alloc)?;
+        let met = pairs(&list, self.alloc, 0.75)?;
+        let count = met.len();
+        for (one, other) in met {
+            self.meet(one, other)?;
+        }
+        Ok(count)
+    }
+
+    /// A ship that meets a rock is to get a point, the rock is to burst, and a piece of it is to fly on from there.
+    fn meet(&mut self, one: Seen, other: Seen) -> Result<()> {
+        let scores = self.space.read_storage::<Score, _>()?;
+        let (ship, rock) = match (scores.contains(one.0), scores.contains(other.0)) {
+            (true, false) => (one, other),
+            (false, true) => (other, one),
+            _ => return Ok(()),
+        };
+        let parts = self.space.parts();
+        parts.lazy.exec(Doing(Deed::Burst(rock.0)))?;
+        parts.lazy.exec(Doing(Deed::Point(ship.0, PhantomData)))?;
+        let piece = parts.create_entity()?.with(rock.1)?;
+        piece.with(Velocity(0.0, 2.0))?.build();
+        Ok(())
+    }
+
+    /// Two look out, each in a thread. What they find flies from the far corner.
+    fn look_out(&mut self, rt: &(impl Threads + Sync)) -> Result<()> {
+        let entities = &mut self.space.parts().core.parts().entities;
+        let look = |shared: &Shared<'_>, pass: &mut Pass| shared.create(pass).ok();
+        let (closed, found) = in_threads_by(rt, self.alloc, entities, 2, 2, &look)?;
+        self.space.maintain(0)?;
+        for rock in found {
+            if let Some(rock) = rock {
+                let mut positions = self.space.write_storage::<Position, _>()?;
+                positions.insert(rock, Position(9.0, 9.0))?;
+                let mut velocities = self.space.write_storage::<Velocity, _>()?;
+                velocities.insert(rock, Velocity(-1.0, -1.0))?;
+            }
+        }
+        writeln!(self.text, "{} found in two threads", closed.births)?;
+        Ok(())
+    }
+
+    /// The ships with their points, the most first, and then who hunts whom.
+    fn ending(&mut self) -> Result<()> {
+        let names = self.space.read_storage::<Name, _>()?;
+        let scores = self.space.read_storage::<Score, _>()?;
+        let mut board = Vec::new(self.alloc);
+        for id in scores.mask().iter() {
+            if let Some(score) = scores.storage().get(id) {
+                board.push((score.0, id))?;
+            }
+        }
+        board.sort_by_key(|row| Reverse(row.0))?;
+        let cargos = self.space.read_storage::<Cargo, _>()?;
+        for (points, id) in board {
+            if let (Some(name), Some(cargo)) = (names.storage().get(id), cargos.storage().get(id)) {
+                writeln!(self.text, "{points:>5} {:?} with {:?}", name.0, cargo.0)?;
+            }
+        }
+        let hunts = self.space.read_storage::<Link<Hunts>, _>()?;
+        for id in hunts.mask().iter() {
+            let hunted = hunts
+                .storage()
+                .get(id)
+                .and_then(|link: &Link<Hunts>| names.get(link.entity));
+            if let (Some(one), Some(other)) = (names.storage().get(id), hunted) {
+                writeln!(self.text, "{:?} ({id}) hunts {:?}", one.0, other.0)?;
+            }
+        }
+        Ok(())
+    }
 }
 
 fn main(rt: HostRuntime) -> Result<()> {
-    print!(rt; "{}", told::<_, _, _, _, _, _, _, _, _, Stores>(&rt)?)?;
+    print!(rt; "{}", Game::<Stores, _, _, _, _, _, _, _, _, _>::told(&rt)?)?;
     Ok(())
 }

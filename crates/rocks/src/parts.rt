@@ -1,28 +1,25 @@
-//! The component types of the game, and what its functions ask of a world.
-use crate::deeds::Waiting;
+//! The component types of the game, and what is saved of them.
+ghost use Rattle.std.specs.Prelude.{Some};
+
+use anyhow::Result;
 use composed::{
-    BTreeStorage, Both, Component, DenseVecStorage, Doing, Entity, FlaggedStorage, Has,
-    HashMapStorage, Marking, MaskedStorage, Of6, SavedText, SimpleMarker, SimpleMarkerAllocator,
-    Storages, TwoFields, VecStorage, World,
+    BTreeStorage, Both, Component, DenseVecStorage, FlaggedStorage, HashMapStorage, JsonFields,
+    Link, Marking, MaskedStorage, Of6, Parts, Relation, SavedText, SavesWorld, SimpleMarker,
+    SimpleMarkerAllocator, TwoFields, VecStorage,
 };
+use std::alloc::{AllocError, Global};
 
 /// Where somebody is.
-#[derive(Clone, Copy, Debug, PartialEq)]
-pub struct Position {
-    pub x: f64,
-    pub y: f64,
-}
+#[derive(Clone, Copy, Debug)]
+pub struct Position(pub f64, pub f64);
 
 impl Component for Position {
     type Storage = VecStorage<Self>;
 }
 
-/// How far somebody goes in a step.
-#[derive(Clone, Copy, Debug, PartialEq)]
-pub struct Velocity {
-    pub x: f64,
-    pub y: f64,
-}
+/// How far somebody goes in a turn.
+#[derive(Clone, Copy, Debug)]
+pub struct Velocity(pub f64, pub f64);
 
 impl Component for Velocity {
     type Storage = VecStorage<Self>;
@@ -44,23 +41,22 @@ impl Component for Cargo {
     type Storage = BTreeStorage<Self>;
 }
 
-/// Whom a ship hunts.
-#[derive(Clone, Copy, Debug, PartialEq, Eq)]
-pub struct Target(pub Entity);
+/// That a ship hunts another: its component is `Link<Hunts>`.
+pub struct Hunts;
 
-impl Component for Target {
-    type Storage = DenseVecStorage<Self>;
+impl Relation for Hunts {
+    type Storage = DenseVecStorage<Link<Self>>;
 }
 
 /// The points of a ship. Readers are told of each change.
-#[derive(Clone, Copy, Debug, PartialEq, Eq)]
+#[derive(Clone, Copy, Debug)]
 pub struct Score(pub u32);
 
 impl Component for Score {
     type Storage = FlaggedStorage<Self, DenseVecStorage<Self>>;
 }
 
-/// What is saved.
+/// What has a label is saved.
 #[derive(Clone, Copy)]
 pub struct Saved;
 
@@ -71,31 +67,36 @@ pub type Label = SimpleMarker<Saved>;
 pub type Labels = Marking<Label, SimpleMarkerAllocator<Saved>>;
 
 /// The storages of the game.
-pub type Stores = Both<Of6<Position, Velocity, Name, Cargo, Target, Score>, Labels>;
+pub type Stores = Both<Of6<Position, Velocity, Name, Cargo, Link<Hunts>, Score>, Labels>;
 
-/// A world of the game, in which deeds wait.
-pub type Space<S, O> = World<S, Doing<Waiting<O>>>;
+/// A name is saved as its text.
+impl JsonFields for Name {
+    type As = SavedText;
 
-/// Storages of all component types, each at its place: the prover is much faster with them than with `Stores`.
-pub trait Game<P, V, N, C, T, O, L, Q>: Storages
-    + Has<Position, P>
-    + Has<Velocity, V>
-    + Has<Name, N>
-    + Has<Cargo, C>
-    + Has<Target, T>
-    + Has<Score, O>
-    + Has<Label, L>
-    + TwoFields<MaskedStorage<Position>, MaskedStorage<Velocity>, Q> {}
+    ghost fields = { λ n. n.0 };
 
-impl<P, V, N, C, T, O, L, Q, S> Game<P, V, N, C, T, O, L, Q> for S
-where
-    S: Storages
-        + Has<Position, P>
-        + Has<Velocity, V>
-        + Has<Name, N>
-        + Has<Cargo, C>
-        + Has<Target, T>
-        + Has<Score, O>
-        + Has<Label, L>
-        + TwoFields<MaskedStorage<Position>, MaskedStorage<Velocity>, Q>,
-{}
+    ghost of_fields = { λ t. Some (record { 0 = t }) };
+
+    fn fields(&self, alloc: Global) -> Result<SavedText, AllocError> {
+        self.0.copy(alloc)
+    }
+
+    fn of_fields(saved: SavedText) -> Option<Name> {
+        Some(Name(saved))
+    }
+}
+
+/// Storages of which names and links are saved. It is asked for where the struct is not known.
+pub trait Carries<R>: Sized {
+    /// Loads into others what is saved of these. It answers the text.
+    fn carry(from: &mut Parts<Self>, to: &mut Parts<Self>, alloc: Global) -> Result<String>;
+}
+
+impl<F: TwoFields<MaskedStorage<Name>, MaskedStorage<Link<Hunts>>, R>, R> Carries<R>
+    for Both<F, Labels> {
+    fn carry(from: &mut Parts<Self>, to: &mut Parts<Self>, alloc: Global) -> Result<String> {
+        let text = from.save_to_json::<(Name, Link<Hunts>), R>(alloc)?;
+        to.load_from_json::<(Name, Link<Hunts>), R>(alloc, text.as_str())?;
+        Ok(text)
+    }
+}

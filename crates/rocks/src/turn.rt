@@ -1,0 +1,94 @@
+//! A turn: how all move, who meets whom, and what waits for its end.
+use crate::parts::{Position, Score, Velocity};
+use anyhow::Result;
+use composed::{
+    Act, Core, DeleteError, Doing, EntitiesRes, Entity, ForEach, Has, InsertError, LazyUpdate,
+    MaskedStorage, ReadStorage, Storages,
+};
+use std::alloc::{AllocError, Global};
+use std::cmp::OrderedFloat;
+use std::marker::PhantomData;
+
+/// What is done, where the scores are at place `O`.
+#[derive(Debug, Drop)]
+pub enum Deed<O> {
+    /// A rock bursts.
+    Burst(Entity),
+    /// A ship gets a point.
+    Point(Entity, PhantomData<O>),
+}
+
+impl<O, S: Storages + Has<Score, O>> Act<S> for Deed<O> {
+    fn act(
+        self,
+        core: &mut Core<S>,
+        _queue: &mut LazyUpdate<S, Doing<Self>>,
+    ) -> Result<(), (Self, AllocError)> {
+        match self {
+            Deed::Burst(rock) => match core.delete_entity(rock) {
+                Err(DeleteError::OutOfMemory) => Err((Deed::Burst(rock), AllocError)),
+                _ => Ok(()),
+            },
+            Deed::Point(ship, of) => {
+                let Ok(mut scores) = core.write_storage::<Score, O>() else {
+                    return Ok(());
+                };
+                let points = scores.get(ship).map_or(0, |score: &Score| score.0);
+                match scores.insert(ship, Score(points.saturating_add(1))) {
+                    Err(InsertError::OutOfMemory(_)) => Err((Deed::Point(ship, of), AllocError)),
+                    _ => Ok(()),
+                }
+            }
+        }
+    }
+}
+
+/// How wide and how high space is. It has no edge: who leaves it on one side comes in on the other.
+const SIZE: f64 = 1000.0;
+
+/// Each with a velocity moves by it.
+pub fn move_all(
+    _entities: &EntitiesRes,
+    positions: &mut MaskedStorage<Position>,
+    velocities: &mut MaskedStorage<Velocity>,
+) -> Result<()> {
+    Ok(positions.for_each_with(&*velocities, |at: &mut Position, way: &Velocity| {
+        *at = Position((at.0 + way.0 + SIZE) % SIZE, (at.1 + way.1 + SIZE) % SIZE);
+    })?)
+}
+
+/// An entity, and where it is.
+pub type Seen = (Entity, Position);
+
+/// All that have a place, by their x.
+pub fn swept(
+    entities: &EntitiesRes,
+    positions: &ReadStorage<'_, Position>,
+    alloc: Global,
+) -> Result<Vec<Seen>> {
+    let mut list = Vec::new(alloc);
+    for id in positions.mask().iter() {
+        if let Some(at) = positions.storage().get(id) {
+            list.push((entities.entity(id), *at))?;
+        }
+    }
+    list.sort_by_key(|seen| OrderedFloat(seen.1.0))?;
+    Ok(list)
+}
+
+/// The pairs that are nearer than a distance.
+pub fn pairs(list: &[Seen], alloc: Global, near: f64) -> Result<Vec<(Seen, Seen)>> {
+    let mut met = Vec::new(alloc);
+    for (i, one) in list.iter().enumerate() {
+        for other in list.iter().skip(i).skip(1) {
+            let (x, y) = (other.1.0 - one.1.0, other.1.1 - one.1.1);
+            if x > near {
+                break;
+            }
+            if x * x + y * y < near * near {
+                met.push((*one, *other))?;
+            }
+        }
+    }
+    Ok(met)
+}
