@@ -4,16 +4,23 @@ use crate::calls::{die, got, is_done, maintained};
 use composed::Sole;
 use saveload::{Marker, SimpleMarker};
 use slots::{Labels, Saved};
-use specs::{Builder, CloneStorages, Command, Entity, MarkError, MarkedBuilder, Storages, World};
+use specs::{
+    Builder, CloneStorages, Command, Entity, Held, MarkError, MarkedBuilder, Storages, World,
+};
 use std::alloc::Global;
 use std::process::Abort;
 use std::test::Fail;
+
+/// Gives a marker to what any builder builds.
+fn mark_entity<S: Held, B: MarkedBuilder<S>>(builder: B, slot: S::Slot) -> Result<B, B::Refused> {
+    builder.marked(slot)
+}
 
 /// An entity that is built with a marker, and why it got none, if it did not.
 fn built<S: Storages>(world: &mut World<S>, slot: S::Slot) -> Option<(Entity, Option<MarkError>)> {
     let builder = world.create_entity().ok()?;
     let e = builder.entity();
-    match builder.marked(slot) {
+    match mark_entity(builder, slot) {
         Ok(builder) => Some((builder.build(), None)),
         Err(refusal) => Some((e, Some(refusal))),
     }
@@ -22,7 +29,7 @@ fn built<S: Storages>(world: &mut World<S>, slot: S::Slot) -> Option<(Entity, Op
 /// An entity whose birth is pending, and whose marker is queued.
 fn built_lazily<S: Storages>(world: &mut World<S>, slot: S::Slot) -> Option<Entity> {
     let builder = world.parts().create_entity().ok()?;
-    let builder = builder.marked(slot).ok()?;
+    let builder = mark_entity(builder, slot).ok()?;
     Some(builder.build())
 }
 

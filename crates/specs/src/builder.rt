@@ -57,7 +57,7 @@ pub trait Builder<S: Held>: Sized {
 /// Gives a marker to an entity that is being built. Ports `specs::saveload::MarkedBuilder`.
 pub trait MarkedBuilder<S: Held>: Sized {
     /// Why there is none.
-    type Refused;
+    type Refused: Drop;
 
     /// The builder again, once its entity has a marker in a slot of markers, a new one or the one that it had, or one is queued for it. A refused
     /// call drops the builder, so that the entity is marked as one that dies.
