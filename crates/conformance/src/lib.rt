@@ -1,4 +1,4 @@
-//! Worked examples of the whole: scripts with their status and both outputs, and worlds by their calls.
+//! Worked examples of worlds, by their calls.
 #![tactic(auto)]
 
 #[cfg(test)]
@@ -14,25 +14,13 @@ mod composed_slots;
 #[cfg(test)]
 mod doc_jobs;
 #[cfg(test)]
-mod hostile_scripts;
-#[cfg(test)]
-mod job_scripts;
-#[cfg(test)]
 mod jobs;
 #[cfg(test)]
 mod listed;
 #[cfg(test)]
 mod own_jobs;
 #[cfg(test)]
-mod runs;
-#[cfg(test)]
 mod saved_worlds;
-#[cfg(test)]
-mod saving_scripts;
-#[cfg(test)]
-mod scripts;
-#[cfg(test)]
-mod selections;
 #[cfg(test)]
 mod stories;
 #[cfg(test)]
@@ -42,12 +30,8 @@ mod typed_worlds;
 #[cfg(test)]
 mod upstream_births;
 #[cfg(test)]
-mod upstream_entities;
-#[cfg(test)]
 mod upstream_lazy;
 #[cfg(test)]
 mod upstream_markers;
-#[cfg(test)]
-mod upstream_storages;
 #[cfg(test)]
 mod worlds;
