@@ -1,6 +1,6 @@
 //! Component types that are saved together.
 ghost use Rattle.std.specs.Prelude.{◌≡◌, ℕ, Option, IfOk, IfErr, OnOk, string_bytes};
-ghost use Rattle.entities.specs.Census.{Census};
+ghost use Rattle.entities.specs.Census.{Census, population};
 ghost use Rattle.entities.specs.declared.entity.Entity.{Entity as Being};
 ghost use Rattle.storages.specs.Found.{found_in};
 ghost use Rattle.saveload.specs.Conversion.{Conversion};
@@ -10,6 +10,7 @@ ghost use Rattle.saveload.specs.Saved.{DistinctIds, TellsApart};
 ghost use Rattle.saveload.specs.Stops.{PartlyOne, PartlyTwo};
 ghost use Rattle.saveload.specs.Tuples.{one_place, two_places};
 ghost use Rattle.saveload.specs.declared.error.LoadError.{LoadError as Refusal};
+ghost use Rattle.specs.specs.Gone.{KeepsGone};
 ghost use Rattle.composed.specs.Stored.{OnBoth, IsMissing, LeavesBoth, one_of, two_of, rows_of_one, TellsOne, StoresInOne, rows_of_two, TellsTwo, StoresInTwo};
 ghost use Rattle.composed.specs.Saves.{IsSavedOf, HoldsAllOf, RefusesOf, NotSaved};
 ghost use Rattle.composed.specs.Loading.{list_in, stand, LoadsList, StopsList, NotLoaded, IsUnreadOr, IsSame};
@@ -83,6 +84,7 @@ pub trait SavedTypes<M: Marker + Copy + JsonData, F, P> {
     where
         M::Allocator: MarkerAllocator<M>,
         requires { (m n : M) → M.is_clone m n → m ≡ n }
+        ensures gone { KeepsGone (population entities.old) (population entities.new) }
         ensures loaded { OnOk result (LeavesBoth lent with_lent (λ l m l' m'. LoadsList M.id_of M.Identifier.eq conversion M.Allocator.mapping M.Allocator.ids_past rows Changes Stores
             (list_in M.from Self.Data.from text.now) (stand entities.old marking.old.allocator l m) (stand entities.new marking.new.allocator l' m'))
             fields.old marking.old.markers.field fields.new marking.new.markers.field) }

@@ -1,10 +1,11 @@
 //! A world, saved and loaded in one call each.
 ghost use Rattle.std.specs.Prelude.{◌≡◌, Option, IfOk, IfErr, OnOk, string_bytes};
-ghost use Rattle.entities.specs.Census.{Census};
+ghost use Rattle.entities.specs.Census.{Census, population};
 ghost use Rattle.storages.specs.Found.{found_in};
 ghost use Rattle.storages.specs.Slot.{Slot};
 ghost use Rattle.saveload.specs.Json.{IsTextOf};
 ghost use Rattle.saveload.specs.Saved.{DistinctIds, TellsApart};
+ghost use Rattle.specs.specs.Gone.{KeepsGone};
 ghost use Rattle.composed.specs.Stored.{OnBoth, IsMissing, LeavesBoth};
 ghost use Rattle.composed.specs.Saves.{IsSavedOf, HoldsAllOf, RefusesOf, NotSaved};
 ghost use Rattle.composed.specs.Loading.{list_in, stand, LoadsList, StopsList, NotLoaded, IsUnreadOr};
@@ -64,6 +65,7 @@ where
         text: &str,
     ) -> Result<(), LoadWorldError>
         requires { (m n : M) → M.is_clone m n → m ≡ n }
+        ensures gone { KeepsGone (population (entities self.old)) (population (entities self.new)) }
         ensures loaded { OnOk result (LeavesBoth T.lent T.with_lent (λ l m l' m'. LoadsList M.id_of M.Identifier.eq T.conversion M.Allocator.mapping M.Allocator.ids_past T.rows T.Changes T.Stores
             (list_in M.from T.Data.from text.now) (stand (entities self.old) (allocator self.old) l m) (stand (entities self.new) (allocator self.new) l' m'))
             (fields self.old) (markers self.old) (fields self.new) (markers self.new)) }
