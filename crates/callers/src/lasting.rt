@@ -40,6 +40,14 @@ where
     Some(e)
 }
 
+/// A builder that is let go unbuilt marks its entity: each component belongs to a living entity still, and who was gone is gone.
+pub fn let_go<S: Storages>(core: &mut Core<S>)
+    ensures living { KeepsLiving (core_state S.table S.ids core.old) (core_state S.table S.ids core.new) }
+    ensures gone { KeepsGone (core_state S.table S.ids core.old).people (core_state S.table S.ids core.new).people }
+{
+    let _unbuilt = core.create_entity();
+}
+
 /// What a run of commands that leave a reader be gives the reader leads from the values before to those after.
 pub fn followed<S: CloneStorages, J: WorldJob<S>>(
     world: &mut World<S, J>,

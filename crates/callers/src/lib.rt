@@ -107,6 +107,7 @@ pub use labels::queued_with;
 pub use lasting::built_and_dropped;
 pub use lasting::dead_for_good;
 pub use lasting::followed;
+pub use lasting::let_go;
 pub use lasting::lives_after_calls;
 pub use lasting::lives_through_all;
 pub use lasting::loaded_at_the_living;

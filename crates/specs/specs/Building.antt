@@ -14,23 +14,23 @@ use Rattle.specs.specs.declared.core_parts.Core.{Core}
 use Rattle.specs.specs.declared.builder.EntityBuilder.{EntityBuilder}
 use Rattle.specs.specs.contracts.core_parts.Core.{the_row}
 
-module _ {S : Type 0} where
+module _ {S K V : Type 0} where
   -- the core that it was lent
-  abbrev pub lent_to : EntityBuilder S → MutBor (Core S)
+  abbrev pub lent_to : EntityBuilder S K V → MutBor (Core S)
   lent_to b = b.core
 
   -- the entity that it builds
-  abbrev pub built : EntityBuilder S → Entity
+  abbrev pub built : EntityBuilder S K V → Entity
   built b = b.entity
 
   -- what the core shows
-  abbrev pub shown : {K V : Type 0} → (S → Table K V) → (S → Ids K) → EntityBuilder S → State K V
+  abbrev pub shown : (S → Table K V) → (S → Ids K) → EntityBuilder S K V → State K V
   shown table ids b = core_state table ids (lent_to b).now
 
-  -- the entity is marked, if it is alive, and nothing else changes
-  pub record IsDropped (old : Core S) (e : Entity) (new : Core S) : Type 0 where
-    pub people : MarkedIfAlive (population old.parts.entities) e (population new.parts.entities)
-    pub storages : new.parts.storages ≡ old.parts.storages
+-- the entity is marked, if it is alive, and nothing else changes
+pub record IsDropped {S : Type 0} (old : Core S) (e : Entity) (new : Core S) : Type 0 where
+  pub people : MarkedIfAlive (population old.parts.entities) e (population new.parts.entities)
+  pub storages : new.parts.storages ≡ old.parts.storages
 
 -- only the population changed: the entity is marked, if it is alive; so each index with a value lives as before, and who was gone is
 -- gone, and the model goes on
@@ -41,14 +41,14 @@ pub record MarksOne {K V : Type 0} (e : Entity) (old new : State K V) : Type 0 w
   pub goes_on : GoesOn old new
 
 -- without a builder the core ends as it was
-abbrev pub RestsUnborn : (S : RattleType) {E : Type 0} → MutBor (Core S.Denot) → Result (EntityBuilder S.Denot) E → Fml
+abbrev pub RestsUnborn : (S : RattleType) {K V E : Type 0} → MutBor (Core S.Denot) → Result (EntityBuilder S.Denot K V) E → Fml
 RestsUnborn S c r = RestsIfErr (the_row S) c (λ b. (lent_to b).ghost_name) r (λ n. n ≡ c.now)
 
 -- an entity that was refused a component is marked, if it is alive, and no component changed
-abbrev pub RestsMarkedAt : (S : RattleType) {K V E : Type 0} → (S.Denot → Table K V) → (S.Denot → Ids K) → MutBor (Core S.Denot) → Entity → Result (EntityBuilder S.Denot) E → Fml
+abbrev pub RestsMarkedAt : (S : RattleType) {K V E : Type 0} → (S.Denot → Table K V) → (S.Denot → Ids K) → MutBor (Core S.Denot) → Entity → Result (EntityBuilder S.Denot K V) E → Fml
 RestsMarkedAt S table ids c e r = RestsIfErr (the_row S) c (λ b. (lent_to b).ghost_name) r (λ n. MarksOne e (core_state table ids c.now) (core_state table ids n))
 
-abbrev pub RestsMarked : (S : RattleType) {K V E : Type 0} → (S.Denot → Table K V) → (S.Denot → Ids K) → EntityBuilder S.Denot → Result (EntityBuilder S.Denot) E → Fml
+abbrev pub RestsMarked : (S : RattleType) {K V E : Type 0} → (S.Denot → Table K V) → (S.Denot → Ids K) → EntityBuilder S.Denot K V → Result (EntityBuilder S.Denot K V) E → Fml
 RestsMarked S table ids b r = RestsMarkedAt S table ids (lent_to b) (built b) r
 
 -- an entity that is alive gets the value, whatever it had before

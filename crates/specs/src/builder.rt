@@ -8,6 +8,7 @@ ghost use Rattle.specs.specs.Gone.{KeepsGone};
 ghost use Rattle.specs.specs.Marking.{HasMarkerThen, GetsNoMarker};
 ghost use Rattle.specs.specs.Reached.{KeepsLiving};
 
+use crate::building::mark_if_alive;
 use crate::command::Refusal;
 use crate::core_parts::Core;
 use crate::has::{Field, Has};
@@ -66,23 +67,25 @@ pub trait MarkedBuilder<S: Held>: Sized {
 
 /// A builder of an entity that was born. Dropped unbuilt, it marks the entity if it is alive, in room got when the entity was made.
 /// Ports `specs::world::EntityBuilder`.
-pub struct EntityBuilder<'a, S> {
+pub struct EntityBuilder<'a, S: Held> {
     pub(crate) core: &'a mut Core<S>,
     pub(crate) entity: Entity,
 }
 
-impl<S> Drop for EntityBuilder<'_, S> {
-    ghost use Rattle.specs.specs.Building.{lent_to, built, IsDropped};
+impl<S: Held> Drop for EntityBuilder<'_, S> {
+    ghost use Rattle.specs.specs.Building.{lent_to, built, IsDropped, MarksOne};
+    ghost use Rattle.specs.specs.State.{core_state};
 
     fn drop(self)
-        ensures { IsDropped (lent_to self.entry).now (built self.entry) self.exit.0.now }
+        ensures dropped { IsDropped (lent_to self.entry).now (built self.entry) self.exit.0.now }
+        ensures lasts { MarksOne (built self.entry) (core_state S.table S.ids (lent_to self.entry).now) (core_state S.table S.ids self.exit.0.now) }
     {
         let EntityBuilder { core, entity } = self;
-        let _ = core.parts.entities.delete(entity);
+        mark_if_alive(&mut core.parts.entities, entity);
     }
 }
 
-impl<'a, S> EntityBuilder<'a, S> {
+impl<'a, S: Held> EntityBuilder<'a, S> {
     /// The entity that is being built.
     pub fn entity(&self) -> Entity
         ensures { result ≡ built self.now }
