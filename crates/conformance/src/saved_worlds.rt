@@ -1,110 +1,191 @@
 //! Worlds that are saved and loaded in one call each, by the types that are saved.
 use crate::asserts::{equal, holds};
 use crate::calls::{fresh, register};
-use composed::{Both, LoadWorldError, Marking, Of3, SaveWorldError, SavesWorld};
+use composed::{Both, Empty, LoadWorldError, Marking, Of3, SaveWorldError, SavesWorld, TwoFields};
 use saveload::{LoadError, SimpleMarker, SimpleMarkerAllocator};
 use slots::{Health, Link, Position, Saved};
-use specs::{Builder, Entity, MarkedBuilder, NoJob, World, slot};
+use specs::{
+    Builder, Entity, EntityBuilder, Field, Has, Held, MarkedBuilder, NoJob, Parts, Storages, World,
+    slot,
+};
 use std::alloc::Global;
 use std::process::Abort;
 use std::test::Fail;
+use storages::MaskedStorage;
 
 /// Names an entity in a text.
 type Name = SimpleMarker<Saved>;
 
-/// Three component types, and the markers.
-type Stored = Both<Of3<Position, Health, Link>, Marking<Name, SimpleMarkerAllocator<Saved>>>;
+/// The markers.
+type Names = Marking<Name, SimpleMarkerAllocator<Saved>>;
 
-/// An entity with a marker, a position, and perhaps a link.
-fn built(world: &mut World<Stored>, position: i64, link: Option<Entity>) -> Option<Entity> {
-    let builder = world.create_entity().ok()?;
-    let builder = builder.with(Position(position)).ok()?;
-    let builder = builder.maybe_with(link.map(Link)).ok()?;
-    let builder = builder.marked(slot::<Name, Stored, _>()).ok()?;
+/// Three component types, and the markers.
+type Stored = Both<Of3<Position, Health, Link>, Names>;
+
+/// Storages whose positions, alone or with their links, are saved and loaded. It is asked for where the struct is not known.
+trait Carries<P, L>: Sized {
+    fn save(parts: &mut Parts<Self>, alloc: Global) -> Result<String, SaveWorldError>;
+
+    fn save_alone(parts: &mut Parts<Self>, alloc: Global) -> Result<String, SaveWorldError>;
+
+    fn load(parts: &mut Parts<Self>, alloc: Global, text: &str) -> Result<(), LoadWorldError>;
+
+    fn load_alone(parts: &mut Parts<Self>, alloc: Global, text: &str) -> Result<(), LoadWorldError>;
+}
+
+impl<F, P, L> Carries<P, L> for Both<F, Names>
+where
+    F: Field<MaskedStorage<Position>, P>
+        + TwoFields<MaskedStorage<Position>, MaskedStorage<Link>, L>,
+{
+    fn save(parts: &mut Parts<Self>, alloc: Global) -> Result<String, SaveWorldError> {
+        parts.save_to_json::<(Position, Link), L>(alloc)
+    }
+
+    fn save_alone(parts: &mut Parts<Self>, alloc: Global) -> Result<String, SaveWorldError> {
+        parts.save_to_json::<(Position,), P>(alloc)
+    }
+
+    fn load(parts: &mut Parts<Self>, alloc: Global, text: &str) -> Result<(), LoadWorldError> {
+        parts.load_from_json::<(Position, Link), L>(alloc, text)
+    }
+
+    fn load_alone(
+        parts: &mut Parts<Self>,
+        alloc: Global,
+        text: &str,
+    ) -> Result<(), LoadWorldError> {
+        parts.load_from_json::<(Position,), P>(alloc, text)
+    }
+}
+
+/// Gives a marker to an entity that is being built.
+fn labelled<N, S: Storages + Has<Name, N>>(builder: EntityBuilder<'_, S>) -> Option<Entity> {
+    let builder = builder.marked(slot::<Name, S, N>()).ok()?;
     Some(builder.build())
 }
 
+/// An entity with a marker, a position, and perhaps a link.
+fn built<P, L, N, S: Storages + Has<Position, P> + Has<Link, L> + Has<Name, N>>(
+    world: &mut World<S>,
+    position: i64,
+    link: Option<Entity>,
+) -> Option<Entity> {
+    let builder = world.create_entity().ok()?;
+    let builder = builder.with(Position(position)).ok()?;
+    labelled(builder.maybe_with(link.map(Link)).ok()?)
+}
+
+/// The same where links are not registered.
+fn built_alone<P, N, S: Storages + Has<Position, P> + Has<Name, N>>(
+    world: &mut World<S>,
+    position: i64,
+) -> Option<Entity> {
+    let builder = world.create_entity().ok()?;
+    labelled(builder.with(Position(position)).ok()?)
+}
+
 /// The text of the positions and links.
-fn saved(world: &mut World<Stored>, alloc: Global) -> Option<String> {
-    world.save_to_json::<(Position, Link), _>(alloc).ok()
+fn saved<P, L, S: Held + Carries<P, L>>(world: &mut World<S>, alloc: Global) -> Option<String> {
+    S::save(world.parts().core.parts(), alloc).ok()
 }
 
 /// The text of the positions alone.
-fn saved_alone(world: &mut World<Stored>, alloc: Global) -> Option<String> {
-    world.save_to_json::<(Position,), _>(alloc).ok()
+fn saved_alone<P, L, S: Held + Carries<P, L>>(
+    world: &mut World<S>,
+    alloc: Global,
+) -> Option<String> {
+    S::save_alone(world.parts().core.parts(), alloc).ok()
 }
 
 /// Whether a save of these is refused since not all is registered.
-fn is_not_saved(world: &mut World<Stored>, alloc: Global) -> bool {
-    match world.save_to_json::<(Position, Link), _>(alloc) {
-        Err(SaveWorldError::Unregistered) => true,
-        _ => false,
-    }
+fn is_not_saved<P, L, S: Held + Carries<P, L>>(world: &mut World<S>, alloc: Global) -> bool {
+    let saved = S::save(world.parts().core.parts(), alloc);
+    matches!(saved, Err(SaveWorldError::Unregistered))
 }
 
-/// Whether a text is loaded.
-fn is_loaded(world: &mut World<Stored>, alloc: Global, text: &str) -> bool {
-    world
-        .load_from_json::<(Position, Link), _>(alloc, text)
-        .is_ok()
-}
-
-/// The same of the positions alone.
-fn is_loaded_alone(world: &mut World<Stored>, alloc: Global, text: &str) -> bool {
-    world.load_from_json::<(Position,), _>(alloc, text).is_ok()
-}
-
-/// Whether a load is refused since not all is registered.
-fn is_not_loaded(world: &mut World<Stored>, alloc: Global, text: &str) -> bool {
-    match world.load_from_json::<(Position, Link), _>(alloc, text) {
-        Err(LoadWorldError::Unregistered) => true,
-        _ => false,
-    }
+/// What a load of a text answers.
+fn loaded<P, L, S: Held + Carries<P, L>>(
+    world: &mut World<S>,
+    alloc: Global,
+    text: &str,
+) -> Result<(), LoadWorldError> {
+    S::load(world.parts().core.parts(), alloc, text)
 }
 
 /// Whether a text is not of the form.
-fn is_no_list(world: &mut World<Stored>, alloc: Global, text: &str) -> bool {
-    match world.load_from_json::<(Position, Link), _>(alloc, text) {
-        Err(LoadWorldError::Refused(LoadError::NotTheForm)) => true,
-        _ => false,
-    }
+fn is_no_list<P, L, S: Held + Carries<P, L>>(
+    world: &mut World<S>,
+    alloc: Global,
+    text: &str,
+) -> bool {
+    let loaded = loaded(world, alloc, text);
+    matches!(loaded, Err(LoadWorldError::Refused(LoadError::NotTheForm)))
+}
+
+/// Whether a load is refused since not all is registered.
+fn is_not_loaded<P, L, S: Held + Carries<P, L>>(
+    world: &mut World<S>,
+    alloc: Global,
+    text: &str,
+) -> bool {
+    let loaded = loaded(world, alloc, text);
+    matches!(loaded, Err(LoadWorldError::Unregistered))
+}
+
+/// Whether positions alone are loaded.
+fn is_loaded_alone<P, L, S: Held + Carries<P, L>>(
+    world: &mut World<S>,
+    alloc: Global,
+    text: &str,
+) -> bool {
+    S::load_alone(world.parts().core.parts(), alloc, text).is_ok()
 }
 
 /// The position of an entity.
-fn position(world: &World<Stored>, e: Entity) -> Option<Position> {
-    match world.read_storage::<Position, _>() {
+fn position<P, S: Has<Position, P>>(world: &World<S>, e: Entity) -> Option<Position> {
+    match world.read_storage::<Position, P>() {
         Ok(view) => view.get(e).copied(),
         Err(_) => None,
     }
 }
 
 /// Where an entity's link leads.
-fn link(world: &World<Stored>, e: Entity) -> Option<Entity> {
-    match world.read_storage::<Link, _>() {
-        Ok(view) => view.get(e).map(|link| link.0),
+fn link<L, S: Has<Link, L>>(world: &World<S>, e: Entity) -> Option<Entity> {
+    match world.read_storage::<Link, L>() {
+        Ok(view) => view.get(e).map(|link: &Link| link.0),
         Err(_) => None,
     }
 }
 
-/// Registers the positions, the links and the markers.
-fn register_all<R: Abort>(rt: &R, world: &mut World<Stored>) {
-    holds!(rt; register::<Position, _, _, NoJob>(world));
-    holds!(rt; register::<Link, _, _, NoJob>(world));
-    holds!(rt; register::<Name, _, _, NoJob>(world));
+/// A world in which positions, links and markers are registered.
+fn registered<
+    R: Abort,
+    P,
+    L,
+    N,
+    S: Storages + Empty + Has<Position, P> + Has<Link, L> + Has<Name, N>,
+>(rt: &R, alloc: Global) -> World<S> {
+    let mut world = fresh(alloc);
+    holds!(rt; register::<Position, P, S, NoJob>(&mut world));
+    holds!(rt; register::<Link, L, S, NoJob>(&mut world));
+    holds!(rt; register::<Name, N, S, NoJob>(&mut world));
+    world
 }
 
 /// Two that are linked are saved, and loaded where another lives already.
-fn tell_of_two<R: Abort>(rt: &R, alloc: Global) -> Result<(), Fail> {
-    let mut old = fresh(alloc);
-    register_all(rt, &mut old);
+fn tell_of_two<R: Abort, P, L, N, A, B, S>(rt: &R, alloc: Global) -> Result<(), Fail>
+where
+    S: Storages + Empty + Has<Position, P> + Has<Link, L> + Has<Name, N> + Carries<A, B> + Drop,
+{
+    let mut old: World<S> = registered(rt, alloc);
     let first = built(&mut old, 1, None).ok_or("a building")?;
     let _second = built(&mut old, 2, Some(first)).ok_or("a building")?;
     let text = saved(&mut old, alloc).ok_or("a save")?;
     equal!(rt; text.as_str(), "[{\"components\":[[1],null],\"marker\":0},{\"components\":[[2],[0]],\"marker\":1}]");
-    let mut new = fresh(alloc);
-    register_all(rt, &mut new);
+    let mut new: World<S> = registered(rt, alloc);
     let _other = new.create_entity().map_err(|_| "a building")?.build();
-    holds!(rt; is_loaded(&mut new, alloc, text.as_str()));
+    holds!(rt; loaded(&mut new, alloc, text.as_str()).is_ok());
     let first = Entity::from_parts(1, 1).ok_or("an entity")?;
     let second = Entity::from_parts(2, 1).ok_or("an entity")?;
     equal!(rt; position(&new, first), Some(Position(1)));
@@ -117,16 +198,19 @@ fn tell_of_two<R: Abort>(rt: &R, alloc: Global) -> Result<(), Fail> {
 }
 
 /// What is not registered, and what is no list, is refused, and nothing changes.
-fn tell_of_refusals<R: Abort>(rt: &R, alloc: Global) -> Result<(), Fail> {
-    let mut world = fresh(alloc);
-    holds!(rt; register::<Position, _, _, NoJob>(&mut world));
-    holds!(rt; register::<Name, _, _, NoJob>(&mut world));
+fn tell_of_refusals<R: Abort, P, L, N, A, B, S>(rt: &R, alloc: Global) -> Result<(), Fail>
+where
+    S: Storages + Empty + Has<Position, P> + Has<Link, L> + Has<Name, N> + Carries<A, B> + Drop,
+{
+    let mut world: World<S> = fresh(alloc);
+    holds!(rt; register::<Position, P, S, NoJob>(&mut world));
+    holds!(rt; register::<Name, N, S, NoJob>(&mut world));
     let _one = built_alone(&mut world, 7).ok_or("a building")?;
     let text = saved_alone(&mut world, alloc).ok_or("a save")?;
     equal!(rt; text.as_str(), "[{\"components\":[[7]],\"marker\":0}]");
     holds!(rt; is_not_saved(&mut world, alloc));
     holds!(rt; is_not_loaded(&mut world, alloc, "[]"));
-    holds!(rt; register::<Link, _, _, NoJob>(&mut world));
+    holds!(rt; register::<Link, L, S, NoJob>(&mut world));
     holds!(rt; is_no_list(&mut world, alloc, text.as_str()));
     holds!(rt; is_no_list(&mut world, alloc, "[{\"marker\":0}]"));
     holds!(rt; is_no_list(&mut world, alloc, "no JSON"));
@@ -136,20 +220,28 @@ fn tell_of_refusals<R: Abort>(rt: &R, alloc: Global) -> Result<(), Fail> {
     Ok(())
 }
 
-/// An entity with a marker and a position, where links are not registered.
-fn built_alone(world: &mut World<Stored>, position: i64) -> Option<Entity> {
-    let builder = world.create_entity().ok()?;
-    let builder = builder.with(Position(position)).ok()?;
-    let builder = builder.marked(slot::<Name, Stored, _>()).ok()?;
-    Some(builder.build())
+/// Tells both. The storages are named here alone: each call at storages of known types is slow to prove.
+fn told<R: Abort>(rt: &R, alloc: Global, refusals: bool) -> Result<(), Fail> {
+    tell::<R, _, _, _, _, _, Stored>(rt, alloc, refusals)
+}
+
+fn tell<R: Abort, P, L, N, A, B, S>(rt: &R, alloc: Global, refusals: bool) -> Result<(), Fail>
+where
+    S: Storages + Empty + Has<Position, P> + Has<Link, L> + Has<Name, N> + Carries<A, B> + Drop,
+{
+    if refusals {
+        tell_of_refusals::<R, P, L, N, A, B, S>(rt, alloc)
+    } else {
+        tell_of_two::<R, P, L, N, A, B, S>(rt, alloc)
+    }
 }
 
 #[test]
 fn a_world_is_saved_and_loaded_in_one_call_each(rt: HostRuntime) -> Result<(), Fail> {
-    tell_of_two(&rt, rt.alloc())
+    told(&rt, rt.alloc(), false)
 }
 
 #[test]
 fn what_can_not_be_saved_or_loaded_is_refused(rt: HostRuntime) -> Result<(), Fail> {
-    tell_of_refusals(&rt, rt.alloc())
+    told(&rt, rt.alloc(), true)
 }

@@ -1,49 +1,98 @@
 //! A world over components that own memory: it gives clones, keeps its own, and lets what it has go with its entities.
-use crate::world::{Ledger, Store, called, ledger};
+use crate::world::{Store, called};
 use crate::{boxes, cargos, names};
-use composed::{Command, Entity, Reply, slot};
+use composed::{CloneStorages, Command, Empty, Entity, Has, NoJob, Reply, Storages, World, slot};
 use std::alloc::Global;
+use std::process::Abort;
 use std::test::Fail;
 
-/// A ledger with an entity that has a name.
-fn begin(alloc: Global, name: &str) -> Result<(Ledger, Entity), Fail> {
-    let mut world = ledger(alloc);
-    world.register::<names::InVec, _>()?;
-    world.register::<cargos::InDenseVec, _>()?;
-    world.register::<boxes::InFlagged, _>()?;
+/// What is told of a new world.
+#[derive(Clone, Copy)]
+enum Story {
+    /// A command gives a clone of a name.
+    Clone,
+    /// A name goes with its entity.
+    Goes,
+    /// What has no storage comes back.
+    ComesBack,
+}
+
+/// A world with an entity that has a name.
+fn begin<N, C, B, S>(alloc: Global, name: &str) -> Result<(World<S>, Entity), Fail>
+where
+    S: Storages
+        + Empty
+        + Has<names::InVec, N>
+        + Has<cargos::InDenseVec, C>
+        + Has<boxes::InFlagged, B>
+        + Drop,
+{
+    let mut world = World::new(alloc, S::empty(alloc));
+    world.register::<names::InVec, N>()?;
+    world.register::<cargos::InDenseVec, C>()?;
+    world.register::<boxes::InFlagged, B>()?;
     let name = names::InVec(String::from_str(alloc, name)?);
     let entity = called(&mut world, name).ok().ok_or("a birth")?;
     Ok((world, entity))
 }
 
 /// How long the name of an entity is.
-fn length_of_name(world: &Ledger, entity: Entity) -> Option<usize> {
-    match world.read_storage::<names::InVec, _>() {
-        Ok(names) => names.get(entity).map(|name| name.0.len()),
+fn length_of_name<N, S: Has<names::InVec, N>>(world: &World<S>, entity: Entity) -> Option<usize> {
+    match world.read_storage::<names::InVec, N>() {
+        Ok(names) => names.get(entity).map(|name: &names::InVec| name.0.len()),
         Err(_) => None,
     }
 }
 
-#[test]
-fn a_command_gives_a_clone_and_the_name_stays(rt: HostRuntime) -> Result<(), Fail> {
-    let alloc = rt.alloc();
-    let (mut world, entity) = begin(alloc, "Ada")?;
-    let slot = slot::<names::InVec, Store, _>();
-    let mut commands = Vec::new(alloc);
+/// Asks for the name of an entity twice.
+fn asks_twice<N, S: CloneStorages + Has<names::InVec, N>>(
+    alloc: Global,
+    world: &mut World<S>,
+    entity: Entity,
+) -> Result<Vec<Reply<S::Value>>, Fail> {
+    let slot = slot::<names::InVec, S, N>();
+    let mut commands: Vec<Command<S, NoJob>> = Vec::new(alloc);
     commands.push(Command::Get(slot, entity))?;
     commands.push(Command::Get(slot, entity))?;
-    let replies = world.run(commands)?;
-    let given = |reply: &Reply<_>| matches!(reply, Reply::Value(Some(_)));
+    Ok(world.run(commands)?)
+}
+
+/// Whether each reply is a value that is there.
+fn are_given<V>(replies: &[Reply<V>]) -> bool {
+    replies
+        .iter()
+        .all(|reply: &Reply<V>| matches!(reply, Reply::Value(Some(_))))
+}
+
+/// The name of an entity is asked for twice, and stays.
+fn gives_clones<R: Abort, N, C, B, S>(rt: &R, alloc: Global) -> Result<(), Fail>
+where
+    S: CloneStorages
+        + Empty
+        + Has<names::InVec, N>
+        + Has<cargos::InDenseVec, C>
+        + Has<boxes::InFlagged, B>
+        + Drop,
+{
+    let (mut world, entity) = begin::<N, C, B, S>(alloc, "Ada")?;
+    let replies = asks_twice(alloc, &mut world, entity)?;
     assert!(rt; replies.len() == 2);
-    assert!(rt; replies.iter().all(given));
+    assert!(rt; are_given(replies.as_slice()));
     assert_eq!(rt; length_of_name(&world, entity), Some(3));
     Ok(())
 }
 
-#[test]
-fn a_name_goes_with_its_entity(rt: HostRuntime) -> Result<(), Fail> {
-    let alloc = rt.alloc();
-    let (mut world, entity) = begin(alloc, "Ada")?;
+/// An entity with a name dies, and another with a cargo has none.
+fn lets_names_go<R: Abort, N, C, B, S>(rt: &R, alloc: Global) -> Result<(), Fail>
+where
+    S: Storages
+        + Empty
+        + Has<names::InVec, N>
+        + Has<cargos::InDenseVec, C>
+        + Has<boxes::InFlagged, B>
+        + Drop,
+{
+    let (mut world, entity) = begin::<N, C, B, S>(alloc, "Ada")?;
     world.delete_entity(entity)?;
     assert_eq!(rt; length_of_name(&world, entity), None);
     let other = called(&mut world, cargos::InDenseVec(Vec::new(alloc)));
@@ -52,14 +101,53 @@ fn a_name_goes_with_its_entity(rt: HostRuntime) -> Result<(), Fail> {
     Ok(())
 }
 
-#[test]
-fn what_has_no_storage_comes_back(rt: HostRuntime) -> Result<(), Fail> {
-    let alloc = rt.alloc();
-    let mut world = ledger(alloc);
+/// A name is handed back where names are not registered.
+fn hands_back<R: Abort, N, S: Storages + Empty + Has<names::InVec, N> + Drop>(
+    rt: &R,
+    alloc: Global,
+) -> Result<(), Fail> {
+    let mut world: World<S> = World::new(alloc, S::empty(alloc));
     let name = names::InVec(String::from_str(alloc, "Ada")?);
     match called(&mut world, name) {
         Ok(_) => assert!(rt; false),
         Err(name) => assert_eq!(rt; name.0.len(), 3),
     }
     Ok(())
+}
+
+/// Tells a story over whatever storages have these types.
+fn tell<R: Abort, N, C, B, S>(rt: &R, alloc: Global, story: Story) -> Result<(), Fail>
+where
+    S: CloneStorages
+        + Empty
+        + Has<names::InVec, N>
+        + Has<cargos::InDenseVec, C>
+        + Has<boxes::InFlagged, B>
+        + Drop,
+{
+    match story {
+        Story::Clone => gives_clones::<R, N, C, B, S>(rt, alloc),
+        Story::Goes => lets_names_go::<R, N, C, B, S>(rt, alloc),
+        Story::ComesBack => hands_back::<R, N, S>(rt, alloc),
+    }
+}
+
+/// Tells it over five types. They are named here alone: each call at storages of known types is slow to prove.
+fn told<R: Abort>(rt: &R, alloc: Global, story: Story) -> Result<(), Fail> {
+    tell::<R, _, _, _, Store>(rt, alloc, story)
+}
+
+#[test]
+fn a_command_gives_a_clone_and_the_name_stays(rt: HostRuntime) -> Result<(), Fail> {
+    told(&rt, rt.alloc(), Story::Clone)
+}
+
+#[test]
+fn a_name_goes_with_its_entity(rt: HostRuntime) -> Result<(), Fail> {
+    told(&rt, rt.alloc(), Story::Goes)
+}
+
+#[test]
+fn what_has_no_storage_comes_back(rt: HostRuntime) -> Result<(), Fail> {
+    told(&rt, rt.alloc(), Story::ComesBack)
 }
