@@ -1,6 +1,6 @@
 //! The game of the examples: its component types, and the storages of a world of them.
 use composed::{
-    Component, DenseVecStorage, Entity, FlaggedStorage, HashMapStorage, Of2, VecStorage,
+    Component, DenseVecStorage, FlaggedStorage, HashMapStorage, Link, Of2, Relation, VecStorage,
 };
 
 /// Where an entity is.
@@ -41,12 +41,11 @@ impl Component for Score {
     type Storage = FlaggedStorage<Self, VecStorage<Self>>;
 }
 
-/// The entity that it follows.
-#[derive(Clone, Copy, Debug, PartialEq, Eq)]
-pub struct Leader(pub Entity);
+/// That an entity follows another: its component is `Link<Follows>`.
+pub struct Follows;
 
-impl Component for Leader {
-    type Storage = VecStorage<Self>;
+impl Relation for Follows {
+    type Storage = DenseVecStorage<Link<Self>>;
 }
 
 /// The storages of a world: of positions, and of velocities.

@@ -8,7 +8,6 @@ mod game;
 mod orbits;
 mod ordered_tracking;
 mod phase;
-mod saved;
 mod saving;
 mod story;
 mod told;

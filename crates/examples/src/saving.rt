@@ -1,11 +1,11 @@
 //! Entities that lead one another, saved as JSON and loaded elsewhere.
-use crate::game::Leader;
+use crate::game::Follows;
 use crate::story::{Fresh, told_of};
 use anyhow::{Result, bail};
 use composed::{
-    Component, EntitiesRes, Entity, EntityData, Join, MarkerAllocator, MaskedStorage, ReadStorage,
-    SimpleMarker, SimpleMarkerAllocator, TryDefault, UnprotectedStorage, WriteStorage, deserialize,
-    from_json, serialize, to_json,
+    Component, EntitiesRes, Entity, EntityData, Join, Link, MarkerAllocator, MaskedStorage,
+    ReadStorage, SimpleMarker, SimpleMarkerAllocator, TryDefault, UnprotectedStorage, WriteStorage,
+    deserialize, from_json, serialize, to_json,
 };
 use std::alloc::Global;
 
@@ -22,7 +22,7 @@ type Record = EntityData<Name, (Option<Name>,)>;
 /// A level: entities, with what is stored for them.
 struct Level {
     entities: EntitiesRes,
-    leaders: MaskedStorage<Leader>,
+    leaders: MaskedStorage<Link<Follows>>,
     names: MaskedStorage<Name>,
     namer: SimpleMarkerAllocator<Saved>,
 }
@@ -96,7 +96,7 @@ fn add(level: &mut Level) -> Result<Entity> {
 
 /// From now on an entity follows another.
 fn follow(level: &mut Level, entity: Entity, leader: Entity) -> Result<()> {
-    WriteStorage::new(&level.entities, &mut level.leaders).insert(entity, Leader(leader))?;
+    WriteStorage::new(&level.entities, &mut level.leaders).insert(entity, Link::new(leader))?;
     Ok(())
 }
 
@@ -127,7 +127,7 @@ fn show(text: &mut String, level: &Level) -> Result<()> {
     write!(text, "who follows whom:")?;
     let mut walk = (&level.entities, &level.leaders).join();
     while let Some((entity, leader)) = walk.next() {
-        write!(text, " {}->{}", entity.id(), leader.0.id())?;
+        write!(text, " {}->{}", entity.id(), leader.entity.id())?;
     }
     writeln!(text)?;
     Ok(())
