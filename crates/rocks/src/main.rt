@@ -181,10 +181,8 @@ where
         }
         let hunts = self.space.read_storage::<Link<Hunts>, _>()?;
         for id in hunts.mask().iter() {
-            let hunted = hunts
-                .storage()
-                .get(id)
-                .and_then(|link: &Link<Hunts>| names.get(link.entity));
+            let link = hunts.storage().get(id);
+            let hunted = link.and_then(|link: &Link<Hunts>| names.get(link.entity));
             if let (Some(one), Some(other)) = (names.storage().get(id), hunted) {
                 writeln!(self.text, "{:?} ({id}) hunts {:?}", one.0, other.0)?;
             }

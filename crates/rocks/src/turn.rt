@@ -43,8 +43,14 @@ impl<O, S: Storages + Has<Score, O>> Act<S> for Deed<O> {
     }
 }
 
-/// How wide and how high space is. It has no edge: who leaves it on one side comes in on the other.
+/// How wide and how high space is.
 const SIZE: f64 = 1000.0;
+
+/// Space has no edge: who leaves it on one side comes in on the other.
+fn wrapped(x: f64) -> f64 {
+    let x = if x < 0.0 { x + SIZE } else { x };
+    if x > SIZE { x - SIZE } else { x }
+}
 
 /// Each with a velocity moves by it.
 pub fn move_all(
@@ -53,7 +59,7 @@ pub fn move_all(
     velocities: &mut MaskedStorage<Velocity>,
 ) -> Result<()> {
     Ok(positions.for_each_with(&*velocities, |at: &mut Position, way: &Velocity| {
-        *at = Position((at.0 + way.0 + SIZE) % SIZE, (at.1 + way.1 + SIZE) % SIZE);
+        *at = Position(wrapped(at.0 + way.0), wrapped(at.1 + way.1));
     })?)
 }
 
