@@ -10,8 +10,11 @@ ghost use Rattle.storages.specs.ReadView as read;
 ghost use Rattle.storages.specs.Slot.{indices_of};
 ghost use Rattle.storages.specs.WriteView.{slot};
 
+use entities::EntitiesRes;
 use hibits::{BitSet, INDEX_LIMIT, Index};
-use joins::{Drain, EachError, ForEach, Join, JoinMut};
+use joins::{
+    Drain, EachError, EntryJoin, ForEach, Join, JoinMut, RestrictedStorageMut, WriteJoin2,
+};
 use std::alloc::AllocError;
 use storages::{Component, MaskedStorage, ReadStorage, VecStorage, WriteStorage};
 
@@ -69,6 +72,60 @@ pub fn looked_beside<J: Join>(ways: &mut MaskedStorage<Way>, join: J) -> Option<
     let mut cursor = ways.join_mut(join);
     let found = cursor.next();
     let _ways = cursor.into_storage();
+    found
+}
+
+/// A step of a cursor that takes out takes nothing out.
+pub fn kept_beside<J: Join>(ways: &mut MaskedStorage<Way>, join: J) -> Option<Index>
+    ensures { ways.new ≡ ways.old }
+{
+    let mut cursor = ways.drain().join_with(join);
+    let found = cursor.next();
+    let _ways = cursor.into_storage();
+    found
+}
+
+/// A step of a cursor over the places of the living fills none.
+pub fn place_beside<J: Join>(
+    entities: &EntitiesRes,
+    ways: &mut MaskedStorage<Way>,
+    join: J,
+) -> Option<Index>
+    ensures { ways.new ≡ ways.old }
+{
+    let mut cursor = EntryJoin::new(entities, ways, join);
+    let found = cursor.next();
+    let _ways = cursor.into_storage();
+    found
+}
+
+/// A look by a restricted cursor writes nothing.
+pub fn shown_beside<J: Join>(
+    entities: &EntitiesRes,
+    ways: &mut MaskedStorage<Way>,
+    join: J,
+) -> Option<Way>
+    ensures { ways.new ≡ ways.old }
+{
+    let mut cursor = RestrictedStorageMut::new(entities, ways, join);
+    let _found = cursor.next();
+    let shown = cursor.get_unchecked().copied();
+    let _ways = cursor.into_storage();
+    shown
+}
+
+/// A step of a cursor over two storages writes to none of them.
+pub fn both_beside<J: Join>(
+    ways: &mut MaskedStorage<Way>,
+    paces: &mut MaskedStorage<Pace>,
+    join: J,
+) -> Option<Index>
+    ensures ways { ways.new ≡ ways.old }
+    ensures paces { paces.new ≡ paces.old }
+{
+    let mut cursor = WriteJoin2::new(ways, paces, join);
+    let found = cursor.next();
+    let _both = cursor.into_storages();
     found
 }
 

@@ -5,7 +5,7 @@ ghost use Rattle.std.specs.FinSet as set;
 ghost use Rattle.hibits.specs.Left.{left};
 ghost use Rattle.joins.specs.Each.{each_becomes};
 
-use hibits::BitSet;
+use hibits::{BitSet, Index};
 use joins::{ChangeSet, Join};
 
 /// Each change of an index that a set has is the same, and nothing else changed.
@@ -18,6 +18,27 @@ pub fn all_changes_are(changes: &mut ChangeSet<u32>, other: &BitSet, value: u32)
             *place = value;
         }
     }
+}
+
+/// The same by a closure, with no proof file.
+pub fn all_changes_become(changes: &mut ChangeSet<u32>, other: &BitSet, value: u32)
+    ensures { changes.new ≡ each_becomes (λ _ _. value) (left (λ i. map.contains_key changes.old i && set.contains other.now.members i) 0) changes.old }
+{
+    changes
+        .join_mut(other)
+        .for_each(|change: &mut u32, _index: Index| {
+            *change = value;
+        })
+}
+
+/// No step of a cursor beside any join writes to a change set.
+pub fn change_beside<J: Join>(changes: &mut ChangeSet<u32>, join: J) -> Option<Index>
+    ensures { changes.new ≡ changes.old }
+{
+    let mut cursor = changes.join_mut(join);
+    let found = cursor.next();
+    let _changes = cursor.into_changes();
+    found
 }
 
 /// What a change set gives when it is given up are its changes.

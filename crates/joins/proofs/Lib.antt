@@ -1,5 +1,6 @@
 pub mod BesideLemmas
 pub mod CallLemmas
+pub mod ChangeCallLemmas
 pub mod CursorLemmas
 pub mod FoldLemmas
 pub mod Holding

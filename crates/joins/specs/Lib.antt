@@ -2,6 +2,7 @@ pub mod Beside
 pub mod Both
 pub mod ChangeCursor
 pub mod ChangeLends
+pub mod ChangeVisits
 pub mod Changes
 pub mod Cursor
 pub mod CursorOfTwo

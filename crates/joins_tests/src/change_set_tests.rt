@@ -4,6 +4,7 @@ use crate::stories::{Story, told};
 use crate::worlds::first_at;
 use crate::yard::Yard;
 use entities::Entity;
+use hibits::{BitSet, Index};
 use joins::{ChangeError, ChangeSet};
 use std::alloc::{AllocError, Global};
 use std::process::Abort;
@@ -116,6 +117,33 @@ pub fn are_bounded<R: Abort, Y: Yard>(rt: &R, alloc: Global, yard: &mut Y) -> Re
 #[test]
 fn a_cursor_lends_the_changes(rt: HostRuntime) -> Result<(), Fail> {
     told(&rt, rt.alloc(), 0, Story::Bounded)
+}
+
+// Doubles the changes of the indices of a set, by a closure, and answers the sum of those before.
+fn double(set: &mut ChangeSet<i32>, indices: &BitSet) -> i32 {
+    let mut sum = 0i32;
+    set.join_mut(indices)
+        .for_each(|change: &mut i32, _index: Index| {
+            sum = change.saturating_add(sum);
+            *change = change.saturating_mul(2);
+        });
+    sum
+}
+
+#[test]
+fn a_closure_writes_to_the_changes(rt: HostRuntime) -> Result<(), Fail> {
+    let mut set = three_changes(rt.alloc())?;
+    holds!(&rt; adds(&mut set, first_at(4)?, 9));
+    let mut indices = BitSet::new(rt.alloc());
+    for id in 1..9 {
+        holds!(&rt; indices.add(id).is_ok());
+    }
+    equal!(&rt; double(&mut set, &indices), 34);
+    gives!(&rt; at(&set, 0), Some(32));
+    gives!(&rt; at(&set, 1), Some(50));
+    gives!(&rt; at(&set, 4), Some(18));
+    equal!(&rt; count(&set), 3);
+    Ok(())
 }
 
 // A sum that does not fit is refused, and changes nothing.

@@ -1,6 +1,7 @@
 //! A cursor that lends the values of a change set for writing.
 ghost use Rattle.std.specs.Prelude.{◌≡◌, ◌↔◌, ℕ, Bool, ◌&&◌, ◌||◌, not, true, false, Some, None, IfSome, IfNone, [], ◌∷◌, MatchOption, is_some};
-ghost use Rattle.std.specs.Borrow.{sem};
+ghost use Rattle.std.specs.Borrow.{sem, MutBor};
+ghost use Rattle.std.specs.List.{Contains};
 ghost use Rattle.std.specs.FinMap as map;
 ghost use Rattle.std.specs.Option.{ForSome};
 ghost use Rattle.hibits.specs.Sets.{has_part};
@@ -27,6 +28,8 @@ pub struct ChangeJoin<'a, T: Drop, J: Join> {
 impl<'a, T: Combine + Drop, J: Join> ChangeJoin<'a, T, J> {
     ghost use Rattle.hibits.specs.Left.{left};
     ghost use Rattle.joins.specs.ChangeCursor.{values, changes_name, here, is_given, rest, gives, lends_value};
+    ghost use Rattle.joins.specs.ChangeVisits.{ValuesCalled, ValueChanged};
+    ghost use Rattle.joins.specs.Each.{each_becomes};
 
     /// Before the first index.
     #[inline(always)]
@@ -39,6 +42,17 @@ impl<'a, T: Combine + Drop, J: Join> ChangeJoin<'a, T, J> {
     {
         let steps = Steps::new(changes.mask(), join);
         ChangeJoin { changes, steps }
+    }
+
+    /// The change set, with what was written to it. A caller that is generic over the join ends the cursor so: of a cursor that is only dropped
+    /// its proof does not know what the change set ends as.
+    #[inline(always)]
+    pub fn into_changes(self) -> &'a mut ChangeSet<T>
+        ensures same_reference { result.ghost_name ≡ changes_name self.entry }
+        ensures values { result.now ≡ values self.entry }
+    {
+        let ChangeJoin { changes, steps: _ } = self;
+        changes
     }
 
     /// Goes on to the next index, which it answers.
@@ -81,6 +95,29 @@ impl<'a, T: Combine + Drop, J: Join> ChangeJoin<'a, T, J> {
         ensures gives { (i : ℕ) (r : J.Type) → gives self.new i r → gives self.old i r }
     {
         self.steps.beside()
+    }
+
+    /// Calls `f` at each index that is left, ascending, with a `&mut` to the value there and with what the join has beside it. It stands for
+    /// `for (value, item) in (&mut change_set, join).join()` of specs, and costs what that walk and the calls cost. It takes no memory.
+    pub fn for_each<F: FnMut(&mut T, J::Type)>(&mut self, mut f: F)
+    where
+        J::Type: Drop,
+        requires called { (state : F) (i : ℕ) (x : MutBor T) (z : J.Type) → map.get (values self.old) i ≡ Some x.now → gives self.old i z → F.pre state x z }
+        ensures same_reference { changes_name self.new ≡ changes_name self.old }
+        ensures calls { (last : F) × ValuesCalled (gives self.old) F.step (rest self.old) f (values self.old) last (values self.new) }
+        ensures each { (i : ℕ) → Contains (rest self.old) i → ValueChanged (gives self.old) F.step (values self.old) (values self.new) i }
+        ensures others { (i : ℕ) → (Contains (rest self.old) i → ⊥) → map.get (values self.new) i ≡ map.get (values self.old) i }
+        ensures becomes { (to : ℕ → T → T) → ((i : ℕ) (state next : F) (x : MutBor T) (z : J.Type) (y : MutBor T) → gives self.old i z → F.step state x z tt y next → y.now ≡ to i x.now) → values self.new ≡ each_becomes to (rest self.old) (values self.old) }
+    {
+        while let Some(_id) = self.next() {
+            let Some(item) = self.beside() else {
+                unreachable!()
+            };
+            let Some(value) = self.item() else {
+                unreachable!()
+            };
+            f(value, item);
+        }
     }
 }
 

@@ -59,6 +59,17 @@ impl<'a, T: Component, J: Join> Drain<'a, T, J> {
         Drain::new(storage, join)
     }
 
+    /// The storage, with what was taken out of it. A caller that is generic over the join ends the cursor so: of a cursor that is only dropped
+    /// its proof does not know what the storage ends as.
+    #[inline(always)]
+    pub fn into_storage(self) -> &'a mut MaskedStorage<T>
+        ensures same_reference { result.ghost_name ≡ storage_name self.entry }
+        ensures slot { result.now ≡ slot self.entry }
+    {
+        let Drain { storage, steps: _ } = self;
+        storage
+    }
+
     /// Goes on to the next index, which it answers.
     #[inline(always)]
     pub fn next(&mut self) -> Option<Index>

@@ -90,6 +90,21 @@ impl<'a, 'b, T: Component, J: Join> RestrictedStorageMut<'a, 'b, T, J> {
         RestrictedStorageMut::new(entities, storage, join)
     }
 
+    /// The storage, with what was written to it. A caller that is generic over the join ends the cursor so: of a cursor that is only dropped
+    /// its proof does not know what the storage ends as.
+    #[inline(always)]
+    pub fn into_storage(self) -> &'a mut MaskedStorage<T>
+        ensures same_reference { result.ghost_name ≡ storage_name self.entry }
+        ensures slot { result.now ≡ slot self.entry }
+    {
+        let RestrictedStorageMut {
+            storage,
+            entities: _,
+            steps: _,
+        } = self;
+        storage
+    }
+
     /// Goes on to the next index, which it answers.
     #[inline(always)]
     pub fn next(&mut self) -> Option<Index>

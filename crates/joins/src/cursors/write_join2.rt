@@ -53,6 +53,23 @@ impl<'a, 'b, A: Component, B: Component, J: Join> WriteJoin2<'a, 'b, A, B, J> {
         }
     }
 
+    /// The storages, with what was written to them. A caller that is generic over the join ends the cursor so: of a cursor that is only dropped
+    /// its proof does not know what the storages end as.
+    #[inline(always)]
+    pub fn into_storages(self) -> (&'a mut MaskedStorage<A>, &'b mut MaskedStorage<B>)
+        ensures first_reference { result.0.ghost_name ≡ first_name self.entry }
+        ensures second_reference { result.1.ghost_name ≡ second_name self.entry }
+        ensures first_slot { result.0.now ≡ first_slot self.entry }
+        ensures second_slot { result.1.now ≡ second_slot self.entry }
+    {
+        let WriteJoin2 {
+            first,
+            second,
+            steps: _,
+        } = self;
+        (first, second)
+    }
+
     /// Goes on to the next index, which it answers.
     #[inline(always)]
     pub fn next(&mut self) -> Option<Index>
