@@ -7,11 +7,7 @@ pub mod cargos;
 pub mod counts;
 pub mod labels;
 pub mod names;
-#[cfg(test)]
-mod tests;
 mod world;
-#[cfg(test)]
-mod world_tests;
 
 pub use calls::{goods_of, named, unloaded};
 pub use world::{Ledger, Store, called, ledger, told};

@@ -54,6 +54,3 @@ pub fn in_turn(alloc: Global, entities: &mut EntitiesRes) -> usize {
     drop(kept);
     given
 }
-
-#[cfg(test)]
-mod tests;

@@ -1,6 +1,6 @@
 //! Each component goes into a storage of its kind, stays there beside another, and comes out whole.
-use crate::{boxes, cargos, counts, labels, names};
 use entities::{EntitiesRes, Entity};
+use owning::{boxes, cargos, counts, labels, names};
 use std::alloc::Global;
 use std::process::Abort;
 use std::rc::Rc;

@@ -1,7 +1,6 @@
 //! A world over components that own memory: it gives clones, keeps its own, and lets what it has go with its entities.
-use crate::world::{Store, called};
-use crate::{boxes, cargos, names};
 use composed::{CloneStorages, Command, Empty, Entity, Has, NoJob, Reply, Storages, World, slot};
+use owning::{Store, boxes, called, cargos, names};
 use std::alloc::Global;
 use std::process::Abort;
 use std::test::Fail;

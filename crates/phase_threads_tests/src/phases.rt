@@ -3,10 +3,11 @@ ghost use Rattle.entities.specs.Phase.Board.{IsPassOf};
 ghost use Rattle.entities.specs.Phase.Opened.{entities_of, board_of};
 ghost use Rattle.entities.specs.Phase.Calls.{IsOpen};
 
-use super::*;
-use entities::{Closed, Entity, Exhausted, OpenError};
+use entities::{Closed, EntitiesRes, Entity, Exhausted, OpenError, Pass, Shared};
+use phase_threads::{Turn, create_all, in_threads, in_threads_by, in_turn};
 use std::alloc::Global;
 use std::test::Fail;
+use std::thread::Threads;
 
 /// A pass that creates once.
 #[derive(Drop)]
