@@ -4,28 +4,28 @@
 mod parts;
 mod turn;
 
-use anyhow::{Context, Result};
+use anyhow::Result;
 use composed::{
-    Builder, Doing, Empty, Entity, Has, Link, MaskedStorage, Pass, SavedText, Shared, Storages,
-    TwoFields, WithTwo, World, in_threads_by, slot,
+    Builder, Doing, Empty, Entity, Has, Link, Pass, SavedText, Shared, Storages, World,
+    in_threads_by, slot,
 };
-use parts::{Cargo, Carries, Hunts, Label, Name, Position, Score, Stores, Velocity};
+use parts::{Cargo, Hunts, Label, Name, Position, Score, Stores, Velocity};
 use std::alloc::{Alloc, Global};
 use std::cmp::Reverse;
 use std::marker::PhantomData;
 use std::thread::Threads;
-use turn::{Deed, Seen, move_all, pairs, swept};
+use turn::{Deed, Plays, Seen, pairs, swept};
 
 /// A space, and what is told of it. Its storages are any that have each type at a place: the prover is faster with them than with known ones.
 #[derive(Drop)]
-struct Game<S: Storages + Drop, P, V, N, C, T, O, L, Q, R> {
+struct Game<S: Storages + Drop, P, V, N, C, T, O, L> {
     space: World<S, Doing<Deed<O>>>,
     text: String,
     alloc: Global,
-    of: PhantomData<(P, V, N, C, T, L, Q, R)>,
+    of: PhantomData<(P, V, N, C, T, L)>,
 }
 
-impl<S, P, V, N, C, T, O, L, Q, R> Game<S, P, V, N, C, T, O, L, Q, R>
+impl<S, P, V, N, C, T, O, L> Game<S, P, V, N, C, T, O, L>
 where
     S: Storages
         + Has<Position, P>
@@ -35,8 +35,7 @@ where
         + Has<Link<Hunts>, T>
         + Has<Score, O>
         + Has<Label, L>
-        + TwoFields<MaskedStorage<Position>, MaskedStorage<Velocity>, Q>
-        + Carries<R>
+        + Plays
         + Empty
         + Drop,
 {
@@ -104,7 +103,7 @@ where
         let mut scores = self.space.write_storage::<Score, _>()?;
         let reader = scores.masked_mut().register_reader()?;
         for turn in 1..=3 {
-            self.space.with_two(move_all).context("not registered")??;
+            S::step(&mut self.space.parts().core)?;
             let met = self.meetings()?;
             let done = self.space.maintain(u64::MAX)?;
             writeln!(self.text, "turn {turn}: {met} near, {} jobs", done.ran)?;
@@ -151,15 +150,13 @@ where
         let (closed, found) = in_threads_by(rt, self.alloc, entities, 2, 2, &look)?;
         self.space.maintain(0)?;
         for rock in found {
-            if let Some(rock) = rock {
-                let mut positions = self.space.write_storage::<Position, _>()?;
-                positions.insert(rock, Position(9.0, 9.0))?;
-                let mut velocities = self.space.write_storage::<Velocity, _>()?;
-                velocities.insert(rock, Velocity(-1.0, -1.0))?;
-            }
+            let Some(rock) = rock else { continue };
+            let mut positions = self.space.write_storage::<Position, _>()?;
+            positions.insert(rock, Position(9.0, 9.0))?;
+            let mut velocities = self.space.write_storage::<Velocity, _>()?;
+            velocities.insert(rock, Velocity(-1.0, -1.0))?;
         }
-        writeln!(self.text, "{} found in two threads", closed.births)?;
-        Ok(())
+        Ok(writeln!(self.text, "{} found in two threads", closed.births)?)
     }
 
     /// The ships with their points, the most first, and then who hunts whom.
@@ -192,6 +189,5 @@ where
 }
 
 fn main(rt: HostRuntime) -> Result<()> {
-    print!(rt; "{}", Game::<Stores, _, _, _, _, _, _, _, _, _>::told(&rt)?)?;
-    Ok(())
+    Ok(print!(rt; "{}", Game::<Stores, _, _, _, _, _, _, _>::told(&rt)?)?)
 }

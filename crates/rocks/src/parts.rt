@@ -1,11 +1,9 @@
 //! The component types of the game, and what is saved of them.
 ghost use Rattle.std.specs.Prelude.{Some};
 
-use anyhow::Result;
 use composed::{
     BTreeStorage, Both, Component, DenseVecStorage, FlaggedStorage, HashMapStorage, JsonFields,
-    Link, Marking, MaskedStorage, Of6, Parts, Relation, SavedText, SavesWorld, SimpleMarker,
-    SimpleMarkerAllocator, TwoFields, VecStorage,
+    Link, Marking, Of6, Relation, SavedText, SimpleMarker, SimpleMarkerAllocator, VecStorage,
 };
 use std::alloc::{AllocError, Global};
 
@@ -83,20 +81,5 @@ impl JsonFields for Name {
 
     fn of_fields(saved: SavedText) -> Option<Name> {
         Some(Name(saved))
-    }
-}
-
-/// Storages of which names and links are saved. It is asked for where the struct is not known.
-pub trait Carries<R>: Sized {
-    /// Loads into others what is saved of these. It answers the text.
-    fn carry(from: &mut Parts<Self>, to: &mut Parts<Self>, alloc: Global) -> Result<String>;
-}
-
-impl<F: TwoFields<MaskedStorage<Name>, MaskedStorage<Link<Hunts>>, R>, R> Carries<R>
-    for Both<F, Labels> {
-    fn carry(from: &mut Parts<Self>, to: &mut Parts<Self>, alloc: Global) -> Result<String> {
-        let text = from.save_to_json::<(Name, Link<Hunts>), R>(alloc)?;
-        to.load_from_json::<(Name, Link<Hunts>), R>(alloc, text.as_str())?;
-        Ok(text)
     }
 }

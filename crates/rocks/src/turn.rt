@@ -1,9 +1,9 @@
 //! A turn: how all move, who meets whom, and what waits for its end.
-use crate::parts::{Position, Score, Velocity};
-use anyhow::Result;
+use crate::parts::{Hunts, Name, Position, Score, Stores, Velocity};
+use anyhow::{Context, Result};
 use composed::{
     Act, Core, DeleteError, Doing, EntitiesRes, Entity, ForEach, Has, InsertError, LazyUpdate,
-    MaskedStorage, ReadStorage, Storages,
+    Link, MaskedStorage, Parts, ReadStorage, SavesWorld, Storages, WithTwo,
 };
 use std::alloc::{AllocError, Global};
 use std::cmp::OrderedFloat;
@@ -53,7 +53,7 @@ fn wrapped(x: f64) -> f64 {
 }
 
 /// Each with a velocity moves by it.
-pub fn move_all(
+fn move_all(
     _entities: &EntitiesRes,
     positions: &mut MaskedStorage<Position>,
     velocities: &mut MaskedStorage<Velocity>,
@@ -61,6 +61,27 @@ pub fn move_all(
     Ok(positions.for_each_with(&*velocities, |at: &mut Position, way: &Velocity| {
         *at = Position(wrapped(at.0 + way.0), wrapped(at.1 + way.1));
     })?)
+}
+
+/// What is done by two storages at once, for the one struct of storages of the game. All else asks for less than the struct, and is proved faster.
+pub trait Plays: Sized {
+    /// All move by a turn.
+    fn step(core: &mut Core<Self>) -> Result<()>;
+
+    /// Loads into others what is saved of these. It answers the text.
+    fn carry(from: &mut Parts<Self>, to: &mut Parts<Self>, alloc: Global) -> Result<String>;
+}
+
+impl Plays for Stores {
+    fn step(core: &mut Core<Self>) -> Result<()> {
+        core.with_two(move_all).context("not registered")?
+    }
+
+    fn carry(from: &mut Parts<Self>, to: &mut Parts<Self>, alloc: Global) -> Result<String> {
+        let text = from.save_to_json::<(Name, Link<Hunts>), _>(alloc)?;
+        to.load_from_json::<(Name, Link<Hunts>), _>(alloc, text.as_str())?;
+        Ok(text)
+    }
 }
 
 /// An entity, and where it is.
