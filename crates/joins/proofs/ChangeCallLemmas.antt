@@ -1,6 +1,6 @@
 -- Calls of a closure at each index of a list, which write to the values of a change set.
-use Rattle.std.proofs.Common.{◌≡◌, ℕ, ◌++◌, List, [], ◌∷◌, Some, zero, refl, sym, ◌∙◌, arith, ap, subst}
-use Rattle.std.specs.Prelude.{Option, Unit, option_map}
+use Rattle.std.proofs.Common.{◌≡◌, ℕ, ◌++◌, List, [], ◌∷◌, zero, refl, sym, ◌∙◌, arith, ap, subst}
+use Rattle.std.specs.Prelude.{Option, option_map}
 use Rattle.std.specs.List.{Contains}
 use Rattle.std.specs.List.Sorted.{IsStrictlyIncreasing}
 use Rattle.std.specs.FinMap as map

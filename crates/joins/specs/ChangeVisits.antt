@@ -1,5 +1,5 @@
 -- Calls of a closure at each index of a walk that writes to the values of a change set.
-use Rattle.std.specs.Prelude.{◌≡◌, ℕ, Unit, List, [], ◌∷◌, Some}
+use Rattle.std.specs.Prelude.{◌≡◌, ℕ, List, [], ◌∷◌, Some}
 use Rattle.std.specs.FinMap as map
 use Rattle.std.specs.Ordering.{nat_cmp}
 use Rattle.std.specs.Borrow.{MutBor}
