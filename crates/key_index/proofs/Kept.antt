@@ -1,0 +1,43 @@
+-- The keys that are kept, by index.
+use Rattle.std.proofs.Common.{◌≡◌, ◌+◌, ◌<◌, ◌≤◌, ℕ, Bool, true, false, cond, eqb, List, [], ◌++◌, length, get_or, set, refl, ap, sym, ◌∙◌, subst, Option, Some, None, Vec, inl, inr, arith}
+use Rattle.std.specs.declared.cmp.Ordering.{Ordering}
+use Rattle.std.specs.BTreeMap.{BTreeMap, get, is_at}
+use Rattle.std.specs.Map.{lookup}
+use Rattle.std.proofs.lemmas.Bool.{true≢false, cases_eq, eq-eqb, ne_eqb}
+use Rattle.std.proofs.lemmas.List.{get_or-set_same, get_or-set_other}
+use Rattle.hibits.specs.Left.{left, left-none}
+use Rattle.key_index.specs.Keys.{IsListed, Exchanges, indices_with, is_key, items_of, key_at, list_at}
+use Rattle.key_index.proofs.Passing.{left-same}
+
+-- the keys after a write
+pub key_at-set : {Q : Type 0} (kept : List (Option Q)) (id : ℕ) (key : Option Q) → id < length kept → (i : ℕ) → key_at (set kept id key) i ≡ cond (eqb i id) key (key_at kept i)
+key_at-set kept id key lt i =
+    elim (cases_eq i id) [
+      | inl same ↦ ap (key_at (set kept id key)) same ∙ get_or-set_same kept id key None lt ∙ sym (ap (λ (b : Bool). cond b key (key_at kept i)) (eq-eqb i id same))
+      | inr other ↦ get_or-set_other kept id i key None other ∙ sym (ap (λ (b : Bool). cond b key (key_at kept i)) (ne_eqb i id other))
+    ]
+
+module _ {Q : Type 0} {cmp : Q → Q → Ordering} where
+  -- no keys, no lists
+  pub listed_none : {Z : Type 0} (kept : List (Option Q)) (lists : BTreeMap Q (Vec ℕ Z)) → kept ≡ [] → lists.entries ≡ [] → IsListed cmp kept lists
+  listed_none kept lists none empty = record {
+    each = λ q.
+        ap (λ es. items_of (lookup (is_at (cmp q)) es)) empty
+        ∙ sym (ap (λ (ks : List (Option Q)). indices_with cmp (key_at ks) q) none ∙ left-none (λ i. is_key cmp q (key_at {Q = Q} [] i)) 0 (λ i _ _ e. true≢false (sym e)));
+  }
+
+  -- the same keys, the same lists
+  pub listed_same : {Z : Type 0} (kept kept' : List (Option Q)) (lists lists' : BTreeMap Q (Vec ℕ Z)) → IsListed cmp kept lists → ((i : ℕ) → key_at kept' i ≡ key_at kept i) → ((q : Q) → list_at cmp lists' q ≡ list_at cmp lists q) → IsListed cmp kept' lists'
+  listed_same kept kept' lists lists' listed keys same = record {
+    each = λ q. same q ∙ listed.each q ∙ sym (left-same (λ i. is_key cmp q (key_at kept i)) (λ i. is_key cmp q (key_at kept' i)) (λ i. ap (is_key cmp q) (keys i)));
+  }
+
+  -- another key of one index
+  pub listed_after : {Z : Type 0} (kept kept' : List (Option Q)) (lists lists' : BTreeMap Q (Vec ℕ Z)) (id : ℕ) (old key : Option Q) → IsListed cmp kept lists → Exchanges cmp lists lists' id old key → key_at kept id ≡ old
+      → ((i : ℕ) → key_at kept' i ≡ cond (eqb i id) key (key_at kept i)) → IsListed cmp kept' lists'
+  listed_after kept kept' lists lists' id old key listed x was keys = record {
+    each = λ q. x.each q (λ i. is_key cmp q (key_at kept i)) (λ i. is_key cmp q (key_at kept' i)) (ap (is_key cmp q) was)
+        (ap (is_key cmp q) (keys id ∙ ap (λ (b : Bool). cond b key (key_at kept id)) (eq-eqb id id refl)))
+        (λ j other. ap (is_key cmp q) (keys j ∙ ap (λ (b : Bool). cond b key (key_at kept j)) (ne_eqb j id other)))
+        (listed.each q);
+  }

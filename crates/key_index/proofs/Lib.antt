@@ -1,0 +1,8 @@
+pub mod Changing
+pub mod Exchanging
+pub mod Kept
+pub mod Passing
+pub mod Places
+pub mod Events
+pub mod Walking
+pub mod Scratch

@@ -1,0 +1,30 @@
+-- What an index by a key tells of a storage.
+use Rattle.std.specs.Prelude.{◌≡◌, ◌<◌, ℕ, false, Option, List}
+use Rattle.std.specs.Option.{option_map}
+use Rattle.std.specs.FinMap as map
+use Rattle.std.specs.declared.cmp.Ordering.{Ordering}
+use Rattle.hibits.specs.declared.limits.TheConstants.{INDEX_LIMIT}
+use Rattle.storages.specs.Slot.{Slot}
+use Rattle.key_index.specs.Keys.{key_at, indices_with}
+use Rattle.key_index.specs.Named.{is_named, unread_in}
+
+module _ {T Q : Type 0} (key : T → Q) where
+  -- the key of the component of an index, if it has one
+  abbrev pub key_in : Slot T → ℕ → Option Q
+  key_in s i = option_map key (map.get s.map i)
+
+  -- the keys that are kept are those of the storage
+  pub record Keeps (kept : List (Option Q)) (s : Slot T) : Type 0 where
+    pub each : (i : ℕ) → i < INDEX_LIMIT → key_at kept i ≡ key_in s i
+
+  -- each index of which another key is kept than the storage has now stands in an event that the reader has not read
+  pub record Covers (kept : List (Option Q)) (reader : ℕ) (s : Slot T) : Type 0 where
+    pub each : (i : ℕ) → i < INDEX_LIMIT → is_named i (unread_in reader s) ≡ false → key_at kept i ≡ key_in s i
+
+  -- for each key the ascending list of the indices whose component in the storage has that key
+  abbrev pub from_scratch : (Q → Q → Ordering) → Slot T → Q → List ℕ
+  from_scratch cmp s q = indices_with cmp (key_in s) q
+
+  -- the list of each key is that of the storage now
+  pub record IsIndexOf (cmp : Q → Q → Ordering) (kept : List (Option Q)) (s : Slot T) : Type 0 where
+    pub each : (q : Q) → indices_with cmp (key_at kept) q ≡ from_scratch cmp s q

@@ -1,0 +1,4 @@
+pub mod Indexed
+pub mod Indices
+pub mod Keys
+pub mod Named

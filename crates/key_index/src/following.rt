@@ -1,0 +1,72 @@
+//! Keys as the components of a storage have them.
+ghost use Rattle.std.specs.Prelude.{◌≡◌, ◌<◌, ℕ, IfOk, OnOk, cond};
+ghost use Rattle.key_index.specs.Named.{index_at, is_named};
+ghost use Rattle.key_index.specs.Indexed.{Keeps, key_in};
+ghost use Rattle.key_index.specs.Keys.{key_at};
+
+use crate::key_lists::KeyLists;
+use crate::key_of::KeyOf;
+use hibits::{INDEX_LIMIT, Index};
+use std::alloc::{AllocError, Global};
+use storages::{Component, ComponentEvent, MaskedStorage, UnprotectedStorage};
+
+// The index that an event is of.
+fn index_at(event: ComponentEvent) -> Index
+    ensures { result ≡ index_at event }
+{
+    match event {
+        ComponentEvent::Inserted(id) => id,
+        ComponentEvent::Modified(id) => id,
+        ComponentEvent::Removed(id) => id,
+    }
+}
+
+// The key of the component of an index, if it has one.
+fn key_now<T: Component<Storage: UnprotectedStorage<T>>, K: KeyOf<T>>(
+    key: &K,
+    masked: &MaskedStorage<T>,
+    id: Index,
+) -> Option<K::Key>
+    ensures { result ≡ key_in (K.key key.now) masked.now id }
+{
+    match masked.get(id) {
+        Some(component) => Some(key.key_of(component)),
+        None => None,
+    }
+}
+
+// Brings the keys of the indices that events are of up to the storage now.
+pub(crate) fn follow<T: Component<Storage: UnprotectedStorage<T>>, K: KeyOf<T>>(
+    lists: &mut KeyLists<K::Key>,
+    key: &K,
+    events: &[ComponentEvent],
+    masked: &MaskedStorage<T>,
+) -> Result<(), AllocError>
+    ensures { OnOk result ((i : ℕ) → i < INDEX_LIMIT → key_at lists.new i ≡ cond (is_named i events.now) (key_in (K.key key.now) masked.now i) (key_at lists.old i)) }
+{
+    for event in events {
+        let id = index_at(*event);
+        if id < INDEX_LIMIT {
+            let now = key_now(key, masked, id);
+            lists.set(id, now)?;
+        }
+    }
+    Ok(())
+}
+
+// The keys of all components of a storage.
+pub(crate) fn all_keys<T: Component<Storage: UnprotectedStorage<T>>, K: KeyOf<T>>(
+    alloc: Global,
+    key: &K,
+    masked: &MaskedStorage<T>,
+) -> Result<KeyLists<K::Key>, AllocError>
+    ensures { IfOk result (λ lists. Keeps (K.key key.now) lists masked.now) }
+{
+    let mut lists = KeyLists::new(alloc);
+    let mut walk = masked.mask().iter();
+    while let Some(id) = walk.next() {
+        let now = key_now(key, masked, id);
+        lists.set(id, now)?;
+    }
+    Ok(lists)
+}

@@ -1,0 +1,5 @@
+//! Indices that are kept from events, as tests.
+#![tactic(auto)]
+
+#[cfg(test)]
+mod scores;
