@@ -1,9 +1,10 @@
 //! The index.
-ghost use Rattle.std.specs.Prelude.{◌≡◌, ℕ, None, Err, false, true, IfOk, OnOk, OnErr, IfErr};
+ghost use Rattle.std.specs.Prelude.{◌≡◌, ℕ, None, Some, [], Err, false, true, IfOk, OnOk, OnErr, IfErr};
 ghost use Rattle.storages.specs.WriteView.{slot, entities_of, storage_name};
 ghost use Rattle.storages.specs.Slot.{IsSame};
 ghost use Rattle.storages.specs.Tracking.{Turns, with_reader, after_read, without_reader};
 ghost use Rattle.storages.specs.Unread.{unread_of};
+ghost use Rattle.storages.specs.Heard.{OthersKeep};
 ghost use Rattle.key_index.specs.Keys.{key_at, indices_with};
 ghost use Rattle.key_index.specs.Indexed.{Covers, IsIndexOf, Keeps};
 
@@ -53,6 +54,8 @@ where
         ensures key { IfOk result (λ x. x.key ≡ key) }
         ensures fresh { IfOk result (λ x. x.stale ≡ false) }
         ensures reader { IfOk result (λ x. x.reader ≡ (slot storage.old).channel.registered) }
+        ensures begins { IfOk result (λ x. unread_of x.reader (slot storage.new).channel.readers ≡ Some []) }
+        ensures others { IfOk result (λ x. OthersKeep x.reader (slot storage.old).channel (slot storage.new).channel) }
         ensures keeps { IfOk result (λ x. Keeps (K.key key) x.lists (slot storage.new)) }
         ensures slot { OnOk result (Turns (slot storage.old) (slot storage.new) (with_reader (slot storage.old).channel)) }
         ensures err { OnErr result (IsSame (slot storage.old) (slot storage.new)) }
@@ -101,6 +104,8 @@ where
         ensures unchanged { result ≡ Err IndexError.UnknownReader → self.new ≡ self.old }
         ensures rest { result ≡ Err IndexError.UnknownReader → IsSame (slot storage.old) (slot storage.new) }
         ensures slot { Turns (slot storage.old) (slot storage.new) (after_read self.old.reader (slot storage.old).channel) }
+        ensures nothing { OnOk result (unread_of self.old.reader (slot storage.new).channel.readers ≡ Some []) }
+        ensures others { OthersKeep self.old.reader (slot storage.old).channel (slot storage.new).channel }
         ensures key { self.new.key ≡ self.old.key }
         ensures reader { self.new.reader ≡ self.old.reader }
         ensures entities { entities_of storage.new ≡ entities_of storage.old }
@@ -134,6 +139,7 @@ where
         K: Drop,
         ensures slot { Turns (slot storage.old) (slot storage.new) (without_reader self.reader (slot storage.old).channel) }
         ensures gone { unread_of self.reader (slot storage.new).channel.readers ≡ None }
+        ensures others { OthersKeep self.reader (slot storage.old).channel (slot storage.new).channel }
         ensures entities { entities_of storage.new ≡ entities_of storage.old }
         ensures same_reference { storage_name storage.new ≡ storage_name storage.old }
     {

@@ -53,9 +53,9 @@ module _ {T V Q : Type 0} (value : T → V) (one : IsOneToOne value) (key : T �
   covers_slot s s' f c = record {
     each = λ i lt none.
         (let told : unread_in n s' ≡ unread_in n s ++ f.events = same_unread s' ∙ f.told ∙ ap (λ (es : List ComponentEvent). es ++ f.events) (sym (same_unread s)) in
-         let parts = or_parts (is_named i (unread_in n s)) (is_named i f.events) (sym (list_any-append (λ e. eqb (index_at e) i) (unread_in n s) f.events) ∙ sym (ap (is_named i) told) ∙ none) in
-         let same = option_map-one value one (map.get s'.map i) (map.get s.map i) (f.leads.kept i (same_named i f.events ∙ parts.1)) in
-         c.each i lt parts.0 ∙ ap (option_map key) (sym same));
+        let parts = or_parts (is_named i (unread_in n s)) (is_named i f.events) (sym (list_any-append (λ e. eqb (index_at e) i) (unread_in n s) f.events) ∙ sym (ap (is_named i) told) ∙ none) in
+        let same = option_map-one value one (map.get s'.map i) (map.get s.map i) (f.leads.kept i (same_named i f.events ∙ parts.1)) in
+        c.each i lt parts.0 ∙ ap (option_map key) (sym same));
   }
     where
       same_list : (o : Option (List ComponentEvent)) → or_none o ≡ following.or_none o
