@@ -93,11 +93,12 @@ where
         &self.reader
     }
 
-    /// Reads the events, and brings the indices that stand in them up to the storage now; a stale index is built from the storage.
+    /// Reads the events, and brings the indices that stand in them up to the storage now; a stale index is built from the storage. It takes what
+    /// the reading takes, and for each event a search in the lists of two keys. Where events were turned off, or written by hand, it follows
+    /// what was told, and may not be the storage's: its clauses ask that each index of which it keeps another key stands in an event.
     pub fn refresh(&mut self, storage: &mut WriteStorage<'_, T>) -> Result<(), IndexError>
-        requires { self.old.stale ≡ false → Covers (K.key self.old.key) self.old.lists self.old.reader (slot storage.old) }
-        ensures ok { OnOk result (IsIndexOf (K.key self.old.key) K.Key.cmp self.new.lists (slot storage.new)) }
-        ensures keeps { OnOk result (Keeps (K.key self.old.key) self.new.lists (slot storage.new)) }
+        ensures ok { (self.old.stale ≡ false → Covers (K.key self.old.key) self.old.lists self.old.reader (slot storage.old)) → OnOk result (IsIndexOf (K.key self.old.key) K.Key.cmp self.new.lists (slot storage.new)) }
+        ensures keeps { (self.old.stale ≡ false → Covers (K.key self.old.key) self.old.lists self.old.reader (slot storage.old)) → OnOk result (Keeps (K.key self.old.key) self.new.lists (slot storage.new)) }
         ensures fresh { OnOk result (self.new.stale ≡ false) }
         ensures memory { result ≡ Err IndexError.OutOfMemory → self.new.stale ≡ true }
         ensures unknown { result ≡ Err IndexError.UnknownReader → unread_of self.old.reader (slot storage.old).channel.readers ≡ None }

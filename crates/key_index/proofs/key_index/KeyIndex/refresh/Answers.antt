@@ -8,6 +8,6 @@ use Rattle.key_index.proofs.Scratch.{index_of_keys}
 use Rattle.key_index.proofs.key_index.KeyIndex.refresh.Goals as goal
 
 pub returns-then-done-clause-ok : goal.returns-then-done-clause-ok
-returns-then-done-clause-ok g c =
+returns-then-done-clause-ok g c covers =
     index_of_keys (g.K.KeyOf.key c.args.self.now.key) g.K.Key.Ord.cmp c.if-self.self.lists (slot c.read.new.self)
     (first_of (search rules, grind (arith, common_steps)))
