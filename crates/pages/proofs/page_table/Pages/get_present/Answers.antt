@@ -1,4 +1,4 @@
-use Rattle.std.proofs.Common.{◌/◌, arith, sym, ◌∙◌}
+use Rattle.std.proofs.Common.{arith, sym, ◌∙◌}
 use Rattle.pages.proofs.TableLemmas.{seen_item, seen_there, seen_within, in_page, read_page}
 use Rattle.pages.proofs.page_table.Pages.get_present.Goals as goal
 

@@ -1,4 +1,4 @@
-use Rattle.std.proofs.Common.{◌/◌, ◌==◌, not, length, arith, ap, sym, ◌∙◌}
+use Rattle.std.proofs.Common.{◌==◌, not, length, arith, ap, sym, ◌∙◌}
 use Rattle.pages.proofs.TableLemmas.{seen_item, seen_page, seen_within, seen_missing, seen_length, none_there, times_le}
 use Rattle.pages.proofs.page_table.Pages.has_page.Goals as goal
 

@@ -1,4 +1,4 @@
-use Rattle.std.proofs.Common.{◌/◌, set as list_set, arith, ap, ◌∙◌}
+use Rattle.std.proofs.Common.{set as list_set, arith, ap, ◌∙◌}
 use Rattle.pages.proofs.TableLemmas.{seen_there, seen_within, in_page, flat_written}
 use Rattle.pages.proofs.page_table.Pages.set.Goals as goal
 
