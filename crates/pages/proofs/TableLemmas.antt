@@ -66,12 +66,16 @@ missing table k e =
       | inr nz ↦ absurd (true≢false (sym (sym e ∙ contains-pages_of table k ∙ ap not nz.0)))
     ]
 
-pub there_within : (table : List ℕ) (k : ℕ) → set.contains (pages_of table) k ≡ true → k < length table
-there_within table k e =
+-- an entry stands in the table
+pub entry_within : (table : List ℕ) (k : ℕ) → 0 < get_or table k 0 → k < length table
+entry_within table k pos =
     elim (cases_lt k (length table)) [
       | inl lt ↦ lt
-      | inr ge ↦ absurd (true≢false (sym e ∙ contains-pages_of table k ∙ there_past table k ge))
+      | inr ge ↦ let z = get_or_past table k 0 ge in absurd (omega arith)
     ]
+
+pub there_within : (table : List ℕ) (k : ℕ) → set.contains (pages_of table) k ≡ true → k < length table
+there_within table k e = entry_within table k (there table k e)
 
 pub no_pages : (table : List ℕ) → table ≡ [] → pages_of table ≡ set.empty
 unfolding pages_of
@@ -194,7 +198,7 @@ module _ {T : Type 0} (len : ℕ) (d : T) where
       elim (cases_eq i at) [
         | inl same ↦
             let n = length-flat len d table items in
-            let within : at / len < length table = elim (cases_lt (at / len) (length table)) [ inl in_table ↦ in_table | inr ge ↦ let z = get_or_past table (at / len) 0 ge in absurd (omega arith) ] in
+            let within = entry_within table (at / len) pos in
             let before = (div-lt_iff_lt-mul {k = len} {x = at} {y = length table} sound.some).0 within in
             ap (item_at len d table (list_set items ((e - 1) * len + at % len) x)) same
             ∙ read_there len d (list_set items ((e - 1) * len + at % len) x) e (at % len) pos
@@ -241,21 +245,19 @@ module _ {T : Type 0} (len : ℕ) (d : T) where
   old_in items ys r zero le lt = refl
   old_in items ys r (suc k) le lt = let m = suc-mul k len in get_or_append_left items ys d (k * len + r) (omega (arith, m))
 
--- ---- a read by an entry
-module _ {T : Type 0} (len : ℕ) (d : T) (table : List ℕ) (items : List T) (sound : IsSound len table items) (at entry : ℕ) (is : entry ≡ get_or table (at / len) 0) (pos : 0 < entry) where
-  pub in_page : (entry - 1) * len + at % len < length items
-  in_page =
-      let le : entry * len ≤ length items = let w = sound.within (at / len) in let m = ap (λ n. n * len) is in omega (arith, w, m) in
-      in_part len d entry (at % len) (length items) pos (mod_below at len sound.some) le
+-- ---- a read where the page is there
+module _ {T : Type 0} (len : ℕ) (d : T) (table : List ℕ) (items : List T) (sound : IsSound len table items) (at spot : ℕ) (pos : 0 < get_or table (at / len) 0) (is : spot ≡ (get_or table (at / len) 0 - 1) * len + at % len) where
+  pub spot_within : spot < length items
+  spot_within = let i = in_part len d (get_or table (at / len) 0) (at % len) (length items) pos (mod_below at len sound.some) (sound.within (at / len)) in omega (arith, is, i)
 
-  pub read_page : (x : T) → x ≡ get_or items ((entry - 1) * len + at % len) x → x ≡ item_at len d table items at
-  read_page x e =
-      get_or_read items ((entry - 1) * len + at % len) x in_page e d
-      ∙ sym (read_there len d items entry (at % len) pos)
-      ∙ ap (item_in len d items (at % len)) is
+  pub read_spot : (x : T) → x ≡ get_or items spot x → x ≡ item_at len d table items at
+  read_spot x e =
+      get_or_read items spot x spot_within e d
+      ∙ ap (λ n. get_or items n d) is
+      ∙ sym (read_there len d items (get_or table (at / len) 0) (at % len) pos)
 
-  pub flat_written : (x : T) → flat len d table (list_set items ((entry - 1) * len + at % len) x) ≡ list_set (flat len d table items) at x
-  flat_written x = ap (λ e. flat len d table (list_set items ((e - 1) * len + at % len) x)) is ∙ flat_set len d table items sound at x (omega (arith, is, pos))
+  pub flat_written : (x : T) → flat len d table (list_set items spot x) ≡ list_set (flat len d table items) at x
+  flat_written x = ap (λ n. flat len d table (list_set items n x)) is ∙ flat_set len d table items sound at x pos
 
 -- the table and the items with one page more
 pub record IsGrown {T : Type 0} (len : ℕ) (d : T) (table table' : List ℕ) (items items' : List T) (page : ℕ) : Type 0 where

@@ -1,10 +1,10 @@
-//! What pages keep.
+//! What is kept in pages.
 
-/// A number that is kept in pages, with the one that a place without a page reads as.
+/// What can be kept in pages.
 pub trait Item: Copy {
     ghost FILLER: { Self };
 
-    /// What is read where nothing was written.
+    /// The filler: what a place without a page reads as, and what a new page is full of.
     const FILLER: Self;
 }
 

@@ -1,4 +1,4 @@
-//! Items at scattered places, kept in pages.
+//! Items at scattered places, kept in pages, so that memory is taken for the pages and not for the greatest place.
 #![tactic(auto)]
 
 mod item;

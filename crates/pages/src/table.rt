@@ -1,5 +1,5 @@
-//! The table of a store of pages: of each page an entry, and 0 where there is none.
-ghost use Rattle.std.specs.Prelude.{◌≡◌, ℕ, ◌<◌, max, length, slice_index, OnOk, OnErr, ◌+◌};
+//! The table of pages: of each page an entry, which is 0 where the page is not there.
+ghost use Rattle.std.specs.Prelude.{◌≡◌, ◌+◌, ◌-◌, ◌*◌, ◌/◌, ◌%◌, ◌<◌, max, length, slice_index, OnOk, OnErr};
 ghost use Rattle.pages.specs.Table.{SameEntries};
 
 use std::alloc::AllocError;
@@ -15,13 +15,24 @@ pub(crate) fn entry_of(table: &Vec<u32>, page: u32) -> u32
     }
 }
 
-/// The entry of a page within the table.
+/// Where the item of a place stands, by the entry of its page: the pages lie one after another, the first of entry 1.
 #[inline(always)]
-pub(crate) fn entry_within(table: &Vec<u32>, page: u32) -> u32
-    requires { page < length table.now.items }
-    ensures { result ≡ slice_index table.now.items page }
+pub(crate) fn spot_in(entry: u32, at: u32, len: u32) -> usize
+    requires some { 0 < len }
+    requires entry { 0 < entry }
+    ensures { result ≡ (entry - 1) * len + at % len }
 {
-    table[page as usize]
+    (entry as usize - 1) * len as usize + (at % len) as usize
+}
+
+/// The same where the page is there.
+#[inline(always)]
+pub(crate) fn spot_of(table: &Vec<u32>, at: u32, len: u32) -> usize
+    requires some { 0 < len }
+    requires page { 0 < slice_index table.now.items (at / len) }
+    ensures { result ≡ (slice_index table.now.items (at / len) - 1) * len + at % len }
+{
+    spot_in(table[(at / len) as usize], at, len)
 }
 
 /// Makes a table reach a page, by entries that are 0.
