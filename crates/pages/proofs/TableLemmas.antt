@@ -81,10 +81,6 @@ pub no_pages : (table : List ℕ) → table ≡ [] → pages_of table ≡ set.em
 unfolding pages_of
 no_pages table e = ap (λ (t : List ℕ). set.from_list {R = nat_cmp} (list_below (is_there t) (length t))) e
 
-pub same_pages : (table table' : List ℕ) → SameEntries table table' → pages_of table' ≡ pages_of table
-same_pages table table' same =
-    set.same_set nat_cmp_total set.nat_cmp-IsAntisymmetric _ _ (λ q. contains-pages_of table' q ∙ ap (λ n. not (n == 0)) (same.at q) ∙ sym (contains-pages_of table q))
-
 -- a page that is there already
 pub insert_there : (s : set.FinSet nat_cmp) (k : ℕ) → set.contains s k ≡ true → s ≡ set.insert s k
 insert_there s k has =
@@ -212,14 +208,6 @@ module _ {T : Type 0} (len : ℕ) (d : T) where
   pub flat_set : (table : List ℕ) (items : List T) → IsSound len table items → (at : ℕ) (x : T) → 0 < get_or table (at / len) 0 → flat len d table (list_set items ((get_or table (at / len) 0 - 1) * len + at % len) x) ≡ list_set (flat len d table items) at x
   flat_set table items sound at x pos =
       flat_is len d sound.some table _ _ (length-set (flat len d table items) at x ∙ length-flat len d table items) (λ i. sym (item_set table items sound at x pos i))
-
-  pub sound_written : (table : List ℕ) (items items' : List T) → IsSound len table items → length items' ≡ length items → IsSound len table items'
-  sound_written table items items' sound n = record {
-    some = sound.some;
-    within = λ k. let w = sound.within k in omega (arith, n, w);
-    apart = sound.apart;
-    all = n ∙ sound.all;
-  }
 
   -- ---- every item becomes the filler
   filled : (n i : ℕ) → get_or (replicate n d) i d ≡ d
