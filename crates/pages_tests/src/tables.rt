@@ -174,7 +174,7 @@ fn goes_on<R: Abort>(rt: &R, pages: &mut Pages<u64, 64>, at: u32) {
     let had = pages.has_page(at);
     match reserve(pages, at) {
         Ok(()) => {
-            equal!(rt; count(pages), before + usize::from(!had));
+            equal!(rt; count(pages), before.wrapping_add(usize::from(!had)));
             holds!(rt; put(pages, at, u64::from(at)));
         }
         Err(_) => {
