@@ -1,0 +1,9 @@
+//! Items at scattered places, kept in pages, so that memory is taken for the pages and not for the greatest place.
+#![tactic(auto)]
+
+mod item;
+mod page_table;
+mod table;
+
+pub use item::Item;
+pub use page_table::Pages;

@@ -1,0 +1,7 @@
+//! Pages, as tests.
+#![tactic(auto)]
+
+#[cfg(test)]
+mod asserts;
+#[cfg(test)]
+mod tables;
