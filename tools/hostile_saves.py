@@ -10,7 +10,7 @@ neighbours swapped, and so is each of its beginnings. The model reads a text by 
 as a save shows; any other text is refused as not the form, and nobody is born. The texts of one kind of damage are loaded in one world, in which
 nobody dies, so the model knows each birth.
 
-The last line is 'N passed, M failed', of the texts and the save."""
+The last line is 'N passed, M failed', of the texts, of the save, and of the registrations before each."""
 import os
 import subprocess
 import sys
