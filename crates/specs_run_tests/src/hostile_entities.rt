@@ -52,16 +52,18 @@ fn ready_to_load<R: Abort>(rt: &R, alloc: Global) -> Result<Tale, AllocError> {
     )
 }
 
+fn push_often(line: &mut String, character: char, times: u32) -> Result<(), AllocError> {
+    for _ in 0..times {
+        line.push(character)?;
+    }
+    Ok(())
+}
+
 /// A load of so many lists within one another.
 fn deep_load(alloc: Global, depth: u32) -> Result<String, AllocError> {
-    let mut line = String::new(alloc);
-    line.push_str("load ")?;
-    for _ in 0..depth {
-        line.push('[')?;
-    }
-    for _ in 0..depth {
-        line.push(']')?;
-    }
+    let mut line = "load ".to_string(alloc)?;
+    push_often(&mut line, '[', depth)?;
+    push_often(&mut line, ']', depth)?;
     Ok(line)
 }
 
