@@ -7,6 +7,7 @@ ghost use Rattle.entities.specs.Phase.Opened.{board_of};
 use entities::{Closed, EntitiesRes, OpenError, Pass, Shared};
 use rayon::prelude::*;
 use std::alloc::Global;
+use std::hint::spin_loop;
 use std::sync::atomic::{AtomicU64, Ordering};
 use std::thread::Threads;
 
@@ -14,12 +15,16 @@ const PASSES: usize = 4_096;
 // How many turns the first pass waits at most.
 const MOST_TURNS: u32 = 100_000_000;
 
-/// What passes tell one another.
+/// Where passes come to once they have created.
+trait Attended {
+    /// The pass of this number comes.
+    fn attend(&self, number: usize);
+}
+
+/// A flag that the last pass sets, and what the first one, which waits for it, saw of it.
 #[derive(Drop)]
 struct Meeting {
-    // 1 once the last pass has created
     last_came: AtomicU64,
-    // 1 if the first pass, which had created, saw that
     first_saw: AtomicU64,
 }
 
@@ -29,26 +34,28 @@ fn is_set_in_time(flag: &AtomicU64) -> bool {
         if flag.load(Ordering::SeqCst) == 1 {
             return true;
         }
+        spin_loop();
     }
     false
 }
 
-/// A pass that has created comes to the meeting: the last one says so, and the first one waits for it.
-fn attend(meeting: &Meeting, number: usize) {
-    if number == PASSES - 1 {
-        meeting.last_came.store(1, Ordering::SeqCst);
-    }
-    if number == 0 && is_set_in_time(&meeting.last_came) {
-        meeting.first_saw.store(1, Ordering::SeqCst);
+impl Attended for Meeting {
+    fn attend(&self, number: usize) {
+        if number == PASSES - 1 {
+            self.last_came.store(1, Ordering::SeqCst);
+        }
+        if number == 0 && is_set_in_time(&self.last_came) {
+            self.first_saw.store(1, Ordering::SeqCst);
+        }
     }
 }
 
 /// Each pass creates once, in threads, and comes to the meeting.
-fn create_and_meet(
+fn create_and_meet<M: Attended + Sync>(
     rt: &(impl Threads + Sync),
     shared: &Shared<'_>,
     passes: &mut [Pass],
-    meeting: &Meeting,
+    meeting: &M,
 )
     requires { All (IsPassOf (board_of shared.now)) passes.old }
     ensures { All (IsPassOf (board_of shared.now)) passes.new }
@@ -61,7 +68,7 @@ fn create_and_meet(
             ensures { IsPassOf (board_of shared.entry.now) pass.new }
         {
             let _ = shared.create(pass);
-            attend(meeting, number);
+            meeting.attend(number);
         },
     );
 }

@@ -26,7 +26,7 @@ fn comes_true(rt: &(impl Threads + Sync), alloc: Global, story: Story) -> Result
     match story {
         Story::HalfOfThemDie => half_of_them_die(rt, alloc, &mut entities),
         Story::PassesMeet => Ok(passes_meet(rt, alloc, &mut entities)),
-        Story::DroppedPassCounts => dropped_pass_counts(alloc, &mut entities),
+        Story::DroppedPassCounts => dropped_pass_counts(rt, alloc, &mut entities),
         Story::NobodyIsBorn => nobody_is_born(rt, alloc, &mut entities),
         Story::PendingOneDies => pending_one_dies(rt, alloc, &mut entities),
         Story::PhasesAgree => phases_agree(rt, alloc, &mut entities),
