@@ -56,7 +56,7 @@ class Tree(unittest.TestCase):
         self.assertEqual(ran.returncode, 0, ran.stdout)
 
 
-GATE_TOOLS = ("test_tools.py", "test_bench.py", "citations.py", "api.py", "chart.py", "listings.py", "wrong_bodies.py", "keep_libraries.py")
+GATE_TOOLS = ("test_tools.py", "test_bench.py", "citations.py", "api.py", "chart.py", "listings.py", "wrong_bodies.py", "keep_libraries.py", "hostile_saves.py")
 
 
 class Gate(Tree):
@@ -88,7 +88,7 @@ class Gate(Tree):
     def test_it_adds_up(self):
         ran = self.gate()
         self.accepts(ran)
-        self.assertEqual(ran.stdout.split("\n")[-2], "9 passed, 0 failed")
+        self.assertEqual(ran.stdout.split("\n")[-2], "12 passed, 0 failed")
 
     def test_no_git(self):
         shutil.rmtree(f"{self.top}/.git")
@@ -145,7 +145,7 @@ class Gate(Tree):
         self.write("tools/wrong_bodies.py", "import sys\nprint('3 passed, 1 failed')\nsys.exit('--list' not in sys.argv)\n")
         ran = self.gate()
         self.refuses(ran, "the wrong bodies failed")
-        self.assertEqual(ran.stdout.split("\n")[-2], "9 passed, 1 failed")
+        self.assertEqual(ran.stdout.split("\n")[-2], "12 passed, 1 failed")
 
     def test_no_wrong_body_tried(self):
         self.write("tools/wrong_bodies.py", "print('0 passed, 0 failed')\n")
@@ -161,6 +161,40 @@ class Gate(Tree):
             self.write(f"tools/{name}", "exit 1\n")
             self.assertNotEqual(self.gate().returncode, 0, name)
             self.write(f"tools/{name}", PASSES)
+
+
+class HostileSaves(Tree):
+    """tools/hostile_saves.py, over a stand-in for the program that answers by the model itself."""
+
+    def setUp(self):
+        super().setUp()
+        self.take("tools/hostile_saves.py", "tools/random_scripts.py", "tools/script_model.py")
+
+    def judged_of(self, said, then=""):
+        """A run over a program that says this of each reply, and does that at its end."""
+        self.write("crates/specs_run_main/out/specs_run_main", "#!/usr/bin/env python3\nimport sys\n"
+                   f"sys.path.insert(0, '{self.top}/tools')\nfrom random_scripts import judged\nfrom script_model import World\nworld = World()\n"
+                   "for line in sys.stdin.read().split('\\n')[:-1]:\n    (world, reply), = judged(world, line, f'{world.next_born()[0]}:1')\n"
+                   f"    print({said})\n{then}\n", runs=True)
+        return self.run_in("python3", "tools/hostile_saves.py", "--built")
+
+    def test_replies_of_the_model(self):
+        ran = self.judged_of("reply")
+        self.accepts(ran)
+        self.assertRegex(ran.stdout, r"^\d{4} passed, 0 failed\n$")
+
+    def test_a_text_that_is_taken(self):
+        self.refuses(self.judged_of("'ok' if '[5[' in line else reply"), "[5[")
+
+    def test_a_list_that_is_refused(self):
+        self.refuses(self.judged_of("'error: not the form' if '[55]' in line else reply"), "[55]")
+
+    def test_somebody_who_is_born(self):
+        self.refuses(self.judged_of("'[0]' if reply == '[]' else reply"), "wanted")
+
+    def test_a_run_that_ends_badly(self):
+        self.refuses(self.judged_of("reply", "sys.exit(1)"), "status 1")
+        self.refuses(self.judged_of("reply", "print('more')"), "1 replies more than lines")
 
 
 SOURCE = "pub fn one() -> u32\n    ensures { result ≡ 1 }\n{\n    1\n}\n"

@@ -2,6 +2,10 @@
 #![tactic(auto)]
 
 #[cfg(test)]
+mod failing_streams;
+#[cfg(test)]
+mod hostile_entities;
+#[cfg(test)]
 mod hostile_scripts;
 #[cfg(test)]
 mod job_scripts;
@@ -13,6 +17,8 @@ mod saving_scripts;
 mod scripts;
 #[cfg(test)]
 mod selections;
+#[cfg(test)]
+mod streams;
 #[cfg(test)]
 mod upstream_entities;
 #[cfg(test)]

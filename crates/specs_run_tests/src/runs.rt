@@ -65,6 +65,23 @@ impl Tale {
         }
     }
 
+    /// Commands, each with its reply: `create -> 0:1` in a line.
+    pub fn told<R: Abort>(rt: &R, alloc: Global, lines: &str) -> Result<Tale, AllocError> {
+        let mut tale = Tale::new(alloc);
+        tale.tell(rt, lines)?;
+        Ok(tale)
+    }
+
+    /// The bytes of the script.
+    pub fn script(&self) -> &[u8] {
+        self.script.as_bytes()
+    }
+
+    /// The bytes that the script prints.
+    pub fn printed(&self) -> &[u8] {
+        self.printed.as_bytes()
+    }
+
     /// One command more, with its reply.
     pub fn line(&mut self, command: &str, reply: &str) -> Result<(), AllocError> {
         self.script.push_str(command)?;
@@ -109,8 +126,6 @@ impl Tale {
 
 /// Asserts that commands have these replies: `create -> 0:1` in a line.
 pub fn assert_tale<R: Abort>(rt: &R, alloc: Global, lines: &str) -> Result<(), AllocError> {
-    let mut tale = Tale::new(alloc);
-    tale.tell(rt, lines)?;
-    tale.assert_holds(rt, alloc);
+    Tale::told(rt, alloc, lines)?.assert_holds(rt, alloc);
     Ok(())
 }
