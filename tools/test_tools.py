@@ -16,7 +16,7 @@ TOP = os.path.dirname(os.path.dirname(os.path.abspath(__file__)))
 sys.path.insert(0, os.path.join(TOP, "tools"))
 
 from contracts import is_empty, is_nothing
-from refusals import Said, stands_for, without
+from verdicts import Said, stands_for, without
 
 PASSES = "#!/bin/sh\nexit 0\n"
 
@@ -207,7 +207,7 @@ class WrongBodies(Tree):
 
     def setUp(self):
         super().setUp()
-        self.take("tools/wrong_bodies.py", "tools/edits.py", "tools/refusals.py")
+        self.take("tools/wrong_bodies.py", "tools/edits.py", "tools/verdicts.py")
         self.write("crates.txt", "low: thiserror\n")
         self.write("crates/low/src/lib.rt", SOURCE)
         self.write("crates/low/wrong/two.edit", WRONG)

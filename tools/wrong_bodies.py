@@ -42,7 +42,7 @@ import tempfile
 import threading
 
 from edits import applied, edits_of
-from refusals import Said, answers_of, judge, without
+from verdicts import Said, answers_of, judge, without
 
 MOST = 60
 ROUNDS = 3
@@ -142,7 +142,7 @@ def place_of(edit):
     """Where it is kept what the edit showed."""
     sums = hashlib.sha256(kit() + repr(edit.meaning()).encode())
     here = os.path.dirname(os.path.abspath(__file__))
-    for path in (f"{here}/{it}.py" for it in ("wrong_bodies", "edits", "refusals")):
+    for path in (f"{here}/{it}.py" for it in ("wrong_bodies", "edits", "verdicts")):
         with open(path, "rb") as it:
             sums.update(hashlib.sha256(it.read()).digest())
     for crate in sorted({edit.crate, *below(edit.crate)}):
