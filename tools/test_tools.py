@@ -56,7 +56,7 @@ class Tree(unittest.TestCase):
         self.assertEqual(ran.returncode, 0, ran.stdout)
 
 
-GATE_TOOLS = ("test_tools.py", "test_bench.py", "citations.py", "api.py", "chart.py", "listings.py", "wrong_bodies.py", "keep_libraries.py", "hostile_saves.py")
+GATE_TOOLS = ("test_tools.py", "test_bench.py", "test_refusals.py", "citations.py", "api.py", "chart.py", "listings.py", "wrong_bodies.py", "keep_libraries.py", "hostile_saves.py")
 
 
 class Gate(Tree):
