@@ -12,9 +12,7 @@ ghost use Rattle.storages.specs.WriteView.{slot};
 
 use entities::EntitiesRes;
 use hibits::{BitSet, INDEX_LIMIT, Index};
-use joins::{
-    Drain, EachError, EntryJoin, ForEach, Join, JoinMut, RestrictedStorageMut, WriteJoin2,
-};
+use joins::{Drain, EachError, EntryJoin, ForEach, Join, JoinMut, RestrictedStorageMut};
 use std::alloc::AllocError;
 use storages::{Component, MaskedStorage, ReadStorage, VecStorage, WriteStorage};
 
@@ -112,21 +110,6 @@ pub fn shown_beside<J: Join>(
     let shown = cursor.get_unchecked().copied();
     let _ways = cursor.into_storage();
     shown
-}
-
-/// A step of a cursor over two storages writes to none of them.
-pub fn both_beside<J: Join>(
-    ways: &mut MaskedStorage<Way>,
-    paces: &mut MaskedStorage<Pace>,
-    join: J,
-) -> Option<Index>
-    ensures ways { ways.new ≡ ways.old }
-    ensures paces { paces.new ≡ paces.old }
-{
-    let mut cursor = WriteJoin2::new(ways, paces, join);
-    let found = cursor.next();
-    let _both = cursor.into_storages();
-    found
 }
 
 /// Each way of a view that has a pace goes on by some steps of it, and no other.

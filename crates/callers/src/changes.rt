@@ -20,14 +20,14 @@ pub fn all_changes_are(changes: &mut ChangeSet<u32>, other: &BitSet, value: u32)
     }
 }
 
-/// The same by a closure, with no proof file.
-pub fn all_changes_become(changes: &mut ChangeSet<u32>, other: &BitSet, value: u32)
-    ensures { changes.new ≡ each_becomes (λ _ _. value) (left (λ i. map.contains_key changes.old i && set.contains other.now.members i) 0) changes.old }
+/// Each change of an index that a set has is taken back, by a closure, with no proof file.
+pub fn all_changes_taken_back(changes: &mut ChangeSet<u32>, other: &BitSet)
+    ensures { changes.new ≡ each_becomes (λ _ _. 0) (left (λ i. map.contains_key changes.old i && set.contains other.now.members i) 0) changes.old }
 {
     changes
         .join_mut(other)
         .for_each(|change: &mut u32, _index: Index| {
-            *change = value;
+            *change = 0;
         })
 }
 
