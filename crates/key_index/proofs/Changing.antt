@@ -1,24 +1,18 @@
 -- What a change of one list makes of the list of each key.
-use Rattle.std.proofs.Common.{◌≡◌, ℕ, Bool, true, false, cond, List, [], ◌∷◌, refl, ap, sym, ◌∙◌, subst, Option, Some, None, Vec}
+use Rattle.std.proofs.Common.{◌≡◌, ℕ, Bool, true, false, cond, List, refl, ap, sym, ◌∙◌, subst, Option, Some, Vec}
 use Rattle.std.specs.List.Sorted.{IsStrictlyIncreasing}
 use Rattle.std.specs.Ordering.{is_eq}
 use Rattle.std.specs.declared.cmp.Ordering.{Ordering}
-use Rattle.std.specs.declared.cmp.Ordering.TheVariants.{Less, Equal, Greater}
-use Rattle.std.specs.Cmp.{IsTotalOrder}
+use Rattle.std.specs.Cmp.{IsTotalOrder, Equal-is}
 use Rattle.std.specs.BTreeMap.{BTreeMap, get, is_at}
 use Rattle.std.specs.Map.{lookup}
 use mathlib.Core.Path.{fun_ext}
 use Rattle.key_index.specs.Keys.{is_key, items_of, list_at}
 
 module _ {Q : Type 0} {cmp : Q → Q → Ordering} (o : IsTotalOrder cmp) where
-  pub equal_of : (r : Ordering) → is_eq r ≡ true → r ≡ Equal
-  equal_of Less e = cc
-  equal_of Equal e = refl
-  equal_of Greater e = cc
-
   -- equal keys find the same
   pub alike : {X : Type 0} (m : BTreeMap Q X) (k q : Q) → is_eq (cmp k q) ≡ true → get cmp m q ≡ get cmp m k
-  alike m k q e = ap (λ (test : Q → Bool). lookup test m.entries) (fun_ext (λ x. ap is_eq (sym (o.congr k q x (equal_of (cmp k q) e)))))
+  alike m k q e = ap (λ (test : Q → Bool). lookup test m.entries) (fun_ext (λ x. ap is_eq (sym (o.congr k q x ((Equal-is (cmp k q)).0 e)))))
 
   -- the list of one key is another
   pub changed : {Z : Type 0} (m m' : BTreeMap Q (Vec ℕ Z)) (key : Q) (was : Option (Vec ℕ Z)) (new : Vec ℕ Z) (f : List ℕ → List ℕ)

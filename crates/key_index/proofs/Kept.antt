@@ -1,13 +1,15 @@
 -- The keys that are kept, by index.
-use Rattle.std.proofs.Common.{◌≡◌, ◌+◌, ◌<◌, ◌≤◌, ℕ, Bool, true, false, cond, eqb, List, [], ◌++◌, length, get_or, set, refl, ap, sym, ◌∙◌, subst, Option, Some, None, Vec, inl, inr, arith}
+use Rattle.std.proofs.Common.{◌≡◌, ◌<◌, ℕ, Bool, cond, eqb, List, [], length, set, refl, ap, sym, ◌∙◌, Option, None, Vec, inl, inr}
 use Rattle.std.specs.declared.cmp.Ordering.{Ordering}
-use Rattle.std.specs.BTreeMap.{BTreeMap, get, is_at}
+use Rattle.std.specs.BTreeMap.{BTreeMap, is_at}
 use Rattle.std.specs.Map.{lookup}
 use Rattle.std.proofs.lemmas.Bool.{true≢false, cases_eq, eq-eqb, ne_eqb}
 use Rattle.std.proofs.lemmas.List.{get_or-set_same, get_or-set_other}
-use Rattle.hibits.specs.Left.{left, left-none}
+use Rattle.hibits.specs.Left.{left-none}
 use Rattle.key_index.specs.Keys.{IsListed, Exchanges, indices_with, is_key, items_of, key_at, list_at}
-use Rattle.key_index.proofs.Passing.{left-same}
+use Rattle.storages.specs.Slot.{Slot}
+use Rattle.key_index.specs.Indexed.{Keeps, IsIndexOf, key_in}
+use Rattle.key_index.proofs.Passing.{left-within}
 
 -- the keys after a write
 pub key_at-set : {Q : Type 0} (kept : List (Option Q)) (id : ℕ) (key : Option Q) → id < length kept → (i : ℕ) → key_at (set kept id key) i ≡ cond (eqb i id) key (key_at kept i)
@@ -29,7 +31,7 @@ module _ {Q : Type 0} {cmp : Q → Q → Ordering} where
   -- the same keys, the same lists
   pub listed_same : {Z : Type 0} (kept kept' : List (Option Q)) (lists lists' : BTreeMap Q (Vec ℕ Z)) → IsListed cmp kept lists → ((i : ℕ) → key_at kept' i ≡ key_at kept i) → ((q : Q) → list_at cmp lists' q ≡ list_at cmp lists q) → IsListed cmp kept' lists'
   listed_same kept kept' lists lists' listed keys same = record {
-    each = λ q. same q ∙ listed.each q ∙ sym (left-same (λ i. is_key cmp q (key_at kept i)) (λ i. is_key cmp q (key_at kept' i)) (λ i. ap (is_key cmp q) (keys i)));
+    each = λ q. same q ∙ listed.each q ∙ sym (left-within (λ i. is_key cmp q (key_at kept i)) (λ i. is_key cmp q (key_at kept' i)) (λ i _. ap (is_key cmp q) (keys i)));
   }
 
   -- another key of one index
@@ -41,3 +43,9 @@ module _ {Q : Type 0} {cmp : Q → Q → Ordering} where
         (λ j other. ap (is_key cmp q) (keys j ∙ ap (λ (b : Bool). cond b key (key_at kept j)) (ne_eqb j id other)))
         (listed.each q);
   }
+
+-- where the keys of a storage are kept, the lists are those of the index from scratch
+pub index_of_keys : {T Q : Type 0} (key : T → Q) (cmp : Q → Q → Ordering) (kept : List (Option Q)) (s : Slot T) → Keeps key kept s → IsIndexOf key cmp kept s
+index_of_keys key cmp kept s keeps = record {
+  each = λ q. left-within (λ i. is_key cmp q (key_in key s i)) (λ i. is_key cmp q (key_at kept i)) (λ i lt. ap (is_key cmp q) (keeps.each i lt));
+}

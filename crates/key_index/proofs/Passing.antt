@@ -1,16 +1,21 @@
 -- The list of the indices that pass a test, where the test changes at one index.
-use Rattle.std.proofs.Common.{◌≡◌, ◌+◌, ◌-◌, ◌<◌, ◌≤◌, ℕ, zero, suc, Bool, true, false, cond, List, [], ◌∷◌, refl, ap, sym, ◌∙◌, subst, arith, ltb, eqb, inl, inr}
-use Rattle.std.proofs.lemmas.Bool.{cases_eq, lt-ltb, le-ltb, ne_eqb, eq-eqb, cond-true, cond-false}
+use Rattle.std.proofs.Common.{◌≡◌, ◌+◌, ◌-◌, ◌<◌, ◌≤◌, ℕ, zero, suc, Bool, true, false, cond, List, ◌∷◌, refl, ap, sym, ◌∙◌, arith, eqb, inl, inr}
+use Rattle.std.proofs.lemmas.Bool.{cases_eq, lt-ltb, le-ltb, ne_eqb, eq-eqb}
 use Rattle.hibits.specs.declared.limits.TheConstants.{INDEX_LIMIT}
 use Rattle.hibits.specs.Left.{passing, left}
 use Rattle.key_index.specs.Indices.{with_index, without_index}
 
-passing-agree : (p p' : ℕ → Bool) (n a : ℕ) → ((j : ℕ) → a ≤ j → p' j ≡ p j) → passing p' a n ≡ passing p a n
+-- tests that agree below the limit give one list
+passing-within : (p p' : ℕ → Bool) (n a : ℕ) → ((j : ℕ) → a ≤ j → j < a + n → p' j ≡ p j) → passing p' a n ≡ passing p a n
 unfolding passing
-passing-agree p p' zero a same = refl
-passing-agree p p' (suc n) a same =
-    let rest = passing-agree p p' n (suc a) (λ j le. same j (omega arith)) in
-    ap (λ b. cond b (a ∷ passing p' (suc a) n) (passing p' (suc a) n)) (same a (omega arith)) ∙ ap (λ xs. cond (p a) (a ∷ xs) xs) rest
+passing-within p p' zero a same = refl
+passing-within p p' (suc n) a same =
+    let rest = passing-within p p' n (suc a) (λ j le lt. same j (omega arith) (omega arith)) in
+    ap (λ b. cond b (a ∷ passing p' (suc a) n) (passing p' (suc a) n)) (same a (omega arith) (omega arith)) ∙ ap (λ xs. cond (p a) (a ∷ xs) xs) rest
+
+pub left-within : (p p' : ℕ → Bool) → ((j : ℕ) → j < INDEX_LIMIT → p' j ≡ p j) → left p' 0 ≡ left p 0
+unfolding left
+left-within p p' same = passing-within p p' (INDEX_LIMIT - 0) 0 (λ j _ lt. same j (omega arith))
 
 -- an index before all of a list goes to its front
 pub with_before : (i x : ℕ) (xs : List ℕ) → i < x → with_index i (x ∷ xs) ≡ i ∷ x ∷ xs
@@ -57,7 +62,7 @@ passing-put p p' zero a i le lt is others = absurd (omega arith)
 passing-put p p' (suc n) a i le lt is others =
     elim (cases_eq a i) [
       | inl same ↦
-          let agree = passing-agree p p' n (suc a) (λ j above. others j (λ e. absurd (omega (arith, e, same)))) in
+          let agree = passing-within p p' n (suc a) (λ j above _. others j (λ e. absurd (omega (arith, e, same)))) in
           ap (λ b. cond b (a ∷ passing p' (suc a) n) (passing p' (suc a) n)) (ap p' same ∙ is)
           ∙ ap (λ xs. a ∷ xs) agree
           ∙ elim (p a) as (λ b. a ∷ passing p (suc a) n ≡ with_index i (cond b (a ∷ passing p (suc a) n) (passing p (suc a) n))) [
@@ -81,7 +86,7 @@ passing-cut p p' zero a i is others = refl
 passing-cut p p' (suc n) a i is others =
     elim (cases_eq a i) [
       | inl same ↦
-          let agree = passing-agree p p' n (suc a) (λ j above. others j (λ e. absurd (omega (arith, e, same)))) in
+          let agree = passing-within p p' n (suc a) (λ j above _. others j (λ e. absurd (omega (arith, e, same)))) in
           ap (λ b. cond b (a ∷ passing p' (suc a) n) (passing p' (suc a) n)) (ap p' same ∙ is)
           ∙ agree
           ∙ elim (p a) as (λ b. passing p (suc a) n ≡ without_index i (cond b (a ∷ passing p (suc a) n) (passing p (suc a) n))) [
@@ -107,8 +112,3 @@ left-put p p' i lt is others = passing-put p p' (INDEX_LIMIT - 0) 0 i (omega ari
 pub left-cut : (p p' : ℕ → Bool) (i : ℕ) → p' i ≡ false → ((j : ℕ) → (j ≡ i → ⊥) → p' j ≡ p j) → left p' 0 ≡ without_index i (left p 0)
 unfolding left
 left-cut p p' i is others = passing-cut p p' (INDEX_LIMIT - 0) 0 i is others
-
--- the same test, the same list
-pub left-same : (p p' : ℕ → Bool) → ((j : ℕ) → p' j ≡ p j) → left p' 0 ≡ left p 0
-unfolding left
-left-same p p' same = passing-agree p p' (INDEX_LIMIT - 0) 0 (λ j _. same j)

@@ -1,6 +1,6 @@
 use Rattle.std.proofs.Common.{sym, ◌∙◌}
 use Rattle.key_index.specs.Keys.{list_at}
-use Rattle.key_index.proofs.Exchanging.{moves, stays}
+use Rattle.key_index.proofs.Exchanging.{moves}
 use Rattle.key_index.proofs.lists.exchange.Goals as goal
 
 pub returns-clause-ok : goal.returns-clause-ok

@@ -1,10 +1,7 @@
-use Rattle.std.proofs.Common.{arith, rules, ◌≡◌, ◌<◌, ℕ}
+use Rattle.std.proofs.Common.{arith, rules}
 use Rattle.std.proofs.lemmas.Grind.{common_steps}
-use Rattle.hibits.specs.declared.limits.TheConstants.{INDEX_LIMIT}
 use Rattle.storages.specs.WriteView.{slot}
-use Rattle.key_index.specs.Keys.{key_at}
-use Rattle.key_index.specs.Indexed.{Keeps, key_in}
-use Rattle.key_index.proofs.Scratch.{index_of_keys}
+use Rattle.key_index.proofs.Kept.{index_of_keys}
 use Rattle.key_index.proofs.key_index.KeyIndex.refresh.Goals as goal
 
 pub returns-then-done-clause-ok : goal.returns-then-done-clause-ok
