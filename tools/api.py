@@ -1,5 +1,6 @@
 #!/usr/bin/env python3
-"""Makes docs/API.md of the public items of the libraries: their `///` and their signatures, without clauses and bodies.
+"""Makes docs/API.md of the public items of the libraries: their `///`, their signatures, what a call requires, and what a trait asks of who implements it, without
+what is ensured and without bodies.
 
     python3 tools/api.py [--check]
 
@@ -11,6 +12,8 @@ import sys
 LIBRARIES = ["pages", "hibits", "entities", "storages", "joins", "joins_parallel", "phase_threads", "key_index", "saveload", "specs", "composed", "slots", "specs_run"]
 ITEM = re.compile(r"pub (?:(?:unsafe|const|final) )*(struct|enum|trait|fn|const|type) (\w+)")
 METHOD = re.compile(r"(?:pub )?(?:(?:unsafe|const|final) )*(fn|type|const) (\w+)")
+GHOST = re.compile(r"ghost (\w+): \{ (.*) \};$")
+REQUIRES = re.compile(r"requires(?: (\w+))? \{ (.*) \}$")
 STOPS = ("requires", "ensures", "ghost ", "{", "#[")
 
 
@@ -19,7 +22,7 @@ class Item:
 
     def __init__(self, kind, name, doc, signature, where):
         self.kind, self.name, self.doc, self.signature, self.where = kind, name, doc, signature, where
-        self.inside, self.impls = [], []
+        self.inside, self.impls, self.requires = [], [], []
 
 
 def sources(crate):
@@ -44,6 +47,18 @@ def signature(lines, at, deep):
     return told.rstrip(" ,")
 
 
+def requires(lines, at):
+    """What a call of the function that begins at a line requires."""
+    found = []
+    for line in lines[at + 1 :]:
+        text = line.strip()
+        if it := REQUIRES.match(text):
+            found.append(it[2])
+        elif text in ("{", "}", "") or text.startswith(("///", "pub fn", "fn ", "final fn")):
+            break
+    return found
+
+
 def body(lines, at, indent):
     """The lines of the block that begins at a line, up to the brace that ends it."""
     first = at
@@ -60,19 +75,21 @@ def body(lines, at, indent):
 
 
 def pieces(lines, indent):
-    """Each line of an indent that begins something, with the `///` before it."""
-    doc = []
+    """Each line of an indent that begins something, with the `///` before it; at what a trait asks in its own words the `//` before it."""
+    doc, plain = [], []
     for number, line in enumerate(lines):
         text = line[len(indent) :]
         if not line.startswith(indent) or text.startswith((" ", "}", ")")):
             continue
         if text.startswith("///"):
             doc.append(text[3:].removeprefix(" "))
-        elif text.startswith("#[") or text.startswith("//"):
+        elif text.startswith("//"):
+            plain.append(text[2:].removeprefix(" "))
+        elif text.startswith("#["):
             continue
         elif text:
-            yield number, text, doc
-            doc = []
+            yield number, text, doc or (plain if GHOST.match(text) else [])
+            doc, plain = [], []
 
 
 def inside(kind, lines, at, where):
@@ -84,6 +101,9 @@ def inside(kind, lines, at, where):
             it = METHOD.match(text)
             if it:
                 found.append(Item(it[1], it[2], doc, signature(block, number, 4), where))
+                found[-1].requires = requires(block, number)
+            elif it := GHOST.match(text):
+                found.append(Item("ghost", it[1], doc, f"ghost {it[1]}: {it[2]}", where))
         elif kind == "enum":
             it = re.match(r"([A-Z]\w*)", text)
             if it and not text.startswith("ghost"):
@@ -111,6 +131,7 @@ def read(crate):
             found = ITEM.match(text)
             if found:
                 item = Item(found[1], found[2], doc, signature(lines, at, 0), path)
+                item.requires = requires(lines, at) if found[1] == "fn" else []
                 item.inside = inside(found[1], lines, at, path) if found[1] in ("struct", "enum", "trait") else []
                 items[module_of(crate, path), found[2]] = item
             elif text.startswith(("impl", "unsafe impl")):
@@ -154,12 +175,13 @@ def with_impls(own, blocks):
             if text.startswith("pub ") and METHOD.match(text):
                 it = METHOD.match(text)
                 item.inside.append(Item(it[1], it[2], doc, signature(block, number, 4), path))
+                item.inside[-1].requires = requires(block, number)
 
 
 def page():
     """The page, and the public items that have no `///`."""
     told, bare = [], []
-    told += ["# The public items", "", "Made by `python3 tools/api.py` from the sources; what each promises stands in its clauses there, and docs/PROMISES.md says which carries what.", ""]
+    told += ["# The public items", "", "Made by `python3 tools/api.py` from the sources; what each ensures stands in its clauses there, and docs/PROMISES.md says which carries what. A `ghost` line of a trait is what who implements it states: a word that its clauses use, or a law.", ""]
     for crate in LIBRARIES:
         if not os.path.isdir(f"crates/{crate}/src"):
             continue
@@ -170,17 +192,23 @@ def page():
             told += [f"## `{crate}`", "", " ".join(line[3:].strip() for line in it.read().split("\n") if line.startswith("//!")), ""]
         for item in own:
             told += entry(item)
-            bare += [f"{it.where}: {it.name}" for it in [item, *item.inside] if not it.doc and it.kind != "type"]
+            bare += [f"{it.where}: {it.name}" for it in [item, *item.inside] if not it.doc and it.kind not in ("type", "ghost")]
         if others:
             told += ["It gives again, from the crates below: " + ", ".join(f"`{it}`" for it in others) + ".", ""]
     return "\n".join(told), bare
+
+
+def asked(item):
+    """What a call requires, in a sentence."""
+    return "It requires " + ", and ".join(f"`{it}`" for it in item.requires) + "."
 
 
 def entry(item):
     """The lines of one item."""
     told = [f"### {item.kind} `{item.name}`", "", f"`{item.signature}`", ""]
     told += [" ".join(item.doc).replace("  ", " "), ""] if item.doc else []
-    told += [f"- `{it.signature}`" + (f": {' '.join(it.doc)}" if it.doc else "") for it in item.inside]
+    told += [asked(item), ""] if item.requires else []
+    told += [f"- `{it.signature}`" + (f": {' '.join(it.doc)}" if it.doc else "") + (f" {asked(it)}" if it.requires else "") for it in item.inside]
     told += [""] if item.inside else []
     traits = sorted({re.sub(r"<.*", "", it) for it in item.impls})
     told += ["Has the traits " + ", ".join(f"`{it}`" for it in traits) + ".", ""] if traits else []

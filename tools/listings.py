@@ -3,9 +3,9 @@
 The block behind `<!-- file FILE -->` is the whole file, and that behind `<!-- output NAME -->` what the example NAME prints; the picture docs/orbits.svg is what `orbits` prints.
 The lines that docs/SCRIPT.md shows below `./specs-run < examples/NAME.script`: are those of that script, each with its reply in examples/NAME.expected.
 
-    python3 tools/listings.py [--check]      writes each page of docs/ anew; --check only says whether that would change one
+    python3 tools/listings.py [--check]      writes README and each page of docs/ anew; --check only says whether that would change one
 
-A comment of another form is refused, and in TUTORIAL and USING each block that is no `sh` has such a comment before it.
+A comment of another form is refused, and in README, TUTORIAL and USING each block that is no `sh` has such a comment before it.
 
 An item begins at the first of its comment and attribute lines, and ends at the first line that is `}` or ends with `;` at its own depth.
 What the examples print is crates/examples/stdout, which the gate compares with what they do."""
@@ -19,7 +19,7 @@ LISTING = re.compile(r"^<!-- listing (\S+): (.+) -->$")
 FILE = re.compile(r"^<!-- file (\S+) -->$")
 OUTPUT = re.compile(r"^<!-- output (\S+) -->$")
 SESSION = re.compile(r"^`\./specs-run < (examples/\w+)\.script`:$")
-ALL_LISTED = ("docs/TUTORIAL.md", "docs/USING.md")
+ALL_LISTED = ("README.md", "docs/TUTORIAL.md", "docs/USING.md")
 PRINTED = "crates/examples/stdout"
 PICTURES = {"docs/orbits.svg": "orbits"}
 
@@ -106,7 +106,7 @@ def made(page, text):
 
 
 def main():
-    pages = {page: made(page, read(page)) for page in sorted(glob.glob("docs/*.md"))}
+    pages = {page: made(page, read(page)) for page in ["README.md", *sorted(glob.glob("docs/*.md"))]}
     pages |= {picture: "\n".join(output(name)) + "\n" for picture, name in PICTURES.items()}
     changed = [page for page, new in pages.items() if not os.path.exists(page) or read(page) != new]
     if "--check" in sys.argv[1:]:

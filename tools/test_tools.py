@@ -440,6 +440,7 @@ class Listings(Tree):
         self.write("examples/a.script", "create\nalive 0:1\n")
         self.write("examples/a.expected", "0:1\ntrue\n")
         self.write("docs/SCRIPT.md", "`./specs-run < examples/a.script`:\n\n    create      0:1\n    alive 0:1   true\n\nEnd.\n")
+        self.write("README.md", "<!-- listing src/a.rt: one -->\n```rust\nfn one() {\n}\n```\n")
         self.page("<!-- listing src/a.rt: one -->")
 
     def page(self, mark):
@@ -459,6 +460,14 @@ class Listings(Tree):
     def test_another_listing(self):
         self.write("src/a.rt", "fn one() {\n    two()\n}\n")
         self.refuses(self.check(), "docs/USING.md")
+
+    def test_another_listing_in_the_readme(self):
+        self.write("README.md", "<!-- listing src/a.rt: one -->\n```rust\nfn two() {\n}\n```\n")
+        self.refuses(self.check(), "README.md")
+
+    def test_code_in_the_readme_of_no_file(self):
+        self.write("README.md", "```rust\nfn two() {\n}\n```\n")
+        self.refuses(self.check(), "README.md")
 
     def test_another_session(self):
         self.write("examples/a.expected", "0:1\nfalse\n")
