@@ -3,7 +3,7 @@ ghost use Rattle.std.specs.Prelude.{◌≡◌, None, IfSome, IfNone};
 ghost use Rattle.std.specs.FinMap as map;
 ghost use Rattle.storages.specs.Meaning.{HasRoom};
 
-use crate::own_world::{Game, Load, Parts};
+use crate::own_world::{Game, Load, Stores};
 use composed::{
     BitSetAll, Core, EntitiesRes, EntryJoin, Index, MaskedStorage, RestrictedStorageMut, WithOne,
 };
@@ -30,7 +30,7 @@ fn first_living_has(
 }
 
 /// The first that lives gets a load, through the entries of its storage. Nobody is born or dies, and no other storage changes.
-pub fn first_living_is_loaded(core: &mut Core<Parts>, load: Load) -> Option<Option<Index>>
+pub fn first_living_is_loaded(core: &mut Core<Stores>, load: Load) -> Option<Option<Index>>
     ensures loaded { IfSome result (λ found. IfSome found (λ i. IfSome core.old.parts.storages.rest.first.field (λ before. IfSome core.new.parts.storages.rest.first.field (λ after. after.map ≡ map.insert before.map i load)))) }
     ensures people { core.new.parts.entities ≡ core.old.parts.entities }
     ensures first { core.new.parts.storages.first ≡ core.old.parts.storages.first }

@@ -60,30 +60,30 @@ impl Component for Leader {
 }
 
 /// The storages: one for each component type.
-pub type Parts = Of5<Place, Speed, Load, Frozen, Leader>;
+pub type Stores = Of5<Place, Speed, Load, Frozen, Leader>;
 
 /// The world over them.
-pub type Game = World<Parts>;
+pub type Game = World<Stores>;
 
 /// A game that begins: each component belongs to a living entity, and a run keeps that.
 pub fn new_game(alloc: Global) -> Game
-    ensures { OnlyLiving (state_of ⟦<Parts as Held>⟧.table ⟦<Parts as Held>⟧.ids result) }
+    ensures { OnlyLiving (state_of ⟦<Stores as Held>⟧.table ⟦<Stores as Held>⟧.ids result) }
 {
     new_world(alloc)
 }
 
 /// The slot of a component type, by the type's name.
-pub fn load_slot() -> <Parts as Held>::Slot
+pub fn load_slot() -> <Stores as Held>::Slot
     ensures { result ≡ Rest (First TheSole) }
 {
-    slot::<Load, Parts, _>()
+    slot::<Load, Stores, _>()
 }
 
 /// A command, with a type for a slot.
-pub fn loaded(e: Entity, load: Load) -> Command<Parts>
+pub fn loaded(e: Entity, load: Load) -> Command<Stores>
     ensures { result ≡ Insert e (Rest (First load)) }
 {
-    Command::Insert(e, value::<_, Parts, _>(load))
+    Command::Insert(e, value::<_, Stores, _>(load))
 }
 
 /// A component that was put at an entity is found there, in whichever struct of storages.
@@ -104,7 +104,7 @@ pub fn put_and_found<T: Component<Storage: UnprotectedStorage<T>> + Copy, S: Has
 
 /// The same, of the place of an entity of the game.
 pub fn moved_and_found(
-    storages: &mut Parts,
+    storages: &mut Stores,
     entities: &EntitiesRes,
     e: Entity,
     place: Place,

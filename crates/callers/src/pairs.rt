@@ -4,7 +4,7 @@ ghost use Rattle.std.specs.FinMap as map;
 ghost use Rattle.entities.specs.Population.{index_of};
 ghost use Rattle.specs.specs.State.{state_of};
 
-use crate::own_world::{Frozen, Game, Leader, Load, Parts, Place, Speed};
+use crate::own_world::{Frozen, Game, Leader, Load, Place, Speed, Stores};
 use composed::{
     Core, EntitiesRes, Entity, Held, INDEX_LIMIT, MaskedStorage, ThreeFields, TwoFields, WithThree,
     WithTwo,
@@ -35,7 +35,7 @@ fn is_at_its_leader(
 }
 
 /// One storage is written while another is read: an entity gets the place of its leader, and nothing but that place changes.
-pub fn gone_to_its_leader(storages: &mut Parts, e: Entity) -> Option<bool>
+pub fn gone_to_its_leader(storages: &mut Stores, e: Entity) -> Option<bool>
     ensures moved { IfSome result (λ done. IsTrue done → IfSome storages.old.rest.rest.rest.field (λ leaders. IfSome storages.old.first.first.field (λ before. IfSome storages.new.first.first.field (λ after. IfSome (map.get leaders.map (index_of e)) (λ l. IfSome (map.get before.map (index_of l.0)) (λ p. after.map ≡ map.insert before.map (index_of e) p)))))) }
     ensures speeds { storages.new.first.rest ≡ storages.old.first.rest }
     ensures rest { storages.new.rest ≡ storages.old.rest }
@@ -48,7 +48,7 @@ pub fn gone_to_its_leader(storages: &mut Parts, e: Entity) -> Option<bool>
 }
 
 /// The same of each of a list, one after the other: nothing but places changes.
-pub fn all_gone_to_their_leaders(storages: &mut Parts, list: &[Entity]) -> Option<()>
+pub fn all_gone_to_their_leaders(storages: &mut Stores, list: &[Entity]) -> Option<()>
     ensures speeds { storages.new.first.rest ≡ storages.old.first.rest }
     ensures rest { storages.new.rest ≡ storages.old.rest }
     ensures same { IfNone result (storages.new ≡ storages.old) }
@@ -84,7 +84,7 @@ fn is_loaded(
 }
 
 /// Both are written, of which the first stands behind the second in the struct: an entity is loaded, and slower.
-pub fn loaded_and_slower(storages: &mut Parts, e: Entity, load: Load, speed: Speed) -> Option<bool>
+pub fn loaded_and_slower(storages: &mut Stores, e: Entity, load: Load, speed: Speed) -> Option<bool>
     ensures loads { IfSome result (λ done. IsTrue done → IfSome storages.old.rest.first.field (λ before. IfSome storages.new.rest.first.field (λ after. after.map ≡ map.insert before.map (index_of e) load))) }
     ensures speeds { IfSome result (λ done. IsTrue done → IfSome storages.old.first.rest.field (λ before. IfSome storages.new.first.rest.field (λ after. after.map ≡ map.insert before.map (index_of e) speed))) }
     ensures places { storages.new.first.first ≡ storages.old.first.first }
@@ -98,7 +98,7 @@ pub fn loaded_and_slower(storages: &mut Parts, e: Entity, load: Load, speed: Spe
 }
 
 /// Both of one part of the struct are read: whether an entity is frozen and has a leader. Nothing changes.
-pub fn is_led_while_frozen(storages: &mut Parts, e: Entity) -> Option<bool>
+pub fn is_led_while_frozen(storages: &mut Stores, e: Entity) -> Option<bool>
     ensures { storages.new ≡ storages.old }
 {
     storages.with_two(|frozen: &mut MaskedStorage<Frozen>, leaders: &mut MaskedStorage<Leader>| {
@@ -119,7 +119,7 @@ fn is_living_at_its_leader(
 }
 
 /// In a core, with its entities beside: an entity that is alive gets the place of its leader. Nobody is born or dies.
-pub fn led_in_core(core: &mut Core<Parts>, e: Entity) -> Option<bool>
+pub fn led_in_core(core: &mut Core<Stores>, e: Entity) -> Option<bool>
     ensures moved { IfSome result (λ done. IsTrue done → IfSome core.old.parts.storages.rest.rest.rest.field (λ leaders. IfSome core.old.parts.storages.first.first.field (λ before. IfSome core.new.parts.storages.first.first.field (λ after. IfSome (map.get leaders.map (index_of e)) (λ l. IfSome (map.get before.map (index_of l.0)) (λ p. after.map ≡ map.insert before.map (index_of e) p)))))) }
     ensures people { core.new.parts.entities ≡ core.old.parts.entities }
     ensures speeds { core.new.parts.storages.first.rest ≡ core.old.parts.storages.first.rest }
@@ -133,7 +133,7 @@ pub fn led_in_core(core: &mut Core<Parts>, e: Entity) -> Option<bool>
 
 /// The same in a world. Its queue stays.
 pub fn led_in_world(game: &mut Game, e: Entity) -> Option<bool>
-    ensures people { (state_of ⟦<Parts as Held>⟧.table ⟦<Parts as Held>⟧.ids game.new).people ≡ (state_of ⟦<Parts as Held>⟧.table ⟦<Parts as Held>⟧.ids game.old).people }
+    ensures people { (state_of ⟦<Stores as Held>⟧.table ⟦<Stores as Held>⟧.ids game.new).people ≡ (state_of ⟦<Stores as Held>⟧.table ⟦<Stores as Held>⟧.ids game.old).people }
     ensures rest { game.new.parts.core.parts.storages.rest ≡ game.old.parts.core.parts.storages.rest }
     ensures queue { game.new.parts.lazy ≡ game.old.parts.lazy }
     ensures same { IfNone result (game.new ≡ game.old) }
@@ -159,7 +159,7 @@ fn is_loaded_somewhere(
 }
 
 /// Of three storages two are written, in an order of the caller's: an entity that has a place is loaded, and slower.
-pub fn loaded_somewhere(storages: &mut Parts, e: Entity, load: Load, speed: Speed) -> Option<bool>
+pub fn loaded_somewhere(storages: &mut Stores, e: Entity, load: Load, speed: Speed) -> Option<bool>
     ensures loads { IfSome result (λ done. IsTrue done → IfSome storages.old.rest.first.field (λ before. IfSome storages.new.rest.first.field (λ after. after.map ≡ map.insert before.map (index_of e) load))) }
     ensures speeds { IfSome result (λ done. IsTrue done → IfSome storages.old.first.rest.field (λ before. IfSome storages.new.first.rest.field (λ after. after.map ≡ map.insert before.map (index_of e) speed))) }
     ensures places { storages.new.first.first ≡ storages.old.first.first }
@@ -174,7 +174,7 @@ pub fn loaded_somewhere(storages: &mut Parts, e: Entity, load: Load, speed: Spee
 }
 
 /// The same in a core, where the entity has to be alive.
-pub fn loaded_in_core(core: &mut Core<Parts>, e: Entity, load: Load, speed: Speed) -> Option<bool>
+pub fn loaded_in_core(core: &mut Core<Stores>, e: Entity, load: Load, speed: Speed) -> Option<bool>
     ensures people { core.new.parts.entities ≡ core.old.parts.entities }
     ensures places { core.new.parts.storages.first.first ≡ core.old.parts.storages.first.first }
     ensures rest { core.new.parts.storages.rest.rest ≡ core.old.parts.storages.rest.rest }

@@ -6,9 +6,8 @@ use crate::calls::{
 };
 use crate::stories::{self, told};
 use composed::Empty;
-use slots::{Health, Position};
+use slots::{Health, Position, ScriptJob};
 use specs::{CloneStorages, Command, Entity, Has, Job, Storages, World, WorldJob};
-use specs_run::ScriptJob;
 use std::alloc::{AllocError, Global};
 use std::process::Abort;
 use std::test::Fail;

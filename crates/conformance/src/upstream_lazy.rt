@@ -12,12 +12,11 @@ use crate::listed::Listed;
 use crate::own_jobs::{listing, lists};
 use crate::stories::{self, told};
 use composed::Empty;
-use slots::{Health, Position};
+use slots::{Health, Position, ScriptJob};
 use specs::{
     Builder, CloneStorages, Command, Core, Entity, Has, LazyUpdate, Parts, Refusal, Storages,
     World, WorldJob,
 };
-use specs_run::ScriptJob;
 use std::alloc::{AllocError, Global};
 use std::process::Abort;
 use std::test::Fail;

@@ -1,5 +1,5 @@
 //! Entities that move: two component types, a system over their storages, and a few steps.
-use crate::game::{Parts, Position, Velocity};
+use crate::game::{Position, Stores, Velocity};
 use anyhow::Result;
 use composed::{Builder, Empty, Entity, ForEach, Has, MaskedStorage, TwoFields, World};
 use std::alloc::{AllocError, Global};
@@ -21,7 +21,7 @@ pub trait Moves {
     fn step(&mut self) -> Result<(), AllocError>;
 }
 
-impl Moves for Parts {
+impl Moves for Stores {
     fn step(&mut self) -> Result<(), AllocError> {
         let moved = self.with_two(|positions: &mut MaskedStorage<
             Position,
@@ -102,5 +102,5 @@ fn told<P, V, S: Empty + Has<Position, P> + Has<Velocity, V> + Moves + Drop>(
 
 /// Where all are after each step.
 pub fn basic(alloc: Global) -> Result<String> {
-    told::<_, _, Parts>(alloc)
+    told::<_, _, Stores>(alloc)
 }

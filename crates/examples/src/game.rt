@@ -49,4 +49,4 @@ impl Relation for Follows {
 }
 
 /// The storages of a world: of positions, and of velocities.
-pub type Parts = Of2<Position, Velocity>;
+pub type Stores = Of2<Position, Velocity>;

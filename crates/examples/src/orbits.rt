@@ -1,39 +1,35 @@
 //! Particles that fly around a sun, as a picture of their paths.
 use crate::basic::{Moves, place};
-use crate::game::{Parts, Position, Velocity};
+use crate::game::{Position, Stores, Velocity};
 use anyhow::Result;
-use composed::{Both, Has, Join, JoinMut, MaskedStorage, World};
+use composed::{ForEach, Has, MaskedStorage, TwoFields, World};
+use std::alloc::AllocError;
 
 /// Pulls each particle to the sun, which is at the origin: the nearer, the stronger.
-fn pull_all(velocities: &mut MaskedStorage<Velocity>, positions: &MaskedStorage<Position>) {
-    let mut cursor = velocities.join_mut(positions);
-    while let Some(_id) = cursor.next() {
-        if let Some(position) = cursor.beside() {
-            if let Ok(velocity) = cursor.item() {
-                let distance = position.x.hypot(position.y);
-                let pull = -1800.0 / (distance * distance * distance);
-                velocity.x += position.x * pull;
-                velocity.y += position.y * pull;
-            }
-        }
-    }
+fn pull_all(
+    velocities: &mut MaskedStorage<Velocity>,
+    positions: &MaskedStorage<Position>,
+) -> Result<(), AllocError> {
+    velocities.for_each_with(positions, |velocity: &mut Velocity, position: &Position| {
+        let distance = position.x.hypot(position.y);
+        let pull = -1800.0 / (distance * distance * distance);
+        velocity.x += position.x * pull;
+        velocity.y += position.y * pull;
+    })
 }
 
 /// Storages of particles that are pulled.
 pub trait Pulls: Moves {
     /// The pull of one step.
-    fn pull(&mut self);
+    fn pull(&mut self) -> Result<(), AllocError>;
 }
 
-impl Pulls for Parts {
-    fn pull(&mut self) {
-        let Both {
-            first: positions,
-            rest: velocities,
-        } = self;
-        if let (Some(positions), Some(velocities)) = (&positions.field, &mut velocities.field) {
-            pull_all(velocities, positions);
-        }
+impl Pulls for Stores {
+    fn pull(&mut self) -> Result<(), AllocError> {
+        let pulled = self.with_two(|positions: &mut MaskedStorage<
+            Position,
+        >, velocities: &mut MaskedStorage<Velocity>| { pull_all(velocities, positions) });
+        pulled.unwrap_or(Ok(()))
     }
 }
 
@@ -59,14 +55,14 @@ fn launch<P, V, S: Has<Position, P> + Has<Velocity, V>>(world: &mut World<S>) ->
 /// A dot for each particle, in its own colour.
 fn draw<P, S: Has<Position, P>>(picture: &mut String, world: &World<S>) -> Result<()> {
     let positions = world.read_storage::<Position, _>()?;
-    let mut walk = (world.entities(), &positions).join();
-    while let Some((entity, position)) = walk.next() {
-        let Position { x, y } = *position;
-        let hue = entity.id() % 5 * 72;
-        writeln!(
-            picture,
-            "<circle cx=\"{x:.1}\" cy=\"{y:.1}\" r=\"1\" fill=\"hsl({hue},60%,45%)\"/>"
-        )?;
+    for id in positions.mask().iter() {
+        if let Some(Position { x, y }) = positions.storage().get(id).copied() {
+            let hue = id % 5 * 72;
+            writeln!(
+                picture,
+                "<circle cx=\"{x:.1}\" cy=\"{y:.1}\" r=\"1\" fill=\"hsl({hue},60%,45%)\"/>"
+            )?;
+        }
     }
     Ok(())
 }
@@ -80,11 +76,15 @@ pub fn fly<P, V, S: Has<Position, P> + Has<Velocity, V> + Pulls>(
     launch(world)?;
     writeln!(
         picture,
-        "<svg xmlns=\"http://www.w3.org/2000/svg\" viewBox=\"-200 -200 400 400\">"
+        "<svg xmlns=\"http://www.w3.org/2000/svg\" viewBox=\"-120 -185 325 310\">"
+    )?;
+    writeln!(
+        picture,
+        "<text x=\"-110\" y=\"-170\" font-size=\"10\">Five particles around a sun, a dot each step: the slower, the denser</text>"
     )?;
     writeln!(picture, "<circle r=\"8\" fill=\"orange\"/>")?;
     for _step in 0..steps {
-        world.parts().core.parts().storages.pull();
+        world.parts().core.parts().storages.pull()?;
         world.parts().core.parts().storages.step()?;
         draw(picture, world)?;
     }

@@ -1,160 +1,139 @@
-//! Entities that lead one another, saved as JSON and loaded elsewhere.
-use crate::game::Follows;
-use crate::story::{Fresh, told_of};
-use anyhow::{Result, bail};
-use composed::{
-    Component, EntitiesRes, Entity, EntityData, Join, Link, MarkerAllocator, MaskedStorage,
-    ReadStorage, SimpleMarker, SimpleMarkerAllocator, TryDefault, UnprotectedStorage, WriteStorage,
-    deserialize, from_json, serialize, to_json,
-};
-use std::alloc::Global;
+//! A level of entities with names that follow one another, saved as JSON and loaded into another world.
+ghost use Rattle.std.specs.Prelude.{Some};
 
-/// What is saved.
+use crate::game::Follows;
+use anyhow::Result;
+use composed::{
+    Both, Builder, Component, Empty, Entity, Has, HashMapStorage, JsonFields, Link, Marking, Of2,
+    Parts, SavedText, SavesWorld, SimpleMarker, SimpleMarkerAllocator, Storages, World, slot,
+};
+use std::alloc::{AllocError, Global};
+
+/// What an entity is called.
+#[derive(Debug, Drop)]
+pub struct Name(pub SavedText);
+
+impl Component for Name {
+    type Storage = HashMapStorage<Self>;
+}
+
+/// A name is saved as its text.
+impl JsonFields for Name {
+    type As = SavedText;
+
+    ghost fields = { λ n. n.0 };
+
+    ghost of_fields = { λ t. Some (record { 0 = t }) };
+
+    fn fields(&self, alloc: Global) -> Result<SavedText, AllocError> {
+        self.0.copy(alloc)
+    }
+
+    fn of_fields(saved: SavedText) -> Option<Name> {
+        Some(Name(saved))
+    }
+}
+
+/// What has a marker is saved.
 #[derive(Clone, Copy)]
 pub struct Saved;
 
 /// Names an entity in a saved text.
-type Name = SimpleMarker<Saved>;
+pub type Label = SimpleMarker<Saved>;
 
-/// What is saved of an entity: its name, and its leader's.
-type Record = EntityData<Name, (Option<Name>,)>;
+/// The storages of a level: names, who follows whom, and the markers beside them.
+pub type Level = Both<Of2<Name, Link<Follows>>, Marking<Label, SimpleMarkerAllocator<Saved>>>;
 
-/// A level: entities, with what is stored for them.
-struct Level {
-    entities: EntitiesRes,
-    leaders: MaskedStorage<Link<Follows>>,
-    names: MaskedStorage<Name>,
-    namer: SimpleMarkerAllocator<Saved>,
+/// What a level can do that asks for its very struct.
+trait Saves: Sized {
+    /// Loads into another what is saved of this. It answers the text.
+    fn carry(from: &mut Parts<Self>, to: &mut Parts<Self>, alloc: Global) -> Result<String>;
 }
 
-impl Drop for Level {
-    fn drop(self) {
-        let Level {
-            entities: _entities,
-            leaders: _leaders,
-            names: _names,
-            namer: _namer,
-        } = self;
+impl Saves for Level {
+    fn carry(from: &mut Parts<Self>, to: &mut Parts<Self>, alloc: Global) -> Result<String> {
+        let text = from.save_to_json::<(Name, Link<Follows>), _>(alloc)?;
+        to.load_from_json::<(Name, Link<Follows>), _>(alloc, text.as_str())?;
+        Ok(text)
     }
 }
 
-/// A storage without components.
-fn empty<T: Component>(alloc: Global) -> Result<MaskedStorage<T>>
+/// A world without entities.
+fn new<N, F, L, S>(alloc: Global) -> Result<World<S>>
 where
-    T::Storage: UnprotectedStorage<T> + TryDefault,
+    S: Empty + Storages + Has<Name, N> + Has<Link<Follows>, F> + Has<Label, L> + Drop,
 {
-    match T::Storage::try_default(alloc) {
-        Ok(inner) => Ok(MaskedStorage::new(alloc, inner)),
-        Err(_) => bail!("out of memory"),
-    }
+    let mut world = World::new(alloc, S::empty(alloc));
+    world.register::<Name, _>()?;
+    world.register::<Link<Follows>, _>()?;
+    world.register::<Label, _>()?;
+    Ok(world)
 }
 
-impl Fresh for Level {
-    fn fresh(alloc: Global) -> Result<Self> {
-        let leaders = empty(alloc)?;
-        let names = empty(alloc)?;
-        Ok(Level {
-            entities: EntitiesRes::new(alloc),
-            leaders,
-            names,
-            namer: SimpleMarkerAllocator::new(alloc),
-        })
-    }
-}
-
-/// One to save, and one to load into.
-struct Levels {
-    old: Level,
-    new: Level,
-}
-
-impl Drop for Levels {
-    fn drop(self) {
-        let Levels {
-            old: _old,
-            new: _new,
-        } = self;
-    }
-}
-
-impl Fresh for Levels {
-    fn fresh(alloc: Global) -> Result<Self> {
-        Ok(Levels {
-            old: Level::fresh(alloc)?,
-            new: Level::fresh(alloc)?,
-        })
-    }
-}
-
-/// An entity with a name.
-fn add(level: &mut Level) -> Result<Entity> {
-    let entity = level.entities.create()?;
-    let mut names = WriteStorage::new(&level.entities, &mut level.names);
-    level.namer.mark(entity, &mut names)?;
+/// An entity with a name, which is to be saved.
+fn add<N, L, S: Storages + Has<Name, N> + Has<Label, L>>(
+    world: &mut World<S>,
+    name: &str,
+    alloc: Global,
+) -> Result<Entity> {
+    let name = Name(SavedText::from_str(alloc, name)?);
+    let entity = world.create_entity()?.with(name)?.build();
+    world.parts().core.mark(slot::<Label, S, L>(), entity)?;
     Ok(entity)
 }
 
-/// From now on an entity follows another.
-fn follow(level: &mut Level, entity: Entity, leader: Entity) -> Result<()> {
-    WriteStorage::new(&level.entities, &mut level.leaders).insert(entity, Link::new(leader))?;
-    Ok(())
-}
-
-/// The text of a level.
-fn save(level: &Level, alloc: Global) -> Result<String> {
-    let leaders = ReadStorage::new(&level.entities, &level.leaders);
-    let names = ReadStorage::new(&level.entities, &level.names);
-    let list = serialize(alloc, &(leaders,), &names)?;
-    Ok(to_json(alloc, list.as_slice())?)
-}
-
-/// Takes a text's entities up in a level.
-fn load(level: &mut Level, alloc: Global, text: &str) -> Result<()> {
-    let list: Vec<Record> = from_json(alloc, text)?;
-    deserialize(
-        alloc,
-        &mut (&mut level.leaders,),
-        &mut level.entities,
-        &mut level.names,
-        &mut level.namer,
-        list,
-    )?;
+/// Three that follow one another in a circle.
+fn fill<N, F, L, S: Storages + Has<Name, N> + Has<Link<Follows>, F> + Has<Label, L>>(
+    world: &mut World<S>,
+    alloc: Global,
+) -> Result<()> {
+    let ann = add(world, "Ann", alloc)?;
+    let bea = add(world, "Bea", alloc)?;
+    let cid = add(world, "Cid", alloc)?;
+    let mut follows = world.write_storage::<Link<Follows>, _>()?;
+    follows.insert(ann, Link::new(bea))?;
+    follows.insert(bea, Link::new(cid))?;
+    follows.insert(cid, Link::new(ann))?;
     Ok(())
 }
 
 /// A line: who follows whom.
-fn show(text: &mut String, level: &Level) -> Result<()> {
+fn show<N, F, S: Has<Name, N> + Has<Link<Follows>, F>>(
+    text: &mut String,
+    world: &World<S>,
+) -> Result<()> {
+    let names = world.read_storage::<Name, _>()?;
+    let follows = world.read_storage::<Link<Follows>, _>()?;
     write!(text, "who follows whom:")?;
-    let mut walk = (&level.entities, &level.leaders).join();
-    while let Some((entity, leader)) = walk.next() {
-        write!(text, " {}->{}", entity.id(), leader.entity.id())?;
+    for id in follows.mask().iter() {
+        let link = follows.storage().get(id);
+        let leader = link.and_then(|link: &Link<Follows>| names.get(link.entity));
+        if let (Some(one), Some(leader)) = (names.storage().get(id), leader) {
+            write!(text, " {id}:{:?}->{:?}", one.0, leader.0)?;
+        }
     }
     writeln!(text)?;
     Ok(())
 }
 
-/// Three that follow one another in a circle.
-fn fill(level: &mut Level) -> Result<()> {
-    let first = add(level)?;
-    let second = add(level)?;
-    let third = add(level)?;
-    follow(level, first, second)?;
-    follow(level, second, third)?;
-    follow(level, third, first)
-}
-
 /// A level is saved, and loaded where another entity lives already.
-fn carry(levels: &mut Levels, text: &mut String, alloc: Global) -> Result<()> {
-    fill(&mut levels.old)?;
-    show(text, &levels.old)?;
-    let saved = save(&levels.old, alloc)?;
+fn told<N, F, L, S>(alloc: Global) -> Result<String>
+where
+    S: Storages + Has<Name, N> + Has<Link<Follows>, F> + Has<Label, L> + Saves + Empty + Drop,
+{
+    let mut text = String::new(alloc);
+    let mut old: World<S> = new(alloc)?;
+    fill(&mut old, alloc)?;
+    show(&mut text, &old)?;
+    let mut other: World<S> = new(alloc)?;
+    other.create_entity()?.build();
+    let saved = S::carry(old.parts().core.parts(), other.parts().core.parts(), alloc)?;
     writeln!(text, "{saved}")?;
-    levels.new.entities.create()?;
-    load(&mut levels.new, alloc, saved.as_str())?;
-    show(text, &levels.new)
+    show(&mut text, &other)?;
+    Ok(text)
 }
 
 /// Who follows whom before, the saved text, and who follows whom where it was loaded.
 pub fn saving(alloc: Global) -> Result<String> {
-    told_of::<Levels, _>(alloc, |levels, text| carry(levels, text, alloc))
+    told::<_, _, _, Level>(alloc)
 }

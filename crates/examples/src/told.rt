@@ -1,7 +1,7 @@
 //! What is told of a game. A function that names its storages is slow to prove, so one does for two examples.
 use crate::basic::Moves;
 use crate::cluster_bomb::explode;
-use crate::game::{Fuse, Parts, Position, Velocity};
+use crate::game::{Fuse, Position, Stores, Velocity};
 use crate::orbits::{Pulls, fly};
 use anyhow::{Result, bail};
 use composed::{Empty, Has, HashMapStorage, MaskedStorage, Storages, TryDefault, World};
@@ -28,7 +28,7 @@ where
 {
     match tale {
         Tale::ClusterBomb => explode(world, fuses, text),
-        Tale::Orbits => fly(world, text, 150),
+        Tale::Orbits => fly(world, text, 165),
     }
 }
 
@@ -49,7 +49,7 @@ where
 
 /// The storages are these here alone.
 fn told(alloc: Global, tale: Tale) -> Result<String> {
-    told_of::<_, _, Parts>(alloc, tale)
+    told_of::<_, _, Stores>(alloc, tale)
 }
 
 /// A bomb's way, and that of its fragments.

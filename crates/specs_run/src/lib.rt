@@ -5,12 +5,10 @@ mod parse;
 mod printed;
 mod saving;
 mod script;
-mod script_job;
 mod sets;
 mod slot_names;
 mod values;
 mod words;
 
 pub use script::run_script;
-pub use script_job::ScriptJob;
 pub use sets::NESTING_LIMIT;

@@ -1,9 +1,9 @@
 //! The lines of a script.
-use crate::script_job::ScriptJob;
 use crate::sets::set;
 use crate::slot_names::Named;
 use crate::values::Worded;
 use crate::words::{entity, index, number};
+use slots::ScriptJob;
 use specs::{Command, Entity, Held, Job, ReaderId};
 use std::alloc::{AllocError, Global};
 use std::str;

@@ -2,11 +2,10 @@
 use crate::parse::{Line, read};
 use crate::printed::Printed;
 use crate::saving::Saves;
-use crate::script_job::ScriptJob;
 use crate::slot_names::Named;
 use crate::values::Worded;
 use composed::Empty;
-use slots::Slots;
+use slots::{ScriptJob, Slots};
 use specs::{CloneStorages, Parts, World, WorldJob};
 use std::alloc::Global;
 use std::fmt::Display;

@@ -11,8 +11,8 @@ use Rattle.specs.specs.Lawful.{still_grows, still_lives, still_tells, pending_gr
 use Rattle.specs.specs.People.{Births, BirthWantsMemory, IsFull}
 use Rattle.specs.specs.Reached.{OnlyLiving}
 use Rattle.specs.specs.State.{State, OnPeople}
-use Rattle.specs_run.specs.declared.script_job.ScriptJob.{ScriptJob}
-use Rattle.specs_run.specs.declared.script_job.ScriptJob.TheVariants.{Again, Create}
+use Rattle.slots.specs.declared.script_job.ScriptJob.{ScriptJob}
+use Rattle.slots.specs.declared.script_job.ScriptJob.TheVariants.{Again, Create}
 
 module _ {K V : Type 0} where
   -- a pending birth, or nothing where no index is left

@@ -1,8 +1,0 @@
-use Rattle.std.proofs.Common.{◌≡◌, ◌-◌, ◌^◌}
-use Rattle.examples.proofs.saving.show.Given as goal
-
-abbrev pub invariant-loop-entity : goal.invariant-loop-entity
-invariant-loop-entity l = l.walk.keys.mask ≡ l.initial.walk.keys.mask
-
-abbrev pub decreases-loop-entity : goal.decreases-loop-entity
-decreases-loop-entity l = 64 ^ 4 - l.walk.keys.position
