@@ -80,7 +80,7 @@ pub fn fly<P, V, S: Has<Position, P> + Has<Velocity, V> + Pulls>(
     )?;
     writeln!(
         picture,
-        "<text x=\"-110\" y=\"-170\" font-size=\"10\">Five particles around a sun, a dot each step: the slower, the denser</text>"
+        "<text x=\"-110\" y=\"-170\" font-size=\"8\">Five particles around a sun, a dot each step: the slower, the denser</text>"
     )?;
     writeln!(picture, "<circle r=\"8\" fill=\"orange\"/>")?;
     for _step in 0..steps {
