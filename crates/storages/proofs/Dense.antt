@@ -1,13 +1,19 @@
 -- On dense tables.
-use Rattle.std.proofs.Common.{◌≡◌, ◌≢◌, ℕ, ◌+◌, ◌-◌, ◌<◌, ◌≤◌, true, false, nat_eq, nat_lt, cond, List, [], ◌∷◌, ◌++◌, length, get_or, refl, ap, sym, ◌∙◌, subst, zero, suc, arith, Some, None, is_some, ◌⊎◌, inl, inr}
+use Rattle.std.proofs.Common.{◌≡◌, ◌≢◌, ℕ, ◌+◌, ◌-◌, ◌*◌, ◌/◌, ◌<◌, ◌≤◌, true, false, ◌||◌, nat_eq, nat_lt, cond, List, [], ◌∷◌, ◌++◌, length, get_or, refl, ap, sym, ◌∙◌, subst, zero, suc, arith, Some, None, is_some, ◌⊎◌, inl, inr}
 use Rattle.std.specs.Prelude.{Option}
 use Rattle.std.specs.List.{slice_get, slice_set, swap_remove}
 use Rattle.std.specs.Option.{is_none}
 use Rattle.std.proofs.lemmas.Grind.{common_steps}
 use Rattle.std.proofs.lemmas.Bool.Decides.{nat_tests}
-use Rattle.std.proofs.lemmas.Bool.{false≢true}
+use Rattle.std.proofs.lemmas.Bool.{false≢true, or_right, cases_lt}
 use Rattle.std.proofs.lemmas.Option.{gets, get_or_from_slice_get, slice_get_within, slice_get-get_or}
-use Rattle.storages.specs.Dense.{has_there, value_there, value_of, IsConsistent, meaning_of}
+use Rattle.std.specs.Ordering.{nat_cmp}
+use Rattle.std.specs.Cmp.{nat_cmp_total, unsigned_tied}
+use Rattle.std.specs.FinSet as set
+use Rattle.pages.specs.Paged.{Paged, HasPage}
+use Rattle.std.proofs.Math.Nat.{suc-mul}
+use Rattle.std.proofs.lemmas.Nat.{mod_below, div-add-mod'}
+use Rattle.storages.specs.Dense.{has_there, value_there, value_of, IsConsistent, ArePaged, meaning_of}
 use Rattle.storages.specs.Meaning.{Touches, Puts, Frees, Shows, OrderAfter, extent_after}
 use Rattle.storages.specs.Slices.{Arranges}
 use Rattle.storages.specs.declared.event.ComponentEvent.{ComponentEvent}
@@ -248,14 +254,69 @@ module _ (n l : ℕ) (ids places : List ℕ) (C : IsConsistent n ids places) (id
       freed = ap is_none freed-removed;
     }
 
+-- ---- the pages of the table
+-- a removal takes no page away
+pub paged-removed : (len l : ℕ) (ids : List ℕ) (places : Paged ℕ) → ArePaged len ids places → (p d : ℕ) (ids'' : List ℕ) (places'' : Paged ℕ) → length ids ≡ l + 1 → p < length ids → ids'' ≡ swap_remove ids p d → places''.pages ≡ places.pages → ArePaged len ids'' places''
+paged-removed len l ids places P p d ids'' places'' size within e f = record { paged = λ k i h. stays k i (ap (λ (y : List ℕ). slice_get y k) (sym e) ∙ h) }
+  where
+    page : (k i : ℕ) → slice_get ids k ≡ Some i → HasPage len places'' i
+    page k i h = ap (λ s. set.contains s (i / len)) f ∙ P.paged k i h
+
+    stays : (k i : ℕ) → slice_get (swap_remove ids p d) k ≡ Some i → HasPage len places'' i
+    stays k i h = elim (cases_lt k l) [
+      | inl b ↦ elim (same_or k p) [
+        | inl s ↦ elim (cases_lt p l) [
+          | inl c ↦ page l i (sym (get-swap_remove_at ids p d l size c) ∙ sym (ap (slice_get (swap_remove ids p d)) s) ∙ h)
+          | inr c ↦ absurd (let q = s in omega (arith, q, b, c))
+        ]
+        | inr s ↦ page k i (sym (get-swap_remove_other ids p d k l size within b s) ∙ h)
+      ]
+      | inr b ↦ absurd (not_both (slice_get (swap_remove ids p d) k) i h (get-swap_remove_past ids p d k l size within b))
+    ]
+
+-- a page that was made
+module _ (pages pages'' : set.FinSet nat_cmp) (page : ℕ) (f : pages'' ≡ set.insert pages page) where
+  contains-made : (q : ℕ) → set.contains pages'' q ≡ (nat_eq q page || set.contains pages q)
+  contains-made q = ap (λ s. set.contains s q) f ∙ set.contains-insert nat_cmp_total pages page q ∙ ap (λ b. b || set.contains pages q) (unsigned_tied q page)
+
+  pub page-made : set.contains pages'' page ≡ true
+  page-made = contains-made page ∙ ap (λ b. b || set.contains pages page) (itself page)
+
+-- an insertion makes the page of its index
+pub paged-added : (len : ℕ) (ids : List ℕ) (places : Paged ℕ) → ArePaged len ids places → (id : ℕ) (ids'' : List ℕ) (places'' : Paged ℕ) → ids'' ≡ ids ++ id ∷ [] → places''.pages ≡ set.insert places.pages (id / len) → ArePaged len ids'' places''
+paged-added len ids places P id ids'' places'' e f = record { paged = λ k i h. there k i (same_or k (length ids)) (ap (λ (y : List ℕ). slice_get y k) (sym e) ∙ h) }
+  where
+    there : (k i : ℕ) → (k ≡ length ids) ⊎ (k ≢ length ids) → slice_get (ids ++ id ∷ []) k ≡ Some i → HasPage len places'' i
+    there k i (inl s) h =
+        let same : i ≡ id = some_inj (slice_get (ids ++ id ∷ []) k) i id h (ap (slice_get (ids ++ id ∷ [])) s ∙ get-push_last ids id) in
+        rw (ap (λ q. q / len) same) (page-made places.pages places''.pages (id / len) f)
+    there k i (inr s) h = contains-made places.pages places''.pages (id / len) f (i / len) ∙ or_right (nat_eq (i / len) (id / len)) _ (P.paged k i (sym (get-push_other ids id k s) ∙ h))
+
+-- a page reaches past each place of it
+pub in_page : (len at n : ℕ) → 0 < len → (at / len + 1) * len ≤ n → at < n
+in_page len at n some le =
+    let m = mod_below at len some in
+    let d = div-add-mod' at len in
+    let e : (at / len + 1) * len ≡ at / len * len + len = suc-mul' (at / len) len in
+    omega (arith, m, d, e, le)
+  where
+    suc-mul' : (a b : ℕ) → (a + 1) * b ≡ a * b + b
+    suc-mul' a b = rw (let p : a + 1 ≡ suc a = omega arith in p) (let q = suc-mul a b in omega (arith, q))
+
+-- a page more, and the places of before
+pub kept_places : (places longer : List ℕ) → ((i : ℕ) → get_or longer i 0 ≡ get_or places i 0) → length places ≤ length longer → (q k : ℕ) → slice_get places q ≡ Some k → slice_get longer q ≡ Some k
+kept_places places longer same le q k h =
+    let b = slice_get_within places q k h in
+    slice_get-get_or longer q 0 (omega (arith, b, le)) ∙ ap Some (same q ∙ get_or_from_slice_get places q k 0 h)
+
 -- what `remove` reads and leaves
 module _ {T : Type 0} (values : List T) (ids places : List ℕ) (n : ℕ) (C : IsConsistent n ids places) (len : length values ≡ n) (id place last cnt : ℕ)
-    (e₁ : place ≡ get_or places id place) (e₂ : last ≡ get_or ids (cnt - 1) last) (e₃ : cnt ≡ length ids) (req : is_some (value_of values ids places id) ≡ true) where
+    (e₁ : place ≡ get_or places id 0) (e₂ : last ≡ get_or ids (cnt - 1) last) (e₃ : cnt ≡ length ids) (req : is_some (value_of values ids places id) ≡ true) where
   where_id : IsAt ids id
   where_id = at_of_value n ids places C values len id req
 
   same_place : place ≡ where_id.0
-  same_place = e₁ ∙ get_or_from_slice_get places id where_id.0 place (C.placed where_id.0 id where_id.1)
+  same_place = e₁ ∙ get_or_from_slice_get places id where_id.0 0 (C.placed where_id.0 id where_id.1)
 
   at_id : slice_get ids place ≡ Some id
   at_id = ap (slice_get ids) same_place ∙ where_id.1
@@ -278,19 +339,27 @@ module _ {T : Type 0} (values : List T) (ids places : List ℕ) (n : ℕ) (C : I
   pub value-taken : (x : T) → x ≡ get_or values place x → value_of values ids places id ≡ Some x
   value-taken x e = value-read ∙ slice_get-get_or values place x (let a = place-in in let b = C.lengths in omega arith) ∙ ap Some (sym e)
 
-  pub consistent-after : (d k : ℕ) (ids'' : List ℕ) → ids'' ≡ swap_remove ids place d → k + 1 ≡ n → IsConsistent k ids'' (slice_set places last place)
-  consistent-after d k ids'' e s =
-      let back : cnt - 1 ≡ k = (let a = size_n in omega arith) in
-      subst (λ (y : List ℕ). IsConsistent k y (slice_set places last place)) (sym e)
-      (subst (λ j. IsConsistent j (swap_remove ids place d) (slice_set places last place)) back
-      (consistent-removed n (cnt - 1) ids places C id place last d size_n at_id at_end))
+  pub last-paged : (len : ℕ) (paged : Paged ℕ) → ArePaged len ids paged → HasPage len paged last
+  last-paged len paged P = P.paged (cnt - 1) last at_end
 
-  pub frees-after : (d : ℕ) (x : T) (ids'' : List ℕ) (values'' : List T) → ids'' ≡ swap_remove ids place d → values'' ≡ swap_remove values place x
-      → Frees (meaning_of values ids places) (meaning_of values'' ids'' (slice_set places last place)) id
-  frees-after d x ids'' values'' e f =
-      subst (λ (y : List ℕ). Frees (meaning_of values ids places) (meaning_of values'' y (slice_set places last place)) id) (sym e)
+  pub paged-after : (len d : ℕ) (paged paged'' : Paged ℕ) (ids'' : List ℕ) → ArePaged len ids paged → ids'' ≡ swap_remove ids place d → paged''.pages ≡ paged.pages → ArePaged len ids'' paged''
+  paged-after len d paged paged'' ids'' P e f = paged-removed len (cnt - 1) ids paged P place d ids'' paged'' (C.lengths ∙ size_n) place-in e f
+
+  pub consistent-after : (d k : ℕ) (ids'' places'' : List ℕ) → ids'' ≡ swap_remove ids place d → k + 1 ≡ n → places'' ≡ slice_set places last place → IsConsistent k ids'' places''
+  consistent-after d k ids'' places'' e s p =
+      let back : cnt - 1 ≡ k = (let a = size_n in omega arith) in
+      subst (λ (y : List ℕ). IsConsistent k ids'' y) (sym p)
+      (subst (λ (y : List ℕ). IsConsistent k y (slice_set places last place)) (sym e)
+      (subst (λ j. IsConsistent j (swap_remove ids place d) (slice_set places last place)) back
+      (consistent-removed n (cnt - 1) ids places C id place last d size_n at_id at_end)))
+
+  pub frees-after : (d : ℕ) (x : T) (ids'' places'' : List ℕ) (values'' : List T) → ids'' ≡ swap_remove ids place d → values'' ≡ swap_remove values place x → places'' ≡ slice_set places last place
+      → Frees (meaning_of values ids places) (meaning_of values'' ids'' places'') id
+  frees-after d x ids'' places'' values'' e f p =
+      subst (λ (y : List ℕ). Frees (meaning_of values ids places) (meaning_of values'' ids'' y) id) (sym p)
+      (subst (λ (y : List ℕ). Frees (meaning_of values ids places) (meaning_of values'' y (slice_set places last place)) id) (sym e)
       (subst (λ (y : List T). Frees (meaning_of values ids places) (meaning_of y (swap_remove ids place d) (slice_set places last place)) id) (sym f)
-      (frees-removed n (cnt - 1) ids places C id place last d size_n at_id at_end values x len))
+      (frees-removed n (cnt - 1) ids places C id place last d size_n at_id at_end values x len)))
 
 -- what `insert` leaves
 module _ {T : Type 0} (values : List T) (ids places longer : List ℕ) (n : ℕ) (C : IsConsistent n ids places) (len : length values ≡ n) (id : ℕ) (x : T)
@@ -304,20 +373,22 @@ module _ {T : Type 0} (values : List T) (ids places longer : List ℕ) (n : ℕ)
   kept : (q k : ℕ) → q ≢ id → slice_get places q ≡ Some k → slice_get (slice_set longer id n) q ≡ Some k
   kept q k ne e = get-set_other longer id n q ne ∙ keep q k e
 
-  pub consistent-added : (m : ℕ) (ids'' : List ℕ) (k : ℕ) → m ≡ n → ids'' ≡ ids ++ id ∷ [] → k ≡ n + 1 → IsConsistent k ids'' (slice_set longer id m)
-  consistent-added m ids'' k e f s =
-      subst (λ j. IsConsistent j ids'' (slice_set longer id m)) (sym s)
+  pub consistent-added : (m : ℕ) (ids'' places'' : List ℕ) (k : ℕ) → m ≡ n → ids'' ≡ ids ++ id ∷ [] → k ≡ n + 1 → places'' ≡ slice_set longer id m → IsConsistent k ids'' places''
+  consistent-added m ids'' places'' k e f s p =
+      subst (λ (y : List ℕ). IsConsistent k ids'' y) (sym p)
+      (subst (λ j. IsConsistent j ids'' (slice_set longer id m)) (sym s)
       (subst (λ (y : List ℕ). IsConsistent (n + 1) y (slice_set longer id m)) (sym f)
       (subst (λ j. IsConsistent (n + 1) (ids ++ id ∷ []) (slice_set longer id j)) (sym e)
-      (consistent-pushed n ids places (slice_set longer id n) C id nowhere (get-set_same longer id n reach) kept)))
+      (consistent-pushed n ids places (slice_set longer id n) C id nowhere (get-set_same longer id n reach) kept))))
 
-  pub puts-added : (m : ℕ) (ids'' : List ℕ) (values'' : List T) → m ≡ n → ids'' ≡ ids ++ id ∷ [] → values'' ≡ values ++ x ∷ []
-      → Puts (meaning_of values ids places) (meaning_of values'' ids'' (slice_set longer id m)) id x (Inserted id)
-  puts-added m ids'' values'' e f h =
-      subst (λ (y : List T). Puts (meaning_of values ids places) (meaning_of y ids'' (slice_set longer id m)) id x (Inserted id)) (sym h)
+  pub puts-added : (m : ℕ) (ids'' places'' : List ℕ) (values'' : List T) → m ≡ n → ids'' ≡ ids ++ id ∷ [] → values'' ≡ values ++ x ∷ [] → places'' ≡ slice_set longer id m
+      → Puts (meaning_of values ids places) (meaning_of values'' ids'' places'') id x (Inserted id)
+  puts-added m ids'' places'' values'' e f h p =
+      subst (λ (y : List ℕ). Puts (meaning_of values ids places) (meaning_of values'' ids'' y) id x (Inserted id)) (sym p)
+      (subst (λ (y : List T). Puts (meaning_of values ids places) (meaning_of y ids'' (slice_set longer id m)) id x (Inserted id)) (sym h)
       (subst (λ (y : List ℕ). Puts (meaning_of values ids places) (meaning_of (values ++ x ∷ []) y (slice_set longer id m)) id x (Inserted id)) (sym f)
       (subst (λ j. Puts (meaning_of values ids places) (meaning_of (values ++ x ∷ []) (ids ++ id ∷ []) (slice_set longer id j)) id x (Inserted id)) (sym e)
-      (puts-pushed n ids places (slice_set longer id n) C id nowhere (get-set_same longer id n reach) kept values x len)))
+      (puts-pushed n ids places (slice_set longer id n) C id nowhere (get-set_same longer id n reach) kept values x len))))
 
 -- ---- the slice
 some_within : {X : Type 0} (xs : List X) (k : ℕ) → k < length xs → is_some (slice_get xs k) ≡ true

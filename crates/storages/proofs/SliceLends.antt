@@ -1,14 +1,17 @@
 -- On components that are lent as a slice.
-use Rattle.std.proofs.Common.{◌≡◌, ℕ, Bool, true, false, cond, List, length, refl, ap, sym, ◌∙◌, arith, None, is_some, IsTrue, ◌⊎◌, inl, inr}
-use Rattle.std.specs.Prelude.{Option}
-use Rattle.std.specs.Coded.{Coded-set, coded_ℕ, coded_option}
+use Rattle.std.proofs.Common.{◌≡◌, ℕ, Bool, true, false, cond, List, length, refl, ap, sym, ◌∙◌, arith, None, is_some, IsTrue, Global, ◌⊎◌, inl, inr}
+use Rattle.std.specs.Prelude.{Option, Vec, vec_len}
+use Rattle.std.specs.Coded.{Coded-set, coded_bool, coded_ℕ, coded_option}
 use Rattle.std.specs.List.{refill}
 use Rattle.std.specs.FinMap as map
 use Rattle.std.specs.FinSet as set
 use Rattle.std.specs.Ordering.{nat_cmp}
 use Rattle.std.specs.Option.{is_none}
 use Rattle.std.proofs.lemmas.Option.{slice_get_within}
-use Rattle.storages.specs.Dense.{IsConsistent, value_of, meaning_of}
+use Rattle.pages.specs.Paged.{Paged}
+use Rattle.storages.specs.declared.kinds.dense_vec_storage.DenseVecStorage.{DenseVecStorage}
+use Rattle.storages.specs.declared.kinds.dense_vec_storage.TheConstants.{PAGE_LEN}
+use Rattle.storages.specs.Dense.{IsConsistent, ArePaged, value_of, meaning_of}
 use Rattle.storages.specs.Meaning.{Meaning, Masks, Shows}
 use Rattle.storages.specs.Slot.{Slot, slot_of}
 use Rattle.storages.specs.Slices.{item_beside}
@@ -23,6 +26,15 @@ IsConsistent-prop n ids places a b = λ j. record {
   lengths = Coded-set coded_ℕ _ _ a.lengths b.lengths j;
   placed = λ k i e. Coded-set (coded_option coded_ℕ) _ _ (a.placed k i e) (b.placed k i e) j;
 }
+
+-- so are its pages
+pub ArePaged-prop : (len : ℕ) (ids : List ℕ) (places : Paged ℕ) (a b : ArePaged len ids places) → a ≡ b
+ArePaged-prop len ids places a b = λ j. record { paged = λ k i e. Coded-set coded_bool _ _ (a.paged k i e) (b.paged k i e) j }
+
+-- a storage is told by its lists
+pub same-dense : {T : Type 0} (values : Vec T Global) (ids : Vec ℕ Global) (places : Paged ℕ) (a b : IsConsistent (vec_len values) ids.items places.items) (p q : ArePaged PAGE_LEN ids.items places)
+    → ◌≡◌ {A = DenseVecStorage T} (record { values = values; ids = ids; places = places; consistent = a; paged = p }) (record { values = values; ids = ids; places = places; consistent = b; paged = q })
+same-dense values ids places a b p q = λ j. record { values = values; ids = ids; places = places; consistent = IsConsistent-prop _ _ _ a b j; paged = ArePaged-prop _ _ _ p q j }
 
 module _ {T : Type 0} (n : ℕ) (ids places : List ℕ) (C : IsConsistent n ids places) where
   -- each value stands beside its index

@@ -1,6 +1,7 @@
 -- What dense tables mean.
 use Rattle.std.specs.Prelude.{◌≡◌, ℕ, Bool, false, Option, None, Some, List, [], length, slice_get, cond, nat_eq, is_none, refl}
 use Rattle.std.proofs.Common.{ap}
+use Rattle.pages.specs.Paged.{Paged, HasPage}
 use Rattle.storages.specs.Channel.{silent}
 use Rattle.storages.specs.Meaning.{Meaning, IsNew}
 
@@ -25,6 +26,10 @@ module _ {T : Type 0} where
 pub record IsConsistent (n : ℕ) (ids places : List ℕ) : Type 0 where
   pub lengths : length ids ≡ n
   pub placed : (k i : ℕ) → slice_get ids k ≡ Some i → slice_get places i ≡ Some k
+
+-- the table of places has the page of each id of a value, where a page has `len` places
+pub record ArePaged (len : ℕ) (ids : List ℕ) (places : Paged ℕ) : Type 0 where
+  pub paged : (k i : ℕ) → slice_get ids k ≡ Some i → HasPage len places i
 
 pub new_of_empty : {T : Type 0} (values : List T) (ids places : List ℕ) → places ≡ [] → IsNew (meaning_of values ids places)
 new_of_empty values ids places e = record { free = λ q. ap (λ (ps : List ℕ). is_none (value_of values ids ps q)) e; extent = refl; registered = refl; readers = refl; emission = refl; room = refl; inner_room = refl }

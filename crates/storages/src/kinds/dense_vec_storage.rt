@@ -1,12 +1,17 @@
 //! Values without gaps, with a table from ids to places and one back.
-ghost use Rattle.std.specs.Prelude.{refl, ◌≡◌, ◌<◌, ◌^◌, ℕ, slice_get, [], Some, OnErr, OnOk, IfSome, vec_len, ⊤};
-ghost use Rattle.storages.specs.Dense.{IsConsistent, value_of};
+ghost use Rattle.std.specs.Prelude.{refl, ◌≡◌, [], IfSome, vec_len, ⊤};
+ghost use Rattle.storages.specs.Dense.{IsConsistent, ArePaged, value_of};
+ghost use Rattle.storages.specs.declared.kinds.dense_vec_storage.TheConstants.{PAGE_LEN};
 
 use crate::kinds::room::make_room;
 use crate::slices::{SliceAccess, SliceAccessMut};
 use crate::unprotected::{Kind, TryDefault, UnprotectedStorage};
 use hibits::{BitSet, Index};
+use pages::Pages;
 use std::alloc::{AllocError, Global};
+
+// The ids of a page of the table.
+const PAGE_LEN: u32 = 4096;
 
 /// Best where few entities have the component. The values have no gaps and no stated order.
 pub struct DenseVecStorage<T> {
@@ -14,8 +19,9 @@ pub struct DenseVecStorage<T> {
     // the id of each value
     ids: Vec<u32>,
     // the place of each id that has a value, and anything at the others
-    places: Vec<u32>,
+    places: Pages<u32, PAGE_LEN>,
     ghost consistent: { IsConsistent (vec_len values) ids.items places.items },
+    ghost paged: { ArePaged PAGE_LEN ids.items places },
 }
 
 impl<T: Drop> Drop for DenseVecStorage<T> {
@@ -37,7 +43,7 @@ impl<T> TryDefault for DenseVecStorage<T> {
         Ok(DenseVecStorage {
             values: Vec::new(alloc),
             ids: Vec::new(alloc),
-            places: Vec::new(alloc),
+            places: Pages::new(alloc),
         })
     }
 }
@@ -53,7 +59,7 @@ impl<T> DenseVecStorage<T> {
         DenseVecStorage {
             values: Vec::new(alloc),
             ids: Vec::new(alloc),
-            places: Vec::new(alloc),
+            places: Pages::new(alloc),
         }
     }
 }
@@ -76,13 +82,13 @@ impl<T: Drop> UnprotectedStorage<T> for DenseVecStorage<T> {
 
     #[inline(always)]
     fn get(&self, id: Index) -> &T {
-        let place = self.places[id as usize];
+        let place = self.places.get_present(id);
         &self.values[place as usize]
     }
 
     #[inline(always)]
     fn get_mut(&mut self, id: Index) -> Result<&mut T, AllocError> {
-        let place = self.places[id as usize];
+        let place = self.places.get_present(id);
         Ok(&mut self.values[place as usize])
     }
 
@@ -95,12 +101,11 @@ impl<T: Drop> UnprotectedStorage<T> for DenseVecStorage<T> {
         if make_room(&mut self.values, len).is_err() || make_room(&mut self.ids, len).is_err() {
             return Err((AllocError, value));
         }
-        let index = id as usize;
-        match reach(&mut self.places, index) {
+        match self.places.reserve(id) {
             Ok(()) => {}
             Err(e) => return Err((e, value)),
         }
-        self.places[index] = place;
+        self.places.set(id, place);
         match self.ids.push(id) {
             Ok(()) => {}
             Err(_) => unreachable!(),
@@ -114,9 +119,9 @@ impl<T: Drop> UnprotectedStorage<T> for DenseVecStorage<T> {
 
     #[inline(always)]
     fn remove(&mut self, id: Index) -> Result<T, AllocError> {
-        let place = self.places[id as usize];
+        let place = self.places.get_present(id);
         let last = self.ids[self.ids.len() - 1];
-        self.places[last as usize] = place;
+        self.places.set(last, place);
         self.ids.swap_remove(place as usize);
         Ok(self.values.swap_remove(place as usize))
     }
@@ -177,18 +182,4 @@ fn next_place<T>(values: &Vec<T>) -> Option<u32>
     ensures { IfSome result (λ place. place ≡ vec_len values.now) }
 {
     u32::try_from(values.len()).ok()
-}
-
-// Makes the table reach a place, and changes no place that it has.
-fn reach(places: &mut Vec<u32>, index: usize) -> Result<(), AllocError>
-    requires { index < 2 ^ 32 }
-    ensures ok { OnOk result (index < vec_len places.new) }
-    ensures keeps { (q k : ℕ) → slice_get places.old.items q ≡ Some k → slice_get places.new.items q ≡ Some k }
-    ensures err { OnErr result (places.new.items ≡ places.old.items) }
-{
-    if places.len() <= index {
-        make_room(places, index + 1)?;
-        places.resize(index + 1, 0)?;
-    }
-    Ok(())
 }

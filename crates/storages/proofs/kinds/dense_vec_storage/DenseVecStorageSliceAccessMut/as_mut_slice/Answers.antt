@@ -1,16 +1,16 @@
 use Rattle.std.proofs.Common.{ap, sym, ◌∙◌, refl, subst, List}
 use Rattle.std.specs.Vec.{with_items as with_values}
-use Rattle.storages.specs.Dense.{IsConsistent, meaning_of}
+use Rattle.storages.specs.Dense.{meaning_of}
 use Rattle.storages.specs.Slices.{Arranges, item_beside}
 use Rattle.storages.specs.SliceLends.{Rewrites}
 use Rattle.storages.proofs.Dense.{arrangement}
-use Rattle.storages.proofs.SliceLends.{IsConsistent-prop, item-dense, rewrites-dense, left-refilled}
+use Rattle.storages.proofs.SliceLends.{same-dense, item-dense, rewrites-dense, left-refilled}
 use Rattle.storages.proofs.kinds.dense_vec_storage.DenseVecStorageSliceAccessMut.as_mut_slice.Goals as goal
 
 pub returns : goal.returns
 returns g c =
     let s = c.args.self.now in (
-      (refl, λ w. ap (λ (h : IsConsistent _ _ _). record { values = with_values s.values w; ids = s.ids; places = s.places; consistent = h }) (IsConsistent-prop _ _ _ _ _)),
+      (refl, λ w. same-dense (with_values s.values w) s.ids s.places _ _ _ _),
       record {
         writes_back = tt;
         value = λ at h. subst (λ (xs : List _). Arranges at s.ids.items xs) (sym c.deref_mut.ensures.value) (arrangement _ s.ids.items s.places.items s.consistent s.values.items (sym s.values.ok.0) at h);

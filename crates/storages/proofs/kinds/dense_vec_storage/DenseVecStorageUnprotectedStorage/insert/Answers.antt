@@ -1,13 +1,21 @@
 use Rattle.std.proofs.Common.{sym, arith, rules}
-use Rattle.storages.proofs.Dense.{consistent-added, puts-added}
+use Rattle.storages.proofs.Dense.{consistent-added, page-made, paged-added, puts-added, in_page, kept_places}
 use Rattle.storages.proofs.kinds.dense_vec_storage.DenseVecStorageUnprotectedStorage.insert.Goals as goal
+
+pub set-requires : goal.set-requires
+set-requires g c = (omega arith, page-made _ _ _ c.in-Ok.ensures.pages)
 
 pub invariant_of-self-2 : goal.invariant_of-self-2
 invariant_of-self-2 g c =
     let s = c.args.self.now in
-    record { consistent = consistent-added s.values.items s.ids.items s.places.items c.reach.new.places.items _ s.consistent (sym s.values.ok.0) c.args.id c.args.value c.requires.free (omega (arith, c.in-Ok.ensures.ok, c.reach.new.places.ok.0)) c.reach.ensures.keeps _ _ _ (search rules) (search rules) (search rules) }
+    let l = c.in-Ok.ensures.len in
+    record {
+      consistent = consistent-added s.values.items s.ids.items s.places.items c.reserve.new.self.items _ s.consistent (sym s.values.ok.0) c.args.id c.args.value c.requires.free (in_page 4096 c.args.id _ (omega arith) (omega (arith, l))) (kept_places _ _ c.reserve.ensures.items (omega (arith, l))) _ _ _ _ (search rules) (search rules) (search rules) c.set.ensures.items;
+      paged = paged-added _ s.ids.items s.places s.paged c.args.id _ _ (search rules) (search rules);
+    }
 
 pub returns-clause-ok : goal.returns-clause-ok
 returns-clause-ok g c =
     let s = c.args.self.now in
-    puts-added s.values.items s.ids.items s.places.items c.reach.new.places.items _ s.consistent (sym s.values.ok.0) c.args.id c.args.value c.requires.free (omega (arith, c.in-Ok.ensures.ok, c.reach.new.places.ok.0)) c.reach.ensures.keeps _ _ _ (search rules) (search rules) (search rules)
+    let l = c.in-Ok.ensures.len in
+    puts-added s.values.items s.ids.items s.places.items c.reserve.new.self.items _ s.consistent (sym s.values.ok.0) c.args.id c.args.value c.requires.free (in_page 4096 c.args.id _ (omega arith) (omega (arith, l))) (kept_places _ _ c.reserve.ensures.items (omega (arith, l))) _ _ _ _ (search rules) (search rules) (search rules) c.set.ensures.items
