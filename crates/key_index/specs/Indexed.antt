@@ -6,7 +6,7 @@ use Rattle.std.specs.declared.cmp.Ordering.{Ordering}
 use Rattle.hibits.specs.declared.limits.TheConstants.{INDEX_LIMIT}
 use Rattle.storages.specs.Slot.{Slot}
 use Rattle.key_index.specs.Keys.{key_at, indices_with}
-use Rattle.key_index.specs.Named.{is_named, unread_in}
+use Rattle.storages.specs.Named.{is_named, unread_in}
 
 module _ {T Q : Type 0} (key : T → Q) where
   -- the key of the component of an index, if it has one

@@ -1,4 +1,3 @@
 pub mod Indexed
 pub mod Indices
 pub mod Keys
-pub mod Named

@@ -1,6 +1,6 @@
 //! Keys as the components of a storage have them.
 ghost use Rattle.std.specs.Prelude.{◌≡◌, ◌<◌, ℕ, IfOk, OnOk, cond};
-ghost use Rattle.key_index.specs.Named.{index_at, is_named};
+ghost use Rattle.storages.specs.Named.{is_named};
 ghost use Rattle.key_index.specs.Indexed.{Keeps, key_in};
 ghost use Rattle.key_index.specs.Keys.{key_at};
 
@@ -9,17 +9,6 @@ use crate::key_of::KeyOf;
 use hibits::{INDEX_LIMIT, Index};
 use std::alloc::{AllocError, Global};
 use storages::{Component, ComponentEvent, MaskedStorage, UnprotectedStorage};
-
-// The index that an event is of.
-fn index_at(event: ComponentEvent) -> Index
-    ensures { result ≡ index_at event }
-{
-    match event {
-        ComponentEvent::Inserted(id) => id,
-        ComponentEvent::Modified(id) => id,
-        ComponentEvent::Removed(id) => id,
-    }
-}
 
 // The key of the component of an index, if it has one.
 fn key_now<T: Component<Storage: UnprotectedStorage<T>>, K: KeyOf<T>>(
@@ -45,7 +34,7 @@ pub(crate) fn follow<T: Component<Storage: UnprotectedStorage<T>>, K: KeyOf<T>>(
     ensures { OnOk result ((i : ℕ) → i < INDEX_LIMIT → key_at lists.new i ≡ cond (is_named i events.now) (key_in (K.key key.now) masked.now i) (key_at lists.old i)) }
 {
     for event in events {
-        let id = index_at(*event);
+        let id = event.id();
         if id < INDEX_LIMIT {
             let now = key_now(key, masked, id);
             lists.set(id, now)?;

@@ -27,7 +27,8 @@ use Rattle.specs.specs.Jobs.{RunsJobs}
 use Rattle.specs.proofs.Carrying.{carried, each_more}
 use Rattle.specs.specs.Ids.{Ids}
 use Rattle.specs.proofs.Lasting.{living_whatever_ids, grown, merged_kept, inserted_living, removed_living, living_step}
-use Rattle.specs.specs.Leading.{index_at, replay, is_named}
+use Rattle.storages.specs.Named.{index_at, is_named}
+use Rattle.specs.specs.Leading.{replay}
 use Rattle.specs.specs.Following.{unread, IsListening, IsFollowed, Follows, Replays, given_by, given, Throughout, JobSpares, AllSpare, Spared, IsWatched, IsQuiet, AreQuiet, Tells}
 use Rattle.specs.specs.Marks.{Markers}
 use Rattle.specs.specs.Leads.{replay-append, or_false}

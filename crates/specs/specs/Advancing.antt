@@ -18,7 +18,8 @@ use Rattle.specs.specs.Maps.{has_value}
 use Rattle.specs.specs.Column.{Column, with_value, without_value, without_values, emptied}
 use Rattle.specs.specs.Readers.{with_channel}
 use Rattle.specs.specs.Leading.{Leads}
-use Rattle.specs.specs.Following.{or_none, values_of, unread_at, IsListening, Advances}
+use Rattle.storages.specs.Named.{or_none}
+use Rattle.specs.specs.Following.{values_of, unread_at, IsListening, Advances}
 use Rattle.specs.specs.Leads.{leads_none, leads_put, leads_without_one, same_without_one, leads_lost, leads_cleared}
 use Rattle.specs.specs.Telling.{still_some, unread_registered, unread_emptied}
 

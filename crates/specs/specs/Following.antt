@@ -2,6 +2,7 @@
 use Rattle.std.specs.Prelude.{◌≡◌, ◌==◌, ◌&&◌, ℕ, Bool, true, false, cond, Option, Some, None, IsSome, List, [], ◌∷◌, ◌++◌}
 use Rattle.std.specs.Bool.{Decides}
 use Rattle.storages.specs.declared.event.ComponentEvent.{ComponentEvent}
+use Rattle.storages.specs.Named.{is_named, or_none}
 use Rattle.storages.specs.Unread.{unread_of}
 use Rattle.specs.specs.Clones.{Clones}
 use Rattle.specs.specs.declared.command.Command.{Command}
@@ -10,7 +11,7 @@ use Rattle.specs.specs.declared.command.Reply.{Reply}
 use Rattle.specs.specs.declared.command.Reply.TheVariants.{Events as Given}
 use Rattle.specs.specs.Maps.{Map, no_value, has_value}
 use Rattle.specs.specs.Column.{Column}
-use Rattle.specs.specs.Leading.{Leads, replay, is_named}
+use Rattle.specs.specs.Leading.{Leads, replay}
 use Rattle.specs.specs.declared.job.Job.{Job}
 use Rattle.specs.specs.declared.job.Job.TheVariants.{Own}
 use Rattle.specs.specs.Reached.{OnlyLiving}
@@ -22,11 +23,6 @@ use Rattle.specs.specs.Marks.{Markers}
 abbrev pub Each : {X : Type 0} → (X → Type 0) → List X → Type 0
 Each Q [] = Unit {0}
 Each Q (x ∷ xs) = Q x × Each Q xs
-
--- the list, or nothing
-abbrev pub or_none : Option (List ComponentEvent) → List ComponentEvent
-or_none None = []
-or_none (Some es) = es
 
 module _ {V : Type 0} where
   -- the values of a slot, of which an unregistered one has none

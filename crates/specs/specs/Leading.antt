@@ -1,15 +1,9 @@
 -- What events say of a map.
 use Rattle.std.specs.Prelude.{◌≡◌, ℕ, ◌==◌, Bool, false, not, ◌&&◌, ◌||◌, List, [], ◌∷◌}
-use Rattle.std.specs.List.{list_any}
 use Rattle.storages.specs.declared.event.ComponentEvent.{ComponentEvent}
 use Rattle.storages.specs.declared.event.ComponentEvent.TheVariants.{Inserted, Modified, Removed}
+use Rattle.storages.specs.Named.{is_named}
 use Rattle.specs.specs.Maps.{Map, has_value}
-
--- the index that an event is of
-abbrev pub index_at : ComponentEvent → ℕ
-index_at (Inserted i) = i
-index_at (Modified i) = i
-index_at (Removed i) = i
 
 -- a set after one event
 abbrev pub replay_one : ComponentEvent → (ℕ → Bool) → ℕ → Bool
@@ -21,10 +15,6 @@ replay_one (Removed i) has j = has j && not (i == j)
 abbrev pub replay : List ComponentEvent → (ℕ → Bool) → ℕ → Bool
 replay [] has = has
 replay (e ∷ es) has = replay es (replay_one e has)
-
--- whether an index stands in events
-abbrev pub is_named : ℕ → List ComponentEvent → Bool
-is_named i es = list_any (λ e. index_at e == i) es
 
 -- Events lead from one map to another: replayed on the first one's indices they give the second one's, and at each
 -- index that stands in none of them the map is what it was.

@@ -14,7 +14,8 @@ use Rattle.storages.specs.declared.event.ComponentEvent.{ComponentEvent}
 use Rattle.storages.specs.declared.event.ComponentEvent.TheVariants.{Inserted, Modified, Removed}
 use Rattle.storages.specs.Removals.{lost, without_one as set_without}
 use Rattle.specs.specs.Maps.{Map, has_value, put, without, without_one, no_value}
-use Rattle.specs.specs.Leading.{index_at, replay_one, replay, is_named, Leads}
+use Rattle.storages.specs.Named.{index_at, is_named}
+use Rattle.specs.specs.Leading.{replay_one, replay, Leads}
 
 pub replay-append : (a b : List ComponentEvent) (has : ℕ → Bool) → replay (a ++ b) has ≡ replay b (replay a has)
 replay-append [] b has = refl

@@ -17,6 +17,7 @@ pub mod Slices
 pub mod SliceLaws
 pub mod Slot
 pub mod Tracking
+pub mod Named
 pub mod Lent
 pub mod Removals
 pub mod Lending

@@ -1,6 +1,6 @@
 use Rattle.std.proofs.Common.{◌≡◌, ◌<◌, ℕ, cond, take}
 use Rattle.hibits.specs.declared.limits.TheConstants.{INDEX_LIMIT}
-use Rattle.key_index.specs.Named.{is_named}
+use Rattle.storages.specs.Named.{is_named}
 use Rattle.key_index.specs.Indexed.{key_in}
 use Rattle.key_index.specs.Keys.{key_at}
 use Rattle.key_index.proofs.following.follow.Given as goal
