@@ -1,5 +1,8 @@
 -- The keys that are kept, by index.
-use Rattle.std.proofs.Common.{◌≡◌, ◌<◌, ℕ, Bool, cond, eqb, List, [], length, set, refl, ap, sym, ◌∙◌, Option, None, Vec, inl, inr}
+use Rattle.std.proofs.Common.{◌≡◌, ◌<◌, ◌||◌, ℕ, Bool, true, cond, eqb, List, [], length, set, refl, ap, sym, ◌∙◌, Option, None, Vec, inl, inr}
+use Rattle.std.specs.FinSet as set_of
+use Rattle.std.specs.Ordering.{nat_cmp}
+use Rattle.std.specs.Cmp.{nat_cmp_total, unsigned_tied}
 use Rattle.std.specs.declared.cmp.Ordering.{Ordering}
 use Rattle.std.specs.BTreeMap.{BTreeMap, is_at}
 use Rattle.std.specs.Map.{lookup}
@@ -49,3 +52,7 @@ pub index_of_keys : {T Q : Type 0} (key : T → Q) (cmp : Q → Q → Ordering) 
 index_of_keys key cmp kept s keeps = record {
   each = λ q. left-within (λ i. is_key cmp q (key_in key s i)) (λ i. is_key cmp q (key_at kept i)) (λ i lt. ap (is_key cmp q) (keeps.each i lt));
 }
+
+-- what is put into a set is there
+pub there_inserted : (s : set_of.FinSet nat_cmp) (k : ℕ) → set_of.contains (set_of.insert s k) k ≡ true
+there_inserted s k = set_of.contains-insert nat_cmp_total s k k ∙ ap (λ b. b || set_of.contains s k) (unsigned_tied k k ∙ eq-eqb k k refl)

@@ -1,5 +1,7 @@
 //! Keys as the components of a storage have them.
-ghost use Rattle.std.specs.Prelude.{◌≡◌, ◌<◌, ℕ, IfOk, OnOk, cond};
+ghost use Rattle.std.specs.Prelude.{◌≡◌, ◌<◌, ◌==◌, ◌||◌, ℕ, not, IfOk, OnOk, cond};
+ghost use Rattle.std.specs.BTreeSet.{contains};
+ghost use Rattle.std.specs.Ordering.{nat_cmp};
 ghost use Rattle.storages.specs.Named.{is_named};
 ghost use Rattle.key_index.specs.Indexed.{Keeps, key_in};
 ghost use Rattle.key_index.specs.Keys.{key_at};
@@ -8,6 +10,7 @@ use crate::key_lists::KeyLists;
 use crate::key_of::KeyOf;
 use hibits::{INDEX_LIMIT, Index};
 use std::alloc::{AllocError, Global};
+use std::collections::BTreeSet;
 use storages::{Component, ComponentEvent, MaskedStorage, UnprotectedStorage};
 
 // The key of the component of an index, if it has one.
@@ -24,8 +27,17 @@ fn key_now<T: Component<Storage: UnprotectedStorage<T>>, K: KeyOf<T>>(
     }
 }
 
-// Brings the keys of the indices that events are of up to the storage now.
+// Whether an index is not in a set yet. It is from then on.
+fn is_first(followed: &mut BTreeSet<Index>, id: Index) -> Result<bool, AllocError>
+    ensures first { IfOk result (λ first. first ≡ not (contains nat_cmp followed.old id)) }
+    ensures seen { OnOk result ((i : ℕ) → contains nat_cmp followed.new i ≡ (contains nat_cmp followed.old i || (id == i))) }
+{
+    Ok(followed.insert(id)?)
+}
+
+// Brings the keys of the indices that events are of up to the storage now, each once.
 pub(crate) fn follow<T: Component<Storage: UnprotectedStorage<T>>, K: KeyOf<T>>(
+    alloc: Global,
     lists: &mut KeyLists<K::Key>,
     key: &K,
     events: &[ComponentEvent],
@@ -33,9 +45,10 @@ pub(crate) fn follow<T: Component<Storage: UnprotectedStorage<T>>, K: KeyOf<T>>(
 ) -> Result<(), AllocError>
     ensures { OnOk result ((i : ℕ) → i < INDEX_LIMIT → key_at lists.new i ≡ cond (is_named i events.now) (key_in (K.key key.now) masked.now i) (key_at lists.old i)) }
 {
+    let mut followed = BTreeSet::new(alloc);
     for event in events {
         let id = event.id();
-        if id < INDEX_LIMIT {
+        if id < INDEX_LIMIT && is_first(&mut followed, id)? {
             let now = key_now(key, masked, id);
             lists.set(id, now)?;
         }

@@ -94,7 +94,7 @@ where
     }
 
     /// Reads the events, and brings the indices that stand in them up to the storage now; a stale index is built from the storage. It takes what
-    /// the reading takes, and for each event a search in the lists of two keys. Where events were turned off, or written by hand, it follows
+    /// the reading takes, and for each index that stands in events, once, a search in the lists of two keys. Where events were turned off, or written by hand, it follows
     /// what was told, and may not be the storage's: its clauses ask that each index of which it keeps another key stands in an event.
     pub fn refresh(&mut self, storage: &mut WriteStorage<'_, T>) -> Result<(), IndexError>
         ensures ok { (self.old.stale ≡ false → Covers (K.key self.old.key) self.old.lists self.old.reader (slot storage.old)) → OnOk result (IsIndexOf (K.key self.old.key) K.Key.cmp self.new.lists (slot storage.new)) }
@@ -124,7 +124,14 @@ where
                 Err(_) => false,
             }
         } else {
-            follow(&mut self.lists, &self.key, &events, storage.storage()).is_ok()
+            follow(
+                self.alloc,
+                &mut self.lists,
+                &self.key,
+                &events,
+                storage.storage(),
+            )
+            .is_ok()
         };
         self.stale = !done;
         if done {

@@ -1,9 +1,10 @@
 //! The key that is kept of each index, and for each key its indices.
-ghost use Rattle.std.specs.Prelude.{◌≡◌, ◌<◌, ◌==◌, ℕ, None, OnOk, OnErr, cond, vec_len};
+ghost use Rattle.std.specs.Prelude.{◌≡◌, ◌<◌, ◌==◌, ℕ, None, OnOk, OnErr, cond};
 ghost use Rattle.key_index.specs.Keys.{key_at, indices_with};
 
 use crate::lists::exchange;
 use hibits::{INDEX_LIMIT, Index};
+use pages::Pages;
 use std::alloc::{AllocError, Global};
 use std::collections::BTreeMap;
 use std::marker::Model;
@@ -13,7 +14,8 @@ use std::marker::Model;
 /// Contracts see it as the keys that are kept, by index.
 #[derive(Drop)]
 pub struct KeyLists<Q: Ord + Copy> {
-    kept: Vec<Option<Q>>,
+    // in pages, so that memory is taken for the indices that have keys, and not for all up to the greatest
+    kept: Pages<Option<Q>, 256>,
     lists: BTreeMap<Q, Vec<Index>>,
     alloc: Global,
 }
@@ -35,7 +37,7 @@ impl<Q: Ord + Copy> KeyLists<Q> {
         ensures { (i : ℕ) → key_at result i ≡ None }
     {
         KeyLists {
-            kept: Vec::new(alloc),
+            kept: Pages::new(alloc),
             lists: BTreeMap::new(alloc),
             alloc,
         }
@@ -57,26 +59,13 @@ impl<Q: Ord + Copy> KeyLists<Q> {
         ensures ok { OnOk result ((i : ℕ) → key_at self.new i ≡ cond (i == id) key (key_at self.old i)) }
         ensures err { OnErr result ((i : ℕ) → key_at self.new i ≡ key_at self.old i) }
     {
-        let place = id as usize;
-        if key.is_none() && place >= self.kept.len() {
+        let old = self.kept.get(id);
+        if key.is_none() && old.is_none() {
             return Ok(());
         }
-        reach(&mut self.kept, place)?;
-        let old = self.kept[place];
+        self.kept.reserve(id)?;
         exchange(&mut self.lists, self.alloc, id, old, key)?;
-        self.kept[place] = key;
+        self.kept.set(id, key);
         Ok(())
     }
-}
-
-// Makes a list have a place. A new one has no key.
-fn reach<Q: Copy>(kept: &mut Vec<Option<Q>>, place: usize) -> Result<(), AllocError>
-    requires { place < INDEX_LIMIT }
-    ensures keys { (i : ℕ) → key_at kept.new.items i ≡ key_at kept.old.items i }
-    ensures ok { OnOk result (place < vec_len kept.new) }
-{
-    if place >= kept.len() {
-        kept.resize(place + 1, None)?;
-    }
-    Ok(())
 }

@@ -180,6 +180,40 @@ fn one_change_of_a_thousand_asks_for_two_keys_at_most(rt: HostRuntime) -> Result
     asks_twice(&rt, rt.alloc(), &mut view, list.as_slice())
 }
 
+/// After a thousand writes to one component a refresh asks for one key.
+fn asks_once<R: Abort>(
+    rt: &R,
+    alloc: Global,
+    view: &mut WriteStorage<'_, Score>,
+    list: &[Entity],
+) -> Result<(), Fail> {
+    let asked = Cell::new(0);
+    let written = player(list, 1)?;
+    for e in list {
+        assert!(rt; scores(view, *e, 5));
+    }
+    let mut board = board(alloc, &asked, view)?;
+    asked.set(0);
+    for _ in 0..1000 {
+        assert!(rt; adds(view, written, 1));
+    }
+    assert_eq!(rt; refreshed(&mut board, view), Ok(()));
+    assert_eq!(rt; asked.get(), 1);
+    assert!(rt; has(&board, 1005, &[1]));
+    assert!(rt; has(&board, 5, &[0, 2]));
+    ends(board, view);
+    Ok(())
+}
+
+#[test]
+fn a_thousand_writes_to_one_component_ask_for_one_key(rt: HostRuntime) -> Result<(), Fail> {
+    let mut masked = no_scores(rt.alloc())?;
+    let mut entities = EntitiesRes::new(rt.alloc());
+    let list = players(rt.alloc(), &mut entities, 3)?;
+    let mut view = WriteStorage::new(&entities, &mut masked);
+    asks_once(&rt, rt.alloc(), &mut view, list.as_slice())
+}
+
 /// Of two indices one is ended, and the other goes on.
 fn ends_alone<R: Abort>(
     rt: &R,

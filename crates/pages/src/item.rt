@@ -1,4 +1,5 @@
 //! What is kept in pages.
+ghost use Rattle.std.specs.Prelude.{None};
 
 /// What can be kept in pages.
 pub trait Item: Copy {
@@ -18,4 +19,10 @@ impl Item for u32 {
     ghost FILLER = { 0 };
 
     const FILLER: u32 = 0;
+}
+
+impl<Q: Copy> Item for Option<Q> {
+    ghost FILLER = { None };
+
+    const FILLER: Option<Q> = None;
 }
