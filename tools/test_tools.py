@@ -70,7 +70,7 @@ class Gate(Tree):
         self.write("tools/check_promises.sh", PASSES)
         self.write("tools/layout.sh", PASSES)
         self.write("bench/try.sh", "echo '1 passed, 0 failed'\n")
-        for name in GATE_TOOLS:
+        for name in (*GATE_TOOLS, "refusals.py"):
             self.write(f"tools/{name}", "print('3 passed, 0 failed')\n")
         self.rt("echo '5 passed, 0 failed'")
         self.commit()
@@ -89,6 +89,14 @@ class Gate(Tree):
         ran = self.gate()
         self.accepts(ran)
         self.assertEqual(ran.stdout.split("\n")[-2], "12 passed, 0 failed")
+
+    def test_it_refuses_memory_to_a_built_program(self):
+        self.write("crates/specs_run_main/out/specs_run_main", "#!/bin/sh\n", runs=True)
+        ran = self.gate()
+        self.accepts(ran)
+        self.assertEqual(ran.stdout.split("\n")[-2], "15 passed, 0 failed")
+        self.write("tools/refusals.py", "print('3 passed, 1 failed')\n")
+        self.refuses(self.gate(), "the refusals failed")
 
     def test_no_git(self):
         shutil.rmtree(f"{self.top}/.git")

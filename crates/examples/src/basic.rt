@@ -9,7 +9,7 @@ pub fn move_all(
     positions: &mut MaskedStorage<Position>,
     velocities: &MaskedStorage<Velocity>,
 ) -> Result<(), AllocError> {
-    positions.for_each_with(velocities, |position: &mut Position, velocity: &Velocity| {
+    positions.for_each_with(velocities, |position, velocity| {
         position.x += velocity.x;
         position.y += velocity.y;
     })

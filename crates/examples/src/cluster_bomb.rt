@@ -3,7 +3,7 @@ use crate::basic::{Moves, place, show};
 use crate::game::{Fuse, Position, Velocity};
 use anyhow::Result;
 use composed::{
-    Component, EntitiesRes, Entity, Field, ForEach, Has, Index, LazyUpdate, MaskedStorage, Parts,
+    Component, EntitiesRes, Entity, Field, ForEach, Has, LazyUpdate, MaskedStorage, Parts,
     Storages, World, WorldParts, WriteStorage, value,
 };
 
@@ -48,16 +48,13 @@ fn burn<P, V, S: Has<Position, P> + Has<Velocity, V>>(
     positions: &MaskedStorage<Position>,
     lazy: &mut LazyUpdate<S>,
 ) -> Result<()> {
-    fuses.try_for_each_with(
-        (positions.mask(), positions),
-        |fuse: &mut Fuse, (id, position): (Index, &Position)| {
-            if fuse.0 > 0 {
-                fuse.0 -= 1;
-                return Ok(());
-            }
-            burst(entities, lazy, entities.entity(id), *position)
-        },
-    )?;
+    fuses.try_for_each_with((positions.mask(), positions), |fuse, (id, position)| {
+        if fuse.0 > 0 {
+            fuse.0 -= 1;
+            return Ok(());
+        }
+        burst(entities, lazy, entities.entity(id), *position)
+    })?;
     Ok(())
 }
 

@@ -10,7 +10,7 @@ fn pull_all(
     velocities: &mut MaskedStorage<Velocity>,
     positions: &MaskedStorage<Position>,
 ) -> Result<(), AllocError> {
-    velocities.for_each_with(positions, |velocity: &mut Velocity, position: &Position| {
+    velocities.for_each_with(positions, |velocity, position| {
         let distance = position.x.hypot(position.y);
         let pull = -1800.0 / (distance * distance * distance);
         velocity.x += position.x * pull;
