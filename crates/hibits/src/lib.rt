@@ -13,6 +13,7 @@ mod reads;
 mod rows;
 mod views;
 mod walk;
+mod word_walk;
 
 pub use bit_iter::BitIter;
 pub use bit_set::BitSet;
