@@ -22,14 +22,16 @@ pub(crate) struct WordWalk {
     end2: u32,
 }
 
-/// The least index that is left of a word of a layer.
+/// The least index that is left of a word of a layer. It is told as a multiple of 64 and a bit, so that the page of a word is sought once for all the
+/// words of a block.
 #[inline(always)]
 pub(crate) fn least(word: u64, end: u32) -> u32
     requires some { 0 < word }
     requires end { 64 ≤ end }
+    requires whole { end ≡ 64 * (end / 64) }
     ensures { result ≡ end - 64 + trailing_zeros w64 word }
 {
-    end - 64 + word.trailing_zeros()
+    64 * (end / 64 - 1) + word.trailing_zeros()
 }
 
 /// Goes from the word of a layer to that of its least index, in the layer `level` below it.
@@ -45,6 +47,7 @@ fn descend<M: Layers>(
     requires level { level + 1 < LAYERS }
     requires some { 0 < above.old }
     requires within { 64 ≤ above_end }
+    requires whole { above_end ≡ 64 * (above_end / 64) }
     requires fits { above_end ≤ 64 ^ (LAYERS - 1 - level) }
     ensures above { above.new ≡ bit_and above.old (above.old - 1) }
     ensures end { end.new ≡ 64 * (above_end - 64 + trailing_zeros w64 above.old + 1) }

@@ -1,6 +1,5 @@
 use Rattle.std.proofs.Common.{◌*◌, ◌/◌, arith, inl, inr}
 use Rattle.std.proofs.lemmas.Bool.{cases_lt}
-use Rattle.hibits.specs.WalkOf.{by_index}
 use Rattle.hibits.proofs.StepLemmas.{words_walk, word_taken, none_taken, gone, end0_fits}
 use Rattle.hibits.proofs.walk.Walk.fill0.Goals as goal
 

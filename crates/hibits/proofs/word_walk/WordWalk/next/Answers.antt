@@ -1,7 +1,6 @@
-use Rattle.std.proofs.Common.{◌≡◌, ◌+◌, ◌-◌, ◌*◌, ◌<◌, ◌≤◌, arith, rules, w64, inl, inr}
+use Rattle.std.proofs.Common.{◌+◌, ◌-◌, ◌*◌, ◌<◌, arith, rules, w64, inl, inr}
 use Rattle.std.specs.Int.{trailing_zeros}
 use Rattle.std.proofs.lemmas.Bool.{cases_lt}
-use Rattle.hibits.specs.WalkOf.{by_index}
 use Rattle.hibits.proofs.StepLemmas.{place1, end1_from, end1_fits, step0, words_walk, none_between, none_in_zero, next_word, ended, grows}
 use Rattle.hibits.proofs.word_walk.WordWalk.next.Goals as goal
 
