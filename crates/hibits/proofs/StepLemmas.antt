@@ -204,6 +204,7 @@ module _ (has : ℕ → ℕ → Bool) (cost : ℕ) (covers : (l i : ℕ) → has
       where
         up : b.end0 / 64 ≡ place + 1
         up = omega (arith, end)
+
         level : (l : ℕ) → l < LAYERS → IsLevel (has l) (get_or (words_of (record a { words = b; word0 = w })) l 0) (get_or (from_of (record a { words = b; word0 = w })) l 0) (get_or (from_of (record a { words = b; word0 = w })) (suc l) 0)
         level zero h = rw up (first_level (has 0) w a.from (a.words.end0 / 64) place (ok.walk.level 0 h).below at gone)
         level (suc zero) h = next.walk.level 1 h

@@ -22,16 +22,14 @@ pub(crate) struct WordWalk {
     end2: u32,
 }
 
-/// The least index that is left of a word of a layer. It is told as a multiple of 64 and a bit, so that the page of a word is sought once for all the
-/// words of a block.
+/// The least index that is left of a word of a layer.
 #[inline(always)]
 pub(crate) fn least(word: u64, end: u32) -> u32
     requires some { 0 < word }
     requires end { 64 ≤ end }
-    requires whole { end ≡ 64 * (end / 64) }
     ensures { result ≡ end - 64 + trailing_zeros w64 word }
 {
-    64 * (end / 64 - 1) + word.trailing_zeros()
+    end - 64 + word.trailing_zeros()
 }
 
 /// Goes from the word of a layer to that of its least index, in the layer `level` below it.
@@ -47,7 +45,6 @@ fn descend<M: Layers>(
     requires level { level + 1 < LAYERS }
     requires some { 0 < above.old }
     requires within { 64 ≤ above_end }
-    requires whole { above_end ≡ 64 * (above_end / 64) }
     requires fits { above_end ≤ 64 ^ (LAYERS - 1 - level) }
     ensures above { above.new ≡ bit_and above.old (above.old - 1) }
     ensures end { end.new ≡ 64 * (above_end - 64 + trailing_zeros w64 above.old + 1) }

@@ -58,7 +58,7 @@ loop-self-preserved g c =
     let p = place1 _ _ (g.met.M.Layers.covers c.args.mask.now) _ f.walk some in
     record {
       walk = words_walk _ _ (g.met.M.Layers.covers c.args.mask.now) _
-      (step0 _ _ (g.met.M.Layers.covers c.args.mask.now) _ f.walk _ _ _ _ c.descend-word.type_inv d.reads (search rules) some d.above d.end d.bits);
+          (step0 _ _ (g.met.M.Layers.covers c.args.mask.now) _ f.walk _ _ _ _ c.descend-word.type_inv d.reads (search rules) some d.above d.end d.bits);
       reads = grows _ _ _ (omega (arith, i.reads, f.reads)) (search rules) d.reads;
       forward = omega (arith, p, d.end, i.forward, f.end0, f.walk.end0);
       none = λ k ge lt is.
