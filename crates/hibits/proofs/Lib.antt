@@ -5,3 +5,4 @@ pub mod PageLemmas
 pub mod RowLemmas
 pub mod StepLemmas
 pub mod WalkLemmas
+pub mod WordLemmas

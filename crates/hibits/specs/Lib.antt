@@ -7,5 +7,6 @@ pub mod Sets
 pub mod Views
 pub mod Walking
 pub mod Walks
+pub mod Words
 pub mod WalkOf
 pub mod Lasting

@@ -13,6 +13,8 @@ mod reads;
 mod rows;
 mod views;
 mod walk;
+mod word_iter;
+mod word_walk;
 
 pub use bit_iter::BitIter;
 pub use bit_set::BitSet;
@@ -23,3 +25,4 @@ pub use mask_expr::MaskExpr;
 pub use reads::Reads;
 pub use views::{BitSetAll, BitSetAnd, BitSetNot, BitSetOr, BitSetXor};
 pub use walk::Walk;
+pub use word_iter::WordIter;
