@@ -61,15 +61,22 @@ fn test_null_insert_twice(rt: HostRuntime) -> Result<(), Fail> {
     in_null(&rt, rt.alloc(), 2, &[Story::SetTwice])
 }
 
-/// A slice whose numbers are doubled.
+/// A slice whose numbers are doubled, by a table in pages.
 trait Doubled: Sliced {
     /// Doubles each number.
     fn double(&mut self);
+
+    /// How many pages there are.
+    fn pages(&self) -> usize;
 }
 
 impl Doubled for World<InDense> {
     fn double(&mut self) {
         double_all(&mut self.masked);
+    }
+
+    fn pages(&self) -> usize {
+        self.masked.unprotected_storage().page_count()
     }
 }
 
@@ -82,15 +89,35 @@ fn the_last_is_moved<R: Abort, S: Sliced>(rt: &R, shelf: &mut S) {
     holds!(rt; shelf.has_slice(&[]));
 }
 
-// The values of indices that are far apart have no gaps.
-fn far_indices_lie_close<R: Abort, S: Sliced>(rt: &R, shelf: &mut S) {
+// The values of indices that are far apart have no gaps, and each has a page, which goes as all do.
+fn far_indices_lie_close<R: Abort, S: Doubled>(rt: &R, shelf: &mut S) {
     put_all(rt, shelf, &[(0, 1), (4095, 2), (4096, 3), (16_777_215, 4)]);
+    equal!(rt; shelf.pages(), 4);
     gives!(rt; shelf.take_out(4095), Some(2));
     holds!(rt; shelf.has_slice(&[1, 4, 3]));
     gives!(rt; shelf.take_out(0), Some(1));
     holds!(rt; shelf.has_slice(&[3, 4]));
+    equal!(rt; shelf.pages(), 4);
     put_all(rt, shelf, &[(4095, 5)]);
     holds!(rt; shelf.has_slice(&[3, 4, 5]));
+    equal!(rt; shelf.pages(), 4);
+    holds!(rt; shelf.clear_all());
+    holds!(rt; shelf.has_slice(&[]));
+    equal!(rt; shelf.pages(), 0);
+}
+
+// Indices of one page share it, and one beside it has another. A page is made again after all have gone.
+fn near_indices_share_a_page<R: Abort, S: Doubled>(rt: &R, shelf: &mut S) {
+    put_all(rt, shelf, &[(63, 1), (0, 2)]);
+    equal!(rt; shelf.pages(), 1);
+    put_all(rt, shelf, &[(64, 3)]);
+    equal!(rt; shelf.pages(), 2);
+    holds!(rt; shelf.clear_all());
+    gives!(rt; shelf.number_in(63), None);
+    put_all(rt, shelf, &[(63, 4)]);
+    equal!(rt; shelf.pages(), 1);
+    gives!(rt; shelf.number_in(63), Some(4));
+    gives!(rt; shelf.number_in(0), None);
     holds!(rt; shelf.clear_all());
 }
 
@@ -109,6 +136,7 @@ fn three_are_doubled<R: Abort, S: Doubled>(rt: &R, shelf: &mut S) {
 fn slices<R: Abort, S: Doubled>(rt: &R, shelf: &mut S) {
     the_last_is_moved(rt, shelf);
     far_indices_lie_close(rt, shelf);
+    near_indices_share_a_page(rt, shelf);
     three_are_doubled(rt, shelf);
 }
 

@@ -10,10 +10,13 @@ use hibits::{BitSet, Index};
 use pages::Pages;
 use std::alloc::{AllocError, Global};
 
-// The ids of a page of the table.
-const PAGE_LEN: u32 = 4096;
+// How many ids a page of the table has.
+const PAGE_LEN: u32 = 64;
 
 /// Best where few entities have the component. The values have no gaps and no stated order.
+///
+/// Besides the values it takes 4 bytes for each, 256 for each 64 indices of which one had a value since it was last cleared, and 4 for each 64
+/// indices up to the greatest of these; as lists grow, up to four times that.
 pub struct DenseVecStorage<T> {
     values: Vec<T>,
     // the id of each value
@@ -49,7 +52,8 @@ impl<T> TryDefault for DenseVecStorage<T> {
 }
 
 impl<T> DenseVecStorage<T> {
-    ghost use Rattle.storages.specs.DenseValues.{dense_meaning};
+    ghost use Rattle.std.specs.FinSet as set;
+    ghost use Rattle.storages.specs.DenseValues.{dense_meaning, dense_pages};
     ghost use Rattle.storages.specs.Meaning.{IsNew};
 
     /// A storage without values, which takes no memory.
@@ -61,6 +65,14 @@ impl<T> DenseVecStorage<T> {
             ids: Vec::new(alloc),
             places: Pages::new(alloc),
         }
+    }
+
+    /// How many pages its table from indices to places has, of 64 indices each: one for each of these in which a value was inserted since the
+    /// storage was last cleared. A removal keeps its page. It reads no page.
+    pub fn page_count(&self) -> usize
+        ensures { result ≡ set.len (dense_pages self.now) }
+    {
+        self.places.count()
     }
 }
 
