@@ -295,3 +295,24 @@ fn blocks_that_are_missing_have_no_member(rt: HostRuntime) -> Result<(), Fail> {
     covers(&rt, &small, &large);
     Ok(())
 }
+
+/// A walk by words gives these words with their places, for which so many words are read.
+fn words_are_given<M: Layers + Drop>(mask: M, words: &[(u32, u64)], reads: u64) -> bool {
+    let mut walk = WordIter::new(mask);
+    for word in words {
+        if WordIter::next(&mut walk) != Some(*word) {
+            return false;
+        }
+    }
+    WordIter::next(&mut walk).is_none() && walk.reads() == reads
+}
+
+#[test]
+fn words_come_with_their_places(rt: HostRuntime) -> Result<(), Fail> {
+    let a = set_of(rt.alloc(), &[1, 64, 65, 4096, 16777215])?;
+    let words: &[(u32, u64)] = &[(0, 2), (1, 3), (64, 1), (262143, 1 << 63)];
+    holds!(&rt; words_are_given(&a, words, 10));
+    let b = set_of(rt.alloc(), &[0, 65, 16777214, 16777215])?;
+    holds!(&rt; words_are_given(&a & &b, &[(1, 2), (262143, 1 << 63)], 16));
+    Ok(())
+}
