@@ -21,7 +21,7 @@ TOP = os.path.dirname(os.path.dirname(os.path.abspath(__file__)))
 UNREADABLE = ["frob", "create ", " create", "delete", "delete 0", "insert pos 0:1", "insert tag 0:1 5", "select", "select and pos",
               "select pos pos", "emit hp", "maintain -1", "reader", "entity 4294967296", "alive 0:0", "insert id 0:1 0", "delete-all 0:1",
               "job", "job again 1", "job create pending", "job remove pos", "job insert tag 0:1 5", "job delete 0:1", "maintain",
-              "label", "label 0:1 1:1", "job label", "save 0", "save-all ", "load", "load ", "load  []", "load [] "]
+              "label", "label 0:1 1:1", "index", "index pos", "index hp 0", "find", "find 0:1", "find -0", "find 9223372036854775808", "job label", "save 0", "save-all ", "load", "load ", "load  []", "load [] "]
 
 
 class Script:
@@ -60,6 +60,11 @@ class Script:
         if slot == "link":
             return self.an_entity()
         return str(self.random.choice([0, 5, -7, 63, -(1 << 63), (1 << 63) - 1, self.random.randrange(1000)]))
+
+    def a_held_value(self):
+        """A value that hp has somewhere, or any."""
+        held = sorted(self.world.slots["hp"].values.values()) if "hp" in self.world.slots else []
+        return self.random.choice(held) if held and self.random.randrange(4) else self.a_value("hp")
 
     def a_set(self, depth):
         kind = self.random.randrange(9 if depth else 4)
@@ -116,7 +121,7 @@ class Script:
                          f"clear {slot}", f"count {slot}", f"mark {e}", f"alive {e}", f"living {e}", f"maintain {self.a_limit()}", self.a_job(), self.a_job(),
                          f"entity {r.choice([0, 1, 2, 3, LIMIT, (1 << 32) - 1])}", "delete " + " ".join([e] + [self.an_entity() for _ in range(r.randrange(3))]),
                          "delete-all" if r.randrange(4) == 0 else "", self.a_selection(), self.a_selection(), f"reader {slot}", f"events {slot} {r.randrange(3)}",
-                         f"events {slot} 0", f"emit {slot} {r.choice(['on', 'on', 'off'])}"])
+                         f"events {slot} 0", f"emit {slot} {r.choice(['on', 'on', 'off'])}", "index hp", f"find {self.a_held_value()}", f"find {self.a_held_value()}"])
 
 
 def judged(world, line, printed):

@@ -41,6 +41,7 @@ class World:
     def __init__(self):
         self.births, self.merged, self.pending, self.marked, self.slots, self.jobs = {}, set(), set(), set(), {}, []
         self.ids, self.next_id = {}, 0
+        self.has_index = False
 
     def living(self):
         return self.merged | self.pending
@@ -333,7 +334,25 @@ class World:
         if refused:
             return refused
         slot.emission = switch == "on"
+        self.has_index = self.has_index and slot.emission
         return "ok"
+
+    def index(self, name):
+        """An index of hp: its reader takes a number, which no line can read by."""
+        slot, refused = self.channel(name)
+        if refused:
+            return refused
+        if not slot.emission:
+            return "error: emission off"
+        slot.registered += 1
+        self.has_index = True
+        return "ok"
+
+    def find(self, value):
+        """The indices from scratch, whatever the index was told."""
+        if not self.has_index:
+            return "error: no index"
+        return f"[{', '.join(str(i) for i, v in sorted(self.slots['hp'].values.items()) if v == value)}]"
 
 
 def entity(word):

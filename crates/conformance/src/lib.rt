@@ -14,6 +14,8 @@ mod composed_slots;
 #[cfg(test)]
 mod doc_jobs;
 #[cfg(test)]
+mod indexed_worlds;
+#[cfg(test)]
 mod jobs;
 #[cfg(test)]
 mod listed;

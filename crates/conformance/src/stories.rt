@@ -1,7 +1,7 @@
 //! The stories that are told of new worlds, and the one function that names their storages.
 use crate::{
-    acts, composed_slots, doc_jobs, jobs, own_jobs, typed_worlds, upstream_births, upstream_lazy,
-    worlds,
+    acts, composed_slots, doc_jobs, indexed_worlds, jobs, own_jobs, typed_worlds, upstream_births,
+    upstream_lazy, worlds,
 };
 use composed::{Empty, Of2};
 use slots::{Health, Position};
@@ -33,6 +33,8 @@ pub enum Story {
     Worlds(worlds::Story),
     /// Of calls by component types.
     Typed(typed_worlds::Story),
+    /// Of an index of healths.
+    Indexed(indexed_worlds::Story),
 }
 
 /// Tells a story over whatever storages have positions and healths.
@@ -58,6 +60,7 @@ fn tell_of_new<R: Abort, P, H, S: CloneStorages + Empty + Has<Position, P> + Has
         Story::Lazy(story) => upstream_lazy::tell_of_new::<R, P, H, S>(rt, alloc, story),
         Story::Worlds(story) => worlds::tell_of_new::<R, P, H, S>(rt, alloc, story),
         Story::Typed(story) => typed_worlds::tell_of_new::<R, P, H, S>(rt, alloc, story),
+        Story::Indexed(story) => indexed_worlds::tell_of_new::<R, H, S>(rt, alloc, story),
     }
 }
 

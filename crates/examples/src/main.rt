@@ -9,6 +9,7 @@ mod orbits;
 mod ordered_tracking;
 mod phase;
 mod saving;
+mod score_board;
 mod story;
 mod told;
 
@@ -26,6 +27,7 @@ fn answer(alloc: Global, name: &str) -> Result<String> {
         "orbits" => told::orbits(alloc),
         "phase" => phase::phase(alloc),
         "saving" => saving::saving(alloc),
+        "score_board" => score_board::score_board(alloc),
         _ => bail!("no example has this name"),
     }
 }

@@ -1,10 +1,11 @@
 -- What an index by a key tells of a storage.
-use Rattle.std.specs.Prelude.{◌≡◌, ◌<◌, ℕ, false, Option, List}
+use Rattle.std.specs.Prelude.{◌≡◌, ◌<◌, ℕ, true, false, Option, List}
 use Rattle.std.specs.Option.{option_map}
 use Rattle.std.specs.FinMap as map
 use Rattle.std.specs.declared.cmp.Ordering.{Ordering}
 use Rattle.hibits.specs.declared.limits.TheConstants.{INDEX_LIMIT}
 use Rattle.storages.specs.Slot.{Slot}
+use Rattle.key_index.specs.declared.key_index.KeyIndex.{KeyIndex}
 use Rattle.key_index.specs.Keys.{key_at, indices_with}
 use Rattle.storages.specs.Named.{is_named, unread_in}
 
@@ -28,3 +29,24 @@ module _ {T Q : Type 0} (key : T → Q) where
   -- the list of each key is that of the storage now
   pub record IsIndexOf (cmp : Q → Q → Ordering) (kept : List (Option Q)) (s : Slot T) : Type 0 where
     pub each : (q : Q) → indices_with cmp (key_at kept) q ≡ from_scratch cmp s q
+
+module _ {T K Q : Type 0} (key : K → T → Q) where
+  -- the index keeps the keys of the storage
+  abbrev pub KeepsSlot : KeyIndex T K Q → Slot T → Type 0
+  KeepsSlot x s = Keeps (key x.key) x.lists s
+
+  -- each index of which it keeps another key than the storage has stands in an event that its reader has not read
+  abbrev pub CoversSlot : KeyIndex T K Q → Slot T → Type 0
+  CoversSlot x s = Covers (key x.key) x.lists x.reader s
+
+  -- its list of each key is that of the storage
+  abbrev pub IsIndexOfSlot : (Q → Q → Ordering) → KeyIndex T K Q → Slot T → Type 0
+  IsIndexOfSlot cmp x s = IsIndexOf (key x.key) cmp x.lists s
+
+module _ {T K Q : Type 0} where
+  -- memory was refused to the index, and it was not refreshed since
+  abbrev pub IsStale : KeyIndex T K Q → Type 0
+  IsStale x = x.stale ≡ true
+
+  abbrev pub IsFresh : KeyIndex T K Q → Type 0
+  IsFresh x = x.stale ≡ false

@@ -1,7 +1,7 @@
 //! The program's component types, one for each slot.
 ghost use Rattle.std.specs.Prelude.{◌≡◌, refl};
 
-use specs::Entity;
+use specs::{Entity, KeyOf};
 use std::fmt;
 use storages::{
     BTreeStorage, Component, DefaultVecStorage, DenseVecStorage, FlaggedStorage, HashMapStorage,
@@ -107,6 +107,20 @@ impl Component for Health {
 impl fmt::Display for Health {
     fn fmt<W: fmt::Write>(&self, f: &mut fmt::Formatter<W>) -> fmt::Result {
         self.0.fmt(f)
+    }
+}
+
+/// Entities are found by their health.
+#[derive(Clone, Copy, Debug, PartialEq, Eq)]
+pub struct HealthValue;
+
+impl KeyOf<Health> for HealthValue {
+    type Key = i64;
+
+    ghost key = { λ s h. h.0 };
+
+    fn key_of(&self, component: &Health) -> i64 {
+        component.0
     }
 }
 

@@ -6,7 +6,7 @@ mod saved;
 mod script_job;
 mod slots;
 
-pub use components::{Defense, Health, Link, Mapped, Position, Tag, Treed, Velocity};
+pub use components::{Defense, Health, HealthValue, Link, Mapped, Position, Tag, Treed, Velocity};
 pub use script_job::ScriptJob;
 pub use slots::{
     DEF, HP, ID, LINK, Label, Labels, MAP, POS, Saved, SavedPlaces, SavedSlots, Slot, Slots, TAG,

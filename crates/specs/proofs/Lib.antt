@@ -14,3 +14,4 @@ pub mod Loading
 pub mod Phases
 pub mod AllDie
 pub mod Following
+pub mod Covering

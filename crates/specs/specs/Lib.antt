@@ -37,6 +37,7 @@ pub mod Advancing
 pub mod OneSlot
 pub mod GoingLaws
 pub mod Laws
+pub mod Indexing
 pub mod Living
 pub mod Lawful
 pub mod Keeping

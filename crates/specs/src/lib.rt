@@ -16,6 +16,8 @@ mod everyone;
 pub mod field;
 pub mod field_marks;
 mod has;
+mod indexed_runs;
+mod indexing;
 mod job;
 mod laws;
 mod lazy_builder;
@@ -37,6 +39,7 @@ pub use command::{Command, Maintained, Refusal, Reply, SetExpr};
 pub use core_parts::{Core, DeleteError, Parts};
 pub use create_iter::CreateIter;
 pub use has::{Field, Has, component, slot, value};
+pub use indexing::WorldIndexError;
 pub use job::{Job, JobList, LazyUpdate};
 pub use laws::{
     events_lead, evolving_keeps, loads_keep, only_living, phases_keep, quiet_runs, stays_dead,
@@ -120,6 +123,10 @@ pub use joins_parallel::Remake;
 pub use joins_parallel::par_for_each;
 pub use joins_parallel::par_restrict_mut;
 pub use joins_parallel::par_update;
+pub use key_index::IndexError;
+pub use key_index::KeyIndex;
+pub use key_index::KeyOf;
+pub use key_index::Stale;
 pub use phase_threads::Turn;
 pub use phase_threads::in_threads;
 pub use phase_threads::in_threads_by;

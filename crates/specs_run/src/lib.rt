@@ -1,6 +1,7 @@
 //! Scripts of world commands: how their lines are read, run and answered.
 #![tactic(auto)]
 
+mod finding;
 mod parse;
 mod printed;
 mod saving;

@@ -2,7 +2,7 @@
 use crate::sets::set;
 use crate::slot_names::Named;
 use crate::values::Worded;
-use crate::words::{entity, index, number};
+use crate::words::{entity, index, number, whole};
 use slots::ScriptJob;
 use specs::{Command, Entity, Held, Job, ReaderId};
 use std::alloc::{AllocError, Global};
@@ -15,6 +15,17 @@ pub enum Line<'a, S: Held, J> {
     Command(Command<S, J>),
     /// What has to do with labels.
     Saving(Saving<'a>),
+    /// What has to do with the index of `hp`.
+    Finding(Finding),
+}
+
+/// What a line asks for that has to do with the index of `hp`.
+#[derive(Clone, Copy)]
+pub enum Finding {
+    /// A new index, in place of an earlier one.
+    Index,
+    /// The indices that have this value.
+    Find(i64),
 }
 
 /// What a line asks for that has to do with labels.
@@ -73,6 +84,11 @@ where
     match words.as_slice() {
         ["label", e] => match entity(e) {
             Some(e) => Ok(Some(Line::Saving(Saving::Label(e)))),
+            None => Ok(None),
+        },
+        ["index", "hp"] => Ok(Some(Line::Finding(Finding::Index))),
+        ["find", v] => match whole(v) {
+            Some(v) => Ok(Some(Line::Finding(Finding::Find(v)))),
             None => Ok(None),
         },
         ["save"] => Ok(Some(Line::Saving(Saving::Save))),

@@ -1,12 +1,13 @@
 //! A script of commands, run over any reader and two writers.
+use crate::finding::{HealthIndex, answered, before, reads_own};
 use crate::parse::{Line, read};
 use crate::printed::Printed;
 use crate::saving::Saves;
 use crate::slot_names::Named;
 use crate::values::Worded;
 use composed::Empty;
-use slots::{ScriptJob, Slots};
-use specs::{CloneStorages, Parts, World, WorldJob};
+use slots::{Health, ScriptJob, Slots};
+use specs::{CloneStorages, Command, Has, Parts, Refusal, Reply, World, WorldJob};
 use std::alloc::Global;
 use std::fmt::Display;
 use std::io::{self, BufRead, BufReader, BufWriter, Read, Write};
@@ -55,27 +56,30 @@ fn answer_by_slots<R: Read, O: Write + Drop>(
     reader: &mut BufReader<R>,
     writer: &mut BufWriter<O>,
 ) -> io::Result<Option<u64>> {
-    answer_by_new_world::<R, O, Slots>(alloc, reader, writer)
+    answer_by_new_world::<R, O, Slots, _>(alloc, reader, writer)
 }
 
 /// Answers the lines by a new world. It stands for whatever storages, since the end of a world is shorter to prove where they are not known.
-fn answer_by_new_world<R: Read, O: Write + Drop, S: Empty + CloneStorages + Saves + Drop>(
-    alloc: Global,
-    reader: &mut BufReader<R>,
-    writer: &mut BufWriter<O>,
-) -> io::Result<Option<u64>>
+fn answer_by_new_world<
+    R: Read,
+    O: Write + Drop,
+    S: Empty + CloneStorages + Saves + Has<Health, I> + Drop,
+    I,
+>(alloc: Global, reader: &mut BufReader<R>, writer: &mut BufWriter<O>) -> io::Result<Option<u64>>
 where
     S::Slot: Named,
     S::Value: Worded<S::Slot> + Display,
 {
     let mut world = World::<S, ScriptJob>::new(alloc, S::empty(alloc));
-    answer_lines(alloc, &mut world, reader, writer)
+    let mut index = None;
+    answer_lines(alloc, &mut world, &mut index, reader, writer)
 }
 
 /// Answers the lines up to the end of the input, or up to one that can't be read, whose number is told.
-fn answer_lines<R: Read, O: Write + Drop, S: CloneStorages + Saves>(
+fn answer_lines<R: Read, O: Write + Drop, S: CloneStorages + Saves + Has<Health, I>, I>(
     alloc: Global,
     world: &mut World<S, ScriptJob>,
+    index: &mut HealthIndex,
     reader: &mut BufReader<R>,
     writer: &mut BufWriter<O>,
 ) -> io::Result<Option<u64>>
@@ -92,7 +96,8 @@ where
         if reader.read_until(b'\n', &mut line)? == 0 {
             break;
         }
-        if !answer(alloc, world, writer, without_line_feed(line.as_slice()))? {
+        let text = without_line_feed(line.as_slice());
+        if !answer(alloc, world, index, writer, text)? {
             return Ok(Some(number));
         }
     }
@@ -100,9 +105,10 @@ where
 }
 
 /// Does one line, and writes its reply; a line without characters has none. It is false of a line that can't be read.
-fn answer<O: Write + Drop, S: CloneStorages + Saves>(
+fn answer<O: Write + Drop, S: CloneStorages + Saves + Has<Health, I>, I>(
     alloc: Global,
     world: &mut World<S, ScriptJob>,
+    index: &mut HealthIndex,
     writer: &mut BufWriter<O>,
     text: &[u8],
 ) -> io::Result<bool>
@@ -115,7 +121,7 @@ where
     }
     match read(alloc, text)? {
         Some(line) => {
-            respond(alloc, world, writer, line)?;
+            respond(alloc, world, index, writer, line)?;
             Ok(true)
         }
         None => Ok(false),
@@ -123,9 +129,10 @@ where
 }
 
 /// Does what a line asks for, and writes its reply.
-fn respond<S: CloneStorages + Saves, J: WorldJob<S>, O: Write + Drop>(
+fn respond<S: CloneStorages + Saves + Has<Health, I>, I, J: WorldJob<S>, O: Write + Drop>(
     alloc: Global,
     world: &mut World<S, J>,
+    index: &mut HealthIndex,
     writer: &mut BufWriter<O>,
     line: Line<'_, S, J>,
 ) -> io::Result<()>
@@ -134,8 +141,12 @@ where
 {
     match line {
         Line::Command(command) => {
-            let reply = Printed(world.apply(command));
+            let reply = Printed(reply(world, index, command));
             writeln!(writer, "{reply}")
+        }
+        Line::Finding(finding) => {
+            let found = answered(&mut world.parts().core, index, finding);
+            writeln!(writer, "{found}")
         }
         Line::Saving(saving) => {
             let Parts { entities, storages } = world.parts().core.parts();
@@ -143,6 +154,19 @@ where
             writeln!(writer, "{said}")
         }
     }
+}
+
+/// Does a command. One that turns the events of `hp` off ends the index first, and the index's reader is no script's.
+fn reply<S: CloneStorages + Has<Health, I>, I, J: WorldJob<S>>(
+    world: &mut World<S, J>,
+    index: &mut HealthIndex,
+    command: Command<S, J>,
+) -> Reply<S::Value> {
+    if reads_own(index, &command) {
+        return Reply::Refused(Refusal::UnknownReader);
+    }
+    before(&mut world.parts().core, index, &command);
+    world.apply(command)
 }
 
 /// Tells of a line that can't be read.

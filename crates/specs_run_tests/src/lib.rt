@@ -8,6 +8,8 @@ mod hostile_entities;
 #[cfg(test)]
 mod hostile_scripts;
 #[cfg(test)]
+mod index_scripts;
+#[cfg(test)]
 mod job_scripts;
 #[cfg(test)]
 mod runs;
