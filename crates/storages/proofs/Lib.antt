@@ -10,3 +10,4 @@ pub mod Unread
 pub mod Readers
 pub mod Walked
 pub mod Telling
+pub mod Unordered

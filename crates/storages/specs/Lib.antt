@@ -13,6 +13,7 @@ pub mod DefaultVec
 pub mod Maps
 pub mod Null
 pub mod SliceLends
+pub mod Unordered
 pub mod Slices
 pub mod SliceLaws
 pub mod Slot

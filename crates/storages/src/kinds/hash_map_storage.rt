@@ -1,88 +1,77 @@
-//! A hash map from indices to components.
-ghost use Rattle.std.specs.Prelude.{refl, ◌≡◌, ℕ, [], Some, IsOk, ⊤};
-ghost use Rattle.std.specs.HashMap.{IsEmpty};
-ghost use Rattle.storages.specs.Maps.{meaning_of_hash};
+//! The dense form, without its slice.
+ghost use Rattle.std.specs.Prelude.{refl, ◌≡◌, [], ⊤};
+ghost use Rattle.storages.specs.DenseValues.{dense_meaning};
+ghost use Rattle.storages.specs.Unordered.{unordered};
 
+use crate::kinds::dense_vec_storage::DenseVecStorage;
 use crate::unprotected::{Kind, TryDefault, UnprotectedStorage};
 use hibits::{BitSet, Index};
 use std::alloc::{AllocError, Global};
-use std::collections::HashMap;
 
-/// Components in a hash map: best where very few entities have one.
+/// Components without gaps and without a slice, found by a table in pages: a get takes three loads and no hash. It takes what `DenseVecStorage` takes.
 ///
-/// Ports `specs::storage::HashMapStorage`.
+/// Ports `specs::storage::HashMapStorage`, which is a hash map.
 pub struct HashMapStorage<T> {
-    map: HashMap<Index, T>,
+    dense: DenseVecStorage<T>,
 }
 
 impl<T: Drop> Drop for HashMapStorage<T> {
     fn drop(self) {
-        let HashMapStorage { map: _map } = self;
+        let HashMapStorage { dense: _dense } = self;
     }
 }
 
 impl<T> TryDefault for HashMapStorage<T> {
-    ghost IsDefault = { λ s. IsEmpty s.map };
+    ghost IsDefault = { λ s. s.dense.places.items ≡ [] };
 
     ghost TakesNone = { ⊤ };
 
     fn try_default(alloc: Global) -> Result<Self, String> {
-        Ok(HashMapStorage {
-            map: HashMap::new(alloc),
-        })
+        let dense = DenseVecStorage::try_default(alloc)?;
+        Ok(HashMapStorage { dense })
     }
 }
 
 impl<T: Drop> Kind<T> for HashMapStorage<T> {
-    ghost meaning = { λ s. meaning_of_hash s.map };
+    ghost meaning = { λ s. unordered (dense_meaning s.dense) };
 }
 
 impl<T: Drop> UnprotectedStorage<T> for HashMapStorage<T> {
-    ghost use Rattle.storages.specs.Maps.{new_of_no_hash};
+    ghost use Rattle.storages.specs.Dense.{new_of_empty};
+    ghost use Rattle.storages.specs.Unordered.{new_unordered};
 
-    fn clean(&mut self, _has: &BitSet) -> Result<(), AllocError> {
-        self.map.clear();
-        Ok(())
+    #[tactic(auto, using(crate::proofs::Unordered::masks_unordered, crate::proofs::Unordered::empties_unordered, crate::proofs::Unordered::keeps_unordered))]
+    fn clean(&mut self, has: &BitSet) -> Result<(), AllocError> {
+        self.dense.clean(has)
     }
 
     #[inline(always)]
     fn get(&self, id: Index) -> &T {
-        match self.map.get(&id) {
-            Some(value) => value,
-            None => unreachable!(),
-        }
+        self.dense.get(id)
     }
 
     #[inline(always)]
+    #[tactic(auto, using(crate::proofs::Unordered::writes_unordered, crate::proofs::Unordered::presence_unordered, crate::proofs::Unordered::keeps_unordered))]
     fn get_mut(&mut self, id: Index) -> Result<&mut T, AllocError> {
-        match self.map.get_mut(&id) {
-            Some(value) => Ok(value),
-            None => unreachable!(),
-        }
+        self.dense.get_mut(id)
     }
 
     #[inline(always)]
+    #[tactic(auto, using(crate::proofs::Unordered::puts_unordered, crate::proofs::Unordered::keeps_unordered))]
     fn insert(&mut self, id: Index, value: T) -> Result<(), (AllocError, T)> {
-        match self.map.insert(id, value) {
-            Ok(_) => Ok(()),
-            Err(refused) => {
-                let (_, value) = refused.value;
-                Err((AllocError, value))
-            }
-        }
+        self.dense.insert(id, value)
     }
 
     #[inline(always)]
+    #[tactic(auto, using(crate::proofs::Unordered::frees_unordered, crate::proofs::Unordered::keeps_unordered))]
     fn remove(&mut self, id: Index) -> Result<T, AllocError> {
-        match self.map.remove(&id) {
-            Some(value) => Ok(value),
-            None => unreachable!(),
-        }
+        self.dense.remove(id)
     }
 
     #[inline(always)]
+    #[tactic(auto, using(crate::proofs::Unordered::frees_unordered))]
     fn drop(&mut self, id: Index) {
-        let _ = self.map.remove(&id);
+        self.dense.drop(id);
     }
 
     fn reserve_events(&mut self, _n: usize) -> Result<(), AllocError> {
@@ -95,5 +84,5 @@ impl<T: Drop> UnprotectedStorage<T> for HashMapStorage<T> {
 
     ghost room_is_wanted = { λ s. record { wanted = refl; inner = λ n h. h } };
 
-    ghost default_is_new = { λ s e. new_of_no_hash s.map e };
+    ghost default_is_new = { λ s e. new_unordered (dense_meaning s.dense) (new_of_empty s.dense.values.items s.dense.ids.items s.dense.places.items e) };
 }
