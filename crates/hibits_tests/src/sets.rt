@@ -1,4 +1,6 @@
 //! What no clause says: counts of words as they were worked out by hand, and that calls that grow succeed.
+ghost use Rattle.std.specs.Prelude.{◌<◌};
+
 use crate::asserts::{equal, holds};
 use hibits::*;
 use std::alloc::{AllocError, Global};
@@ -231,7 +233,9 @@ fn trees(rt: HostRuntime) -> Result<(), Fail> {
 }
 
 /// A set with each multiple of `step` below the limit.
-fn scattered(alloc: Global, step: usize) -> Result<BitSet, SetError> {
+fn scattered(alloc: Global, step: usize) -> Result<BitSet, SetError>
+    requires { 0 < step }
+{
     let mut set = BitSet::new(alloc);
     for id in (0..INDEX_LIMIT).step_by(step) {
         set.add(id)?;
