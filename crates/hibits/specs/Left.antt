@@ -17,14 +17,14 @@ passing p a (suc n) = cond (p a) (a ∷ passing p (suc a) n) (passing p (suc a) 
 unfoldable pub left : (ℕ → Bool) → ℕ → List ℕ
 left p a = passing p a (INDEX_LIMIT - a)
 
-pub passing-none : (p : ℕ → Bool) (n a : ℕ) → ((k : ℕ) → a ≤ k → k < a + n → p k ≡ true → ⊥) → passing p a n ≡ []
+passing-none : (p : ℕ → Bool) (n a : ℕ) → ((k : ℕ) → a ≤ k → k < a + n → p k ≡ true → ⊥) → passing p a n ≡ []
 unfolding passing
 passing-none p zero a none = refl
 passing-none p (suc n) a none =
     ap (λ b. cond b (a ∷ passing p (suc a) n) (passing p (suc a) n)) (false_from_ne_true (p a) (none a (omega arith) (omega arith)))
     ∙ passing-none p n (suc a) (λ k ge lt. none k (omega arith) (omega arith))
 
-pub passing-next : (p : ℕ → Bool) (n a i m : ℕ) → a ≤ i → suc i + m ≡ a + n → p i ≡ true → ((k : ℕ) → a ≤ k → k < i → p k ≡ true → ⊥) → passing p a n ≡ i ∷ passing p (suc i) m
+passing-next : (p : ℕ → Bool) (n a i m : ℕ) → a ≤ i → suc i + m ≡ a + n → p i ≡ true → ((k : ℕ) → a ≤ k → k < i → p k ≡ true → ⊥) → passing p a n ≡ i ∷ passing p (suc i) m
 unfolding passing
 passing-next p zero a i m le len is none = absurd (omega arith)
 passing-next p (suc n) a i m le len is none =

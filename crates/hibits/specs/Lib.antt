@@ -7,6 +7,5 @@ pub mod Sets
 pub mod Views
 pub mod Walking
 pub mod Walks
-pub mod Words
 pub mod WalkOf
 pub mod Lasting

@@ -1,23 +1,65 @@
 //! A walk over layers, which is passed them at each step.
-ghost use Rattle.std.specs.Prelude.{◌≡◌, ℕ, ◌+◌, ◌-◌, ◌*◌, ◌/◌, ◌^◌, ◌<◌, ◌≤◌, Bool, true, false, [], ◌∷◌, MatchOption, IfSome, IfNone, min};
+ghost use Rattle.std.specs.Prelude.{◌≡◌, ℕ, ◌+◌, ◌-◌, ◌*◌, ◌/◌, ◌%◌, ◌^◌, ◌<◌, ◌≤◌, Bool, true, false, cond, [], ◌∷◌, MatchOption, IfSome, IfNone, bit_and, min};
+ghost use Rattle.std.specs.Int.{trailing_zeros, bit_at, w64};
 ghost use Rattle.hibits.specs.Walks.{IsNext};
 ghost use Rattle.hibits.specs.Left.{left};
-ghost use Rattle.hibits.specs.WalkOf.{IsWalkOf, position, words_read};
+ghost use Rattle.hibits.specs.WalkOf.{IsWalkOf, position, steps_left, words_read};
 
 use crate::layers::Layers;
-use crate::limits::{INDEX_LIMIT, Index};
-use crate::word_walk::{WordWalk, least};
+use crate::limits::{INDEX_LIMIT, Index, LAYERS};
+use crate::reads::Reads;
 
 /// Where a walk is in layers that stand apart from it, and are passed to each step: so a cursor can walk the mask of
 /// a storage that it also changes, as long as the mask stays. It keeps the word of each layer that it is in, and reads none of them twice.
 #[derive(Clone, Copy)]
 pub struct Walk {
-    // The words of layer 0, of which the last one that was taken is the current one.
-    words: WordWalk,
-    // What is left of the current word.
+    // What is left of the current word of each layer.
     word0: u64,
+    word1: u64,
+    word2: u64,
+    word3: u64,
+    reads: Reads,
     // The first index that isn't walked.
     from: Index,
+    // Where the current word of each layer below the top ends: the first index of the layer after it.
+    end0: u32,
+    end1: u32,
+    end2: u32,
+}
+
+/// The least index that is left of a word of a layer.
+#[inline(always)]
+fn least(word: u64, end: u32) -> u32
+    requires some { 0 < word }
+    requires end { 64 ≤ end }
+    ensures { result ≡ end - 64 + trailing_zeros w64 word }
+{
+    end - 64 + word.trailing_zeros()
+}
+
+/// Goes from the word of a layer to that of its least index, in the layer `level` below it.
+#[inline(always)]
+fn descend<M: Layers>(
+    mask: &M,
+    level: usize,
+    above: &mut u64,
+    above_end: u32,
+    end: &mut u32,
+    reads: &mut Reads,
+) -> u64
+    requires level { level + 1 < LAYERS }
+    requires some { 0 < above.old }
+    requires within { 64 ≤ above_end }
+    requires fits { above_end ≤ 64 ^ (LAYERS - 1 - level) }
+    ensures above { above.new ≡ bit_and above.old (above.old - 1) }
+    ensures end { end.new ≡ 64 * (above_end - 64 + trailing_zeros w64 above.old + 1) }
+    ensures bits { (j : ℕ) → j < 64 → bit_at result j ≡ cond (M.has mask.now level (64 * (above_end - 64 + trailing_zeros w64 above.old) + j)) 1 0 }
+    ensures reads { reads.new ≡ min (reads.old + M.cost mask.now) (2 ^ 64 - 1) }
+{
+    let place = least(*above, above_end);
+    *above &= *above - 1;
+    *end = 64 * (place + 1);
+    mask.word(level, place, reads)
 }
 
 impl Walk {
@@ -27,10 +69,18 @@ impl Walk {
         ensures position { position result ≡ 0 }
         ensures reads { words_read result ≡ min (M.cost mask.now) (2 ^ 64 - 1) }
     {
+        let mut reads = Reads::new();
+        let top = mask.word(LAYERS - 1, 0, &mut reads);
         Walk {
-            words: WordWalk::new(mask),
             word0: 0,
+            word1: 0,
+            word2: 0,
+            word3: top,
+            reads,
             from: 0,
+            end0: 0,
+            end1: 0,
+            end2: 0,
         }
     }
 
@@ -52,7 +102,7 @@ impl Walk {
         if !self.fill0(mask) {
             return None;
         }
-        let index = least(self.word0, self.words.end0);
+        let index = least(self.word0, self.end0);
         self.word0 &= self.word0 - 1;
         self.from = index + 1;
         Some(index)
@@ -66,13 +116,80 @@ impl Walk {
         ensures position { position self.new ≡ position self.old }
         ensures reads { words_read self.old ≤ words_read self.new }
         ensures some { result ≡ true → 0 < self.new.word0 }
-        ensures none { result ≡ false → (i : ℕ) → position self.old ≤ i → i < INDEX_LIMIT → M.has mask.now 0 i ≡ true → ⊥ }
+        ensures none { result ≡ false → (self.new.word0 ≡ 0) × (self.new.word1 ≡ 0) × (self.new.word2 ≡ 0) × (self.new.word3 ≡ 0) }
     {
-        if self.word0 == 0 {
-            match self.words.next(mask) {
-                Some((_, word)) => self.word0 = word,
-                None => return false,
+        while self.word0 == 0 {
+            if !self.fill1(mask) {
+                return false;
             }
+            self.word0 = descend(
+                mask,
+                0,
+                &mut self.word1,
+                self.end1,
+                &mut self.end0,
+                &mut self.reads,
+            );
+        }
+        true
+    }
+
+    /// The same for layer 1. Layer 0 stays.
+    #[inline(always)]
+    fn fill1<M: Layers>(&mut self, mask: &M) -> bool
+        requires { IsWalkOf (M.has mask.now) (M.cost mask.now) self.old }
+        ensures walk { IsWalkOf (M.has mask.now) (M.cost mask.now) self.new }
+        ensures position { position self.new ≡ position self.old }
+        ensures reads { words_read self.old ≤ words_read self.new }
+        ensures word0 { self.new.word0 ≡ self.old.word0 }
+        ensures end0 { self.new.end0 ≡ self.old.end0 }
+        ensures some { result ≡ true → 0 < self.new.word1 }
+        ensures none { result ≡ false → (self.new.word1 ≡ 0) × (self.new.word2 ≡ 0) × (self.new.word3 ≡ 0) }
+        ensures nearer { steps_left self.new ≤ steps_left self.old }
+    {
+        while self.word1 == 0 {
+            if !self.fill2(mask) {
+                return false;
+            }
+            self.word1 = descend(
+                mask,
+                1,
+                &mut self.word2,
+                self.end2,
+                &mut self.end1,
+                &mut self.reads,
+            );
+        }
+        true
+    }
+
+    /// The same for layer 2. The layers below stay.
+    #[inline(always)]
+    fn fill2<M: Layers>(&mut self, mask: &M) -> bool
+        requires { IsWalkOf (M.has mask.now) (M.cost mask.now) self.old }
+        ensures walk { IsWalkOf (M.has mask.now) (M.cost mask.now) self.new }
+        ensures position { position self.new ≡ position self.old }
+        ensures reads { words_read self.old ≤ words_read self.new }
+        ensures word0 { self.new.word0 ≡ self.old.word0 }
+        ensures end0 { self.new.end0 ≡ self.old.end0 }
+        ensures word1 { self.new.word1 ≡ self.old.word1 }
+        ensures end1 { self.new.end1 ≡ self.old.end1 }
+        ensures some { result ≡ true → 0 < self.new.word2 }
+        ensures none { result ≡ false → (self.new.word2 ≡ 0) × (self.new.word3 ≡ 0) }
+        ensures nearer { steps_left self.new ≤ steps_left self.old }
+    {
+        while self.word2 == 0 {
+            if self.word3 == 0 {
+                return false;
+            }
+            self.word2 = descend(
+                mask,
+                2,
+                &mut self.word3,
+                64,
+                &mut self.end2,
+                &mut self.reads,
+            );
         }
         true
     }
@@ -82,6 +199,6 @@ impl Walk {
     pub fn reads(&self) -> u64
         ensures { result ≡ words_read self.now }
     {
-        self.words.reads()
+        self.reads.count()
     }
 }

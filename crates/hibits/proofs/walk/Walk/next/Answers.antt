@@ -1,15 +1,17 @@
 use Rattle.std.proofs.Common.{arith, rules, refl}
 use Rattle.hibits.specs.Left.{left-next, left-none}
-use Rattle.hibits.proofs.StepLemmas.{is_next, is_below, member_taken, end0_from}
+use Rattle.hibits.proofs.StepLemmas.{ended, is_next, is_below, member_taken, end0_from}
 use Rattle.hibits.proofs.walk.Walk.next.Goals as goal
 
 pub returns-then-not-fill0-clause-end : goal.returns-then-not-fill0-clause-end
 returns-then-not-fill0-clause-end g c i ge lt is =
-    c.fill0.ensures.none (search rules) i ge lt is
+    let f = c.fill0.ensures in
+    ended _ _ (g.met.M.Layers.covers c.args.mask.now) _ f.walk (f.none (search rules)) i (rw f.position ge) lt is
 
 pub returns-then-not-fill0-clause-items : goal.returns-then-not-fill0-clause-items
 returns-then-not-fill0-clause-items g c =
-    left-none _ _ (λ i ge lt is. c.fill0.ensures.none (search rules) i ge lt is)
+    let f = c.fill0.ensures in
+    left-none _ _ (λ i ge lt is. ended _ _ (g.met.M.Layers.covers c.args.mask.now) _ f.walk (f.none (search rules)) i (rw f.position ge) lt is)
 
 pub least-index-requires-clause-end : goal.least-index-requires-clause-end
 least-index-requires-clause-end g c =

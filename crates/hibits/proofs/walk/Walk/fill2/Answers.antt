@@ -1,6 +1,6 @@
 use Rattle.std.proofs.Common.{◌<◌, arith, rules}
 use Rattle.hibits.proofs.StepLemmas.{place3, step2, grows}
-use Rattle.hibits.proofs.word_walk.WordWalk.fill2.Goals as goal
+use Rattle.hibits.proofs.walk.Walk.fill2.Goals as goal
 
 pub loop-self-smaller : goal.loop-self-smaller
 loop-self-smaller g c =
@@ -16,7 +16,9 @@ loop-self-preserved g c =
     let i = c.loop-self.invariant in
     record {
       walk = step2 _ _ (g.met.M.Layers.covers c.args.mask.now) _ i.walk _ _ _ _ (search rules) d.reads (search rules) some d.above d.end d.bits;
+      position = i.position;
       reads = grows _ _ _ i.reads (search rules) d.reads;
+      word0 = i.word0;
       end0 = i.end0;
       word1 = i.word1;
       end1 = i.end1;

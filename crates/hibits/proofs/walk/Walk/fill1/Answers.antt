@@ -1,6 +1,6 @@
 use Rattle.std.proofs.Common.{◌<◌, arith, rules, ◌∙◌}
 use Rattle.hibits.proofs.StepLemmas.{place2, end2_from, end2_fits, step1, grows}
-use Rattle.hibits.proofs.word_walk.WordWalk.fill1.Goals as goal
+use Rattle.hibits.proofs.walk.Walk.fill1.Goals as goal
 
 pub descend-self-requires-clause-within : goal.descend-self-requires-clause-within
 descend-self-requires-clause-within g c =
@@ -28,7 +28,9 @@ loop-self-preserved g c =
     let e2 = f.word1 in
     record {
       walk = step1 _ _ (g.met.M.Layers.covers c.args.mask.now) _ f.walk _ _ _ _ (search rules) d.reads (f.word1 ∙ c.loop-self-test.true) some d.above d.end d.bits;
+      position = f.position ∙ i.position;
       reads = grows _ _ _ (omega (arith, i.reads, f.reads)) (search rules) d.reads;
+      word0 = f.word0 ∙ i.word0;
       end0 = f.end0 ∙ i.end0;
       nearer = omega (arith, p, d.end, i.nearer, f.nearer, fits, e1, e2);
     }

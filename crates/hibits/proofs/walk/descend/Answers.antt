@@ -1,7 +1,7 @@
 use Rattle.std.proofs.Common.{arith, rules, w64}
 use Rattle.std.proofs.lemmas.Nat.Bits.{bit_at-trailing_zeros}
 use Rattle.hibits.proofs.StepLemmas.{end_small}
-use Rattle.hibits.proofs.word_walk.descend.Goals as goal
+use Rattle.hibits.proofs.walk.descend.Goals as goal
 
 pub overflow_mul-end : goal.overflow_mul-end
 overflow_mul-end g c =
