@@ -11,6 +11,7 @@ mod channels;
 mod components;
 mod cursors;
 mod entries;
+mod indexed;
 mod jobs;
 mod joined;
 mod labels;

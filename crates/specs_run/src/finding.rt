@@ -1,7 +1,10 @@
 //! The lines of a script that have to do with the index of `hp`, and what others do to it.
 use crate::parse::Finding;
 use slots::{Health, HealthValue};
-use specs::{Command, Core, Has, Index, KeyIndex, Storages, WorldIndexError, WriteStorage, slot};
+use specs::{
+    Command, Core, EntitiesRes, Has, Index, KeyIndex, MaskedStorage, Parts, Storages,
+    WorldIndexError, WriteStorage, slot,
+};
 use std::fmt;
 
 /// The index of `hp`, if there is one.
@@ -117,12 +120,21 @@ fn find<'a, S: Has<Health, I>, I>(
     }
 }
 
+/// Ends an index with its reader.
+fn end_on(
+    health: &mut MaskedStorage<Health>,
+    entities: &EntitiesRes,
+    ended: KeyIndex<Health, HealthValue>,
+) {
+    ended.end(&mut WriteStorage::new(entities, health));
+}
+
 /// Ends the index with its reader, if there is one.
 fn end<S: Has<Health, I>, I>(core: &mut Core<S>, index: &mut HealthIndex) {
     if let Some(ended) = index.take() {
-        let parts = core.parts();
-        if let Some(health) = parts.storages.field_mut() {
-            ended.end(&mut WriteStorage::new(&parts.entities, health));
+        let Parts { entities, storages } = core.parts();
+        if let Some(health) = storages.field_mut() {
+            end_on(health, entities, ended);
         }
     }
 }
