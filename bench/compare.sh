@@ -1,5 +1,6 @@
 #!/usr/bin/env bash
-# Compares this repository's benchmark with the same workloads over specs 0.17.0 in Rust, run alternately. Prints for each
+# Compares this repository's benchmark with the same workloads over specs 0.17.0 in Rust, run alternately, and those of an index, which specs
+# has not, with an index kept by hand in Rust (bench/twin). Prints for each
 # workload the least time of both, their ratio and whether the checksums agree, as a table.
 # A workload of this repository that does one of the others' in another way is named by that one's name, a plus sign and the way.
 # usage: bench/compare.sh [N=100000] [ITERATIONS=15] [ROUNDS=5] [NAME-PREFIX..]
@@ -16,11 +17,14 @@ baseline=$(cd "$here" && cd "${SPECS_BASELINE:-../shared/baseline}" 2>/dev/null 
 build=${BASELINE_BUILD:-${TMPDIR:-/tmp}/specs-baseline-$(id -u)}
 count=${1:-100000} iterations=${2:-15} rounds=${3:-5}
 prefixes=("${@:4}")
-[ ${#prefixes[@]} -gt 0 ] || prefixes=(i_ l_atomic_create l_atomic_maintain a_ g_ m_ z_ k_ e_ f_ b_ c_ h_ n_ o_ j_par_heavy_t1 j_par_heavy_t2 j_par_heavy_t4)
+[ ${#prefixes[@]} -gt 0 ] || prefixes=(i_ l_atomic_create l_atomic_maintain a_ g_ m_ z_ k_ e_ f_ b_ c_ h_ n_ o_ p_ j_par_heavy_t1 j_par_heavy_t2 j_par_heavy_t4)
 rust=$build/target/release/bench
+twin=$build/twin
 room=${BENCH_ROOM:-${TMPDIR:-/tmp}/specs-bench-$(id -u)}
 ours=$room/crates/bench/out/bench
 [ -x "$rust" ] || bash "$baseline/assemble.sh" "$build" >/dev/null
+mkdir -p "$build"
+[ "$twin" -nt "$here/bench/twin/main.rs" ] || rustc --edition 2021 -C opt-level=3 -o "$twin" "$here/bench/twin/main.rs"
 bash "$here/bench/prove.sh" "$room" >/dev/null 2>&1 || { echo "bench/compare.sh: the benchmark is not built: bench/prove.sh says why" >&2; exit 1; }
 # The command that keeps a program to the processors that a prefix names.
 kept_to() {
@@ -33,7 +37,9 @@ results=$(mktemp -d)
 trap 'rm -r "$results"' EXIT
 for ((round = 0; round < rounds; round++)); do
   for prefix in "${prefixes[@]}"; do
-    $(kept_to "$prefix") "$rust" "$count" "$iterations" "$prefix" >>"$results/rust"
+    for program in "$rust" "$twin"; do
+      $(kept_to "$prefix") "$program" "$count" "$iterations" "$prefix" >>"$results/rust"
+    done
     $(kept_to "$prefix") "$ours" "$count" "$iterations" "$prefix" >>"$results/ours"
   done
 done

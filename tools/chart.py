@@ -14,7 +14,7 @@ DATE = re.compile(r"^(\d{4}-\d\d-\d\d), ")
 LEFT, WIDTH, STEP, TOP = 380, 480, 18, 104
 LEAST, MOST = 0.125, 8.0
 FASTER, SLOWER = "#2a7f62", "#b5482f"
-# What one operation of each workload is, in words; none where both programs do next to nothing.
+# What one operation of each workload is, in words; none where both programs do next to nothing, or the other one is not specs.
 WORDS = {
     "i_bitset_add": "add to a set, in order",
     "i_bitset_add_rand": "add to a set, at random",
@@ -36,6 +36,11 @@ WORDS = {
     "m_lazy_insert_maintain": "queued insertion, done by maintain",
     "m_lazy_create_maintain": "queued birth with two components",
     "z_fetch_read_storage": None,
+    "p_index_refresh": None,
+    "p_index_refresh_own": None,
+    "p_index_refresh_same": None,
+    "p_index_find": None,
+    "p_index_build": None,
     "e_get_rand_vec": "read at random, vector",
     "e_get_rand_dense": "read at random, dense",
     "e_get_rand_hash": "read at random, hash map",

@@ -1,4 +1,4 @@
-/* Counts a program's requests for memory, and refuses one: that whose number REFUSED_REQUEST gives, none where it is 0 or missing.
+/* Counts a program's requests for memory, and refuses one: that whose number REFUSED_REQUEST gives, none where it is 0 or missing; and likewise another, by REFUSED_TOO.
    Loaded before a program by LD_PRELOAD. The count stands, as eight bytes, in the file that REQUESTS_FILE names, however the program ends. */
 #define _GNU_SOURCE
 #include <dlfcn.h>
@@ -11,11 +11,18 @@
 
 static atomic_ulong own;
 static atomic_ulong *requests = &own;
-static unsigned long refused;
+static unsigned long refused, refused_too;
+
+/* The number that a variable gives, or 0. */
+static unsigned long number_in(const char *name)
+{
+    const char *text = getenv(name);
+    return text ? strtoul(text, NULL, 10) : 0;
+}
 
 __attribute__((constructor)) static void begin(void)
 {
-    const char *path = getenv("REQUESTS_FILE"), *wanted = getenv("REFUSED_REQUEST");
+    const char *path = getenv("REQUESTS_FILE");
     int file = path ? open(path, O_RDWR | O_CREAT | O_TRUNC, 0600) : -1;
     if (file >= 0 && ftruncate(file, sizeof own) == 0) {
         void *shared = mmap(NULL, sizeof own, PROT_READ | PROT_WRITE, MAP_SHARED, file, 0);
@@ -24,14 +31,16 @@ __attribute__((constructor)) static void begin(void)
     }
     if (file >= 0)
         close(file);
-    refused = wanted ? strtoul(wanted, NULL, 10) : 0;
+    refused = number_in("REFUSED_REQUEST");
+    refused_too = number_in("REFUSED_TOO");
     atomic_store(requests, 0);
 }
 
-/* Whether this request is the one that is refused. */
+/* Whether this request is one that is refused. */
 static int is_refused(void)
 {
-    if (atomic_fetch_add(requests, 1) + 1 != refused)
+    unsigned long number = atomic_fetch_add(requests, 1) + 1;
+    if (number != refused && number != refused_too)
         return 0;
     errno = ENOMEM;
     return 1;

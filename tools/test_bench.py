@@ -113,6 +113,28 @@ class Benchmark(Tree):
         self.refuses(self.room("--back"), "has changed since")
         self.assertEqual(self.text("bench/src/main.rt.src"), "a\t02\n")
 
+    def compared(self, ours, *words):
+        """What the comparison prints where specs in Rust, the index by hand and this repository print these lines."""
+        self.take("bench/compare.sh")
+        self.write("bench/twin/main.rs", "fn main() {}\n")
+        self.write("rust/assemble.sh", "mkdir -p \"$1/target/release\"\nprintf '#!/bin/sh\\n[ $3 = p_ ] || printf \"a_one\\\\t4.000\\\\t01\\\\n\"\\n' >\"$1/target/release/bench\"\n"
+                   "chmod +x \"$1/target/release/bench\"\n")
+        self.write("bin/rustc", "#!/bin/sh\nwhile [ $# -gt 1 ]; do [ \"$1\" != -o ] || to=$2; shift; done\n"
+                   "printf '#!/bin/sh\\n[ $3 = a_ ] || printf \"p_index\\\\t2.000\\\\t05\\\\n\"\\n' >\"$to\"\nchmod +x \"$to\"\n", runs=True)
+        self.write("room/crates/bench/out/bench", f"#!/bin/sh\ncase $3 in\n{ours}esac\n", runs=True)
+        self.write("bench/prove.sh", "exit 0\n")
+        names = {"SPECS_BASELINE": f"{self.top}/rust", "BASELINE_BUILD": f"{self.top}/build", "BENCH_ROOM": f"{self.top}/room"}
+        return self.run_in("env", *[f"{name}={value}" for name, value in names.items()], "bash", "bench/compare.sh", "10", "1", "2", *words)
+
+    def test_a_comparison_with_specs_and_with_an_index_by_hand(self):
+        ran = self.compared("a_) printf 'a_one\\t1.000\\t01\\n' ;;\np_) printf 'p_index\\t3.000\\t05\\n' ;;\n", "a_", "p_")
+        self.accepts(ran)
+        self.assertEqual(ran.stdout.split("\n")[-3:-1], ["| a_one | 4.000 | 1.000 | 0.25 | equal |", "| p_index | 2.000 | 3.000 | 1.50 | equal |"])
+
+    def test_a_comparison_whose_checksums_differ(self):
+        ran = self.compared("a_) printf 'a_one\\t1.000\\t02\\n' ;;\np_) printf 'p_index\\t1.000\\t06\\n' ;;\n")
+        self.assertEqual(ran.stdout.count("DIFFER"), 2, ran.stdout)
+
     def test_another_folder(self):
         self.write("room/letter", "")
         self.refuses(self.room(), "has something else in it")

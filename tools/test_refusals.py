@@ -2,11 +2,15 @@
 """Tests of tools/refusals.py: what its judges let pass, and what they tell.
 
     python3 tools/test_refusals.py"""
+import os
 import re
+import shutil
+import tempfile
 import types
 import unittest
 
-from refusals import LINES, REFUSED, disagreement, read, wrong_talk
+from refusals import LINES, REFUSED, Refuser, disagreement, read, wrong_talk
+from refused_tests import Test
 
 SAID = [("register hp", "ok"), ("create", "0:1"), ("insert hp 0:1 5", "none"), ("count hp", "1")]
 
@@ -66,6 +70,41 @@ class TheScriptHasAllLines(unittest.TestCase):
         for form in forms:
             words = re.match(r"[a-z -]*[a-z]", form)[0]
             self.assertTrue(any(line == words or line.startswith(words + " ") for line in lines), form)
+
+
+class TestsAreRefused(unittest.TestCase):
+    """tools/refused_tests.py, over a stand-in for a program of tests that tells how many requests it met, and fails where some are refused."""
+
+    def tried(self, failing, refusals=1, requests=5):
+        """What is told of a test that fails where just these requests are refused."""
+        folder = tempfile.mkdtemp(prefix="test-refused-")
+        self.addCleanup(shutil.rmtree, folder)
+        with open(f"{folder}/tests", "w", encoding="utf-8") as it:
+            it.write("#!/usr/bin/env python3\nimport os, sys\nrefused = tuple(int(os.environ[it]) for it in ('REFUSED_REQUEST', 'REFUSED_TOO'))\n"
+                     f"with open(os.environ['REQUESTS_FILE'], 'wb') as it:\n    it.write(({requests}).to_bytes(8, sys.byteorder))\n"
+                     f"sys.exit(sys.argv[1:] != ['a_test'] or refused in {failing})\n")
+        os.chmod(it.name, 0o700)
+        refuser = Refuser.__new__(Refuser)
+        refuser.folder, refuser.library = folder, ""
+        return Test(refuser, it.name, "a_test", refusals).tried()
+
+    def test_each_request_of_a_test_that_passes_counts(self):
+        self.assertEqual(self.tried([]), (5, []))
+
+    def test_a_request_at_which_it_fails_is_told(self):
+        passed, wrong = self.tried([(3, 0)])
+        self.assertEqual(passed, 4)
+        self.assertIn("request 3: status 1", wrong[0])
+
+    def test_a_second_request_is_refused_where_two_are_to_be_stood(self):
+        self.assertEqual(self.tried([(2, 4)]), (5, []))
+        passed, wrong = self.tried([(2, 4)], 2)
+        self.assertEqual(passed, 4)
+        self.assertIn("request 2 and 4", wrong[0])
+
+    def test_one_that_fails_by_itself_or_asks_for_no_memory_is_told(self):
+        self.assertIn("status 1", self.tried([(0, 0)])[1][0])
+        self.assertIn("no memory", self.tried([], requests=0)[1][0])
 
 
 if __name__ == "__main__":

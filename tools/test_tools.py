@@ -72,6 +72,7 @@ class Gate(Tree):
         self.write("bench/try.sh", "echo '1 passed, 0 failed'\n")
         for name in (*GATE_TOOLS, "refusals.py"):
             self.write(f"tools/{name}", "print('3 passed, 0 failed')\n")
+        self.write("tools/refused_tests.py", "")
         self.rt("echo '5 passed, 0 failed'")
         self.commit()
 
@@ -97,6 +98,17 @@ class Gate(Tree):
         self.assertEqual(ran.stdout.split("\n")[-2], "15 passed, 0 failed")
         self.write("tools/refusals.py", "print('3 passed, 1 failed')\n")
         self.refuses(self.gate(), "the refusals failed")
+
+    def test_it_refuses_memory_to_built_tests(self):
+        listing = "import sys\nif '--list' in sys.argv:\n    print('low_tests a')\nelse:\n"
+        self.write("tools/refused_tests.py", f"{listing}    print('2 passed, 0 failed')\n")
+        ran = self.gate()
+        self.accepts(ran)
+        self.assertEqual(ran.stdout.split("\n")[-2], "14 passed, 0 failed")
+        self.write("tools/refused_tests.py", f"{listing}    print('2 passed, 1 failed')\n")
+        self.refuses(self.gate(), "the tests with refused memory failed")
+        self.write("tools/refused_tests.py", "raise SystemExit(1)\n")
+        self.refuses(self.gate(), "are not listed")
 
     def test_no_git(self):
         shutil.rmtree(f"{self.top}/.git")

@@ -1,5 +1,5 @@
 -- What an index covers, it covers after a run that left its reader's events unread.
-use Rattle.std.proofs.Common.{◌≡◌, ◌≢◌, ◌<◌, ℕ, Bool, true, false, ◌||◌, ◌&&◌, cond, eqb, List, [], ◌∷◌, ◌++◌, refl, ap, sym, ◌∙◌, subst, Option, None, Some, inl, inr}
+use Rattle.std.proofs.Common.{◌≡◌, ◌≢◌, ℕ, Bool, true, false, ◌&&◌, cond, eqb, List, [], ◌∷◌, ◌++◌, refl, ap, sym, ◌∙◌, subst, Option, None, Some, inl, inr}
 use mathlib.Core.Path.{fun_ext}
 use Rattle.std.specs.Prelude.{IsSome, MatchOption, ◌⊎◌, Result, Ok, Err, OnOk}
 use Rattle.std.specs.List.{list_any}
@@ -8,8 +8,7 @@ use Rattle.std.specs.FinMap as map
 use Rattle.std.proofs.lemmas.Bool.{or_parts, eqb-true, false_from_ne_true, and_parts, true≢false, false≢true}
 use Rattle.std.proofs.lemmas.List.Folds.{list_any-append}
 use Rattle.entities.specs.Population.{lives}
-use Rattle.key_index.specs.Indexed.{Covers, IsStale, key_in}
-use Rattle.key_index.specs.Keys.{key_at}
+use Rattle.key_index.specs.Indexed.{Covers, IsStale}
 use Rattle.key_index.specs.declared.key_index.KeyIndex.{KeyIndex}
 use Rattle.storages.specs.Channel.{Channel}
 use Rattle.storages.specs.Named.{index_at, is_named, unread_in}

@@ -1,5 +1,5 @@
 -- What an index by a key knows of a slot, and runs that leave its reader alone.
-use Rattle.std.specs.Prelude.{◌≡◌, ℕ, true, false, Option, List, [], ◌∷◌, MatchOption}
+use Rattle.std.specs.Prelude.{◌≡◌, ℕ, true, Option, List, [], ◌∷◌, MatchOption, Vec}
 use Rattle.std.specs.Option.{IfSome}
 use Rattle.std.specs.declared.cmp.Ordering.{Ordering}
 use Rattle.key_index.specs.Indexed.{CoversSlot, IsFresh, IsIndexOfSlot, KeepsSlot}
@@ -8,6 +8,7 @@ use Rattle.storages.specs.Channel.{Channel}
 use Rattle.storages.specs.Slot as masked
 use Rattle.storages.specs.Tracking.{after_read}
 use Rattle.specs.specs.Clones.{Clones}
+use Rattle.specs.specs.Ids.{Ids}
 use Rattle.specs.specs.Marks.{Markers}
 use Rattle.specs.specs.State.{State, OnTable}
 use Rattle.specs.specs.declared.command.Reply.{Reply}
@@ -18,7 +19,7 @@ use Rattle.specs.specs.declared.command.Command.TheVariants.{Events}
 use Rattle.specs.specs.Following.{AreQuiet, IsWatched}
 use Rattle.specs.specs.Reached.{OnlyLiving}
 use Rattle.specs.specs.Readers.{with_channel}
-use Rattle.specs.specs.Steps.{WorldState, Run}
+use Rattle.specs.specs.Steps.{WorldState, world_state, Run}
 use Rattle.specs.specs.Table.{Table, Becomes}
 
 module _ {S J K V : Type 0} where
@@ -64,6 +65,15 @@ module _ {T : Type 0} where
 -- the storages of a world
 abbrev pub stored : {S J K V : Type 0} → World S J K V → S
 stored w = w.parts.core.parts.storages
+
+module _ {S J K V : Type 0} (spares : J → K → ℕ → Type 0) (slot : K) (table : S → Table K V) (ids : S → Ids K) where
+  -- the commands and the jobs that wait leave a reader of the world alone
+  abbrev pub LeaveAloneIn : {Z : Type 0} → ℕ → Vec (Command S J K V) Z → World S J K V → Type 0
+  LeaveAloneIn n commands w = LeaveAlone spares slot n commands.items (world_state table ids w)
+
+  -- something holds if the commands and the jobs that wait leave the index's reader alone, and the index knows the storage's changes
+  abbrev pub IfFollowing : {T X Q Z : Type 0} → (S → Option (masked.Slot T)) → (X → T → Q) → ℕ → KeyIndex T X Q → Vec (Command S J K V) Z → World S J K V → Type 0 → Type 0
+  IfFollowing part key n x commands w C = LeaveAloneIn n commands w → Knows key x (part (stored w)) → C
 
 -- a run, and then one reader of a slot reads its events
 pub record RunsAndReads {S J K V : Type 0} (place : V → K) (clones : Clones K V) (marks : Markers K V) (does : J → State K V → List (Job S J K V) → State K V → Type 0) (wants : J → State K V → Type 0) (slot : K) (n : ℕ) (old : WorldState S J K V) (commands : List (Command S J K V)) (replies : List (Reply V)) (new : WorldState S J K V) : Type 0 where

@@ -3,7 +3,7 @@ ghost use Rattle.std.specs.Prelude.{◌≡◌, Err, IfOk, OnOk, OnErr};
 ghost use Rattle.key_index.specs.Indexed.{IsFresh, IsStale};
 ghost use Rattle.specs.specs.Following.{IsWatched};
 ghost use Rattle.specs.specs.Gone.{KeepsGone};
-ghost use Rattle.specs.specs.Indexing.{LeaveAlone, KeepsAll, Knows, IsUpToDate, RunsAndReads, stored};
+ghost use Rattle.specs.specs.Indexing.{LeaveAloneIn, IfFollowing, KeepsAll, Knows, IsUpToDate, RunsAndReads, stored};
 ghost use Rattle.specs.specs.Reached.{KeepsLiving};
 ghost use Rattle.specs.specs.State.{state_of};
 ghost use Rattle.specs.specs.Steps.{world_state, Run};
@@ -27,8 +27,8 @@ fn run_covered<T: Component, S: CloneStorages + Has<T, I>, I, J: WorldJob<S>, K:
 ) -> Result<Vec<Reply<S::Value>>, AllocError>
 where
     T::Storage: Tracked<T>,
-    ensures covered { LeaveAlone J.spares S.the_slot index.now.reader commands.items (world_state S.table S.ids world.old) → Knows K.key index.now (S.part (stored world.old)) → OnOk result (Knows K.key index.now (S.part (stored world.new))) }
-    ensures watched { LeaveAlone J.spares S.the_slot index.now.reader commands.items (world_state S.table S.ids world.old) → OnOk result (IsWatched J.spares S.the_slot index.now.reader (world_state S.table S.ids world.new)) }
+    ensures covered { IfFollowing J.spares S.the_slot S.table S.ids S.part K.key index.now.reader index.now commands world.old (OnOk result (Knows K.key index.now (S.part (stored world.new)))) }
+    ensures watched { LeaveAloneIn J.spares S.the_slot S.table S.ids index.now.reader commands world.old → OnOk result (IsWatched J.spares S.the_slot index.now.reader (world_state S.table S.ids world.new)) }
     ensures run { IfOk result (λ replies. Run S.place S.clones S.marks J.does J.wants (world_state S.table S.ids world.old) commands.items replies.items (world_state S.table S.ids world.new)) }
     ensures living { KeepsLiving (state_of S.table S.ids world.old) (state_of S.table S.ids world.new) }
     ensures gone { KeepsGone (state_of S.table S.ids world.old).people (state_of S.table S.ids world.new).people }
@@ -54,14 +54,14 @@ impl<S: CloneStorages, J: WorldJob<S>> World<S, J> {
     where
         S: Has<T, I>,
         T::Storage: Tracked<T>,
-        ensures ok { LeaveAlone J.spares S.the_slot index.old.reader commands.items (world_state S.table S.ids self.old) → Knows K.key index.old (S.part (stored self.old)) → IfOk result (λ r. OnOk r.1 (IsUpToDate K.key K.Key.cmp index.new (S.part (stored self.new)))) }
-        ensures keeps { LeaveAlone J.spares S.the_slot index.old.reader commands.items (world_state S.table S.ids self.old) → Knows K.key index.old (S.part (stored self.old)) → IfOk result (λ r. OnOk r.1 (KeepsAll K.key index.new (S.part (stored self.new)))) }
-        ensures knows { LeaveAlone J.spares S.the_slot index.old.reader commands.items (world_state S.table S.ids self.old) → Knows K.key index.old (S.part (stored self.old)) → OnOk result (Knows K.key index.new (S.part (stored self.new))) }
+        ensures ok { IfFollowing J.spares S.the_slot S.table S.ids S.part K.key index.old.reader index.old commands self.old (IfOk result (λ r. OnOk r.1 (IsUpToDate K.key K.Key.cmp index.new (S.part (stored self.new))))) }
+        ensures keeps { IfFollowing J.spares S.the_slot S.table S.ids S.part K.key index.old.reader index.old commands self.old (IfOk result (λ r. OnOk r.1 (KeepsAll K.key index.new (S.part (stored self.new))))) }
+        ensures knows { IfFollowing J.spares S.the_slot S.table S.ids S.part K.key index.old.reader index.old commands self.old (OnOk result (Knows K.key index.new (S.part (stored self.new)))) }
         ensures fresh { IfOk result (λ r. OnOk r.1 (IsFresh index.new)) }
-        ensures there { LeaveAlone J.spares S.the_slot index.old.reader commands.items (world_state S.table S.ids self.old) → IfOk result (λ r. r.1 ≡ Err WorldIndexError.Unregistered → ⊥) }
-        ensures known { LeaveAlone J.spares S.the_slot index.old.reader commands.items (world_state S.table S.ids self.old) → IfOk result (λ r. r.1 ≡ Err WorldIndexError.UnknownReader → ⊥) }
+        ensures there { LeaveAloneIn J.spares S.the_slot S.table S.ids index.old.reader commands self.old → IfOk result (λ r. r.1 ≡ Err WorldIndexError.Unregistered → ⊥) }
+        ensures known { LeaveAloneIn J.spares S.the_slot S.table S.ids index.old.reader commands self.old → IfOk result (λ r. r.1 ≡ Err WorldIndexError.UnknownReader → ⊥) }
         ensures memory { IfOk result (λ r. r.1 ≡ Err WorldIndexError.OutOfMemory → IsStale index.new) }
-        ensures watched { LeaveAlone J.spares S.the_slot index.old.reader commands.items (world_state S.table S.ids self.old) → OnOk result (IsWatched J.spares S.the_slot index.old.reader (world_state S.table S.ids self.new)) }
+        ensures watched { LeaveAloneIn J.spares S.the_slot S.table S.ids index.old.reader commands self.old → OnOk result (IsWatched J.spares S.the_slot index.old.reader (world_state S.table S.ids self.new)) }
         ensures run { IfOk result (λ r. RunsAndReads S.place S.clones S.marks J.does J.wants S.the_slot index.old.reader (world_state S.table S.ids self.old) commands.items r.0.items (world_state S.table S.ids self.new)) }
         ensures living { KeepsLiving (state_of S.table S.ids self.old) (state_of S.table S.ids self.new) }
         ensures gone { KeepsGone (state_of S.table S.ids self.old).people (state_of S.table S.ids self.new).people }

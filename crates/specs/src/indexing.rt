@@ -1,5 +1,5 @@
 //! Indices by a key over a core's storages, kept from events.
-ghost use Rattle.std.specs.Prelude.{◌≡◌, ◌⊎◌, None, Err, true, false, IsSome, IfOk, IfErr, IfSome, OnOk, OnErr};
+ghost use Rattle.std.specs.Prelude.{◌≡◌, ◌⊎◌, None, Err, IsSome, IfOk, IfErr, IfSome, OnOk, OnErr};
 ghost use Rattle.key_index.specs.Indexed.{CoversSlot, IsFresh, IsIndexOfSlot, IsStale, KeepsSlot};
 ghost use Rattle.storages.specs.Slot.{IsSame};
 ghost use Rattle.storages.specs.Tracking as tracking;
