@@ -90,17 +90,23 @@ def failures(script, ran):
     return found
 
 
+def judged_all(runs_of_all):
+    """How many cases went as the model, how many otherwise, and some of these."""
+    passed = failed = 0
+    faults = []
+    for script, ran in runs_of_all:
+        found = failures(script, ran)
+        faults += found[:3]
+        failed += len(found)
+        passed += max(0, len(script.cases) - len(found))
+    return passed, failed, faults
+
+
 def main(words):
     if words not in ([], ["--built"], ["--unproved"]):
         sys.exit(__doc__)
-    passed = failed = 0
-    for script, ran in runs(all_scripts(), "".join(words)):
-        found = failures(script, ran)
-        for it in found[:3]:
-            print(it)
-        failed += len(found)
-        passed += max(0, len(script.cases) - len(found))
-    print(f"{passed} passed, {failed} failed")
+    passed, failed, faults = judged_all(runs(all_scripts(), "".join(words)))
+    print(*faults, f"{passed} passed, {failed} failed", sep="\n")
     return 0 if passed and not failed else 1
 
 

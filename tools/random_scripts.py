@@ -3,25 +3,28 @@
 
     python3 tools/random_scripts.py [--unproved] [COUNT] [SEED]      COUNT: how many scripts (10000); SEED: that of the first (1)
 
---unproved runs them by one `rt try`, which proves nothing, in place of ./specs-run.
+--unproved runs them by one process of `rt try`, which proves nothing, in place of ./specs-run.
 
 Script k is made from seed SEED + k. A birth may take any free index, so the model follows the entity that the program printed, if the rule
 allows it. A job that creates an entity does not tell which, nor does a load: the model keeps every world that the replies so far allow. A reply that none of
 them gives is printed, with its script and its seed, and the status is 1."""
 import os
 import random
-import re
 import subprocess
 import sys
 import tempfile
 
+from rooms import TOP, make_room
 from script_model import IDS, LAST_GENERATION, LIMIT, SAVED, SLOTS, World
 
-TOP = os.path.dirname(os.path.dirname(os.path.abspath(__file__)))
 UNREADABLE = ["frob", "create ", " create", "delete", "delete 0", "insert pos 0:1", "insert tag 0:1 5", "select", "select and pos",
               "select pos pos", "emit hp", "maintain -1", "reader", "entity 4294967296", "alive 0:0", "insert id 0:1 0", "delete-all 0:1",
               "job", "job again 1", "job create pending", "job remove pos", "job insert tag 0:1 5", "job delete 0:1", "maintain",
               "label", "label 0:1 1:1", "index", "index pos", "index hp 0", "find", "find 0:1", "find -0", "find 9223372036854775808", "job label", "save 0", "save-all ", "load", "load ", "load  []", "load [] "]
+
+
+# what stands between scripts that one process runs, as tools/many_scripts.rt.src has it
+END = "\x1e"
 
 
 class Script:
@@ -165,39 +168,37 @@ def proved_runs(scripts):
 
 
 def unproved_runs(scripts):
-    """Each script with its run by one `rt try`, which prints `== NAME` before what a run prints, and a line `case=NAME ..` after what it tells."""
-    with tempfile.TemporaryDirectory(prefix="random-scripts-") as cases:
-        for k, script in enumerate(scripts):
-            with open(f"{cases}/{k:06}", "w", encoding="utf-8") as it:
-                it.write(text_of(script))
-        # with a step alone the interpreter leaves each run to the program that is built with checks
-        words = ["rt", "try", "--seconds", "3600", "--steps", "1", "--cases", cases]
-        ran = subprocess.run(words, cwd=os.path.join(TOP, "crates/specs_run_main"), stdin=subprocess.DEVNULL, capture_output=True, text=True, check=False)
-    printed = re.split(r"^== (\d{6})\n", ran.stdout, flags=re.M)[1:]
-    ends = re.split(r"^case=(\d{6}) run=ended status=(\d+) [^\n]*\n", ran.stderr, flags=re.M)
-    told = {ends[k + 1]: (ends[k], int(ends[k + 2])) for k in range(0, len(ends) - 3, 3)}
-    replies = dict(zip(printed[::2], printed[1::2]))
-    for k, script in enumerate(scripts):
-        name = f"{k:06}"
+    """Each script with its run, all by one process: the program of tools/many_scripts.rt.src, by `rt try` in a room of its own."""
+    with tempfile.TemporaryDirectory(prefix="many-scripts-") as room:
+        crate = make_room(room, "many_scripts", "specs_run", {"main.rt": "tools/many_scripts.rt.src"})
+        # with a step alone the interpreter leaves the run to the program that is built with checks
+        words = ["rt", "try", "--seconds", "3600", "--steps", "1"]
+        ran = subprocess.run(words, cwd=crate, input=END.join(text_of(it) for it in scripts), capture_output=True, text=True, check=False)
+    parts = iter(ran.stdout.split(END)[:-1])
+    for script in scripts:
         # a run that did not end has no status that fits
-        stderr, status = told.get(name, (ran.stderr[-1000:], -1))
-        yield script, subprocess.CompletedProcess(words, status, replies.get(name, ""), stderr)
+        printed, told, status = next(parts, ""), next(parts, ran.stderr[-1000:]), next(parts, "-1")
+        yield script, subprocess.CompletedProcess(words, int(status), printed, told)
+
+
+def first_fault(runs, seed):
+    """What is wrong with the first of the runs that the model does not allow, if there is one; the first script's seed is given."""
+    for k, (script, ran) in enumerate(runs):
+        fault = disagreement(script, ran)
+        if fault:
+            return f"{text_of(script)}seed {seed + k}: {fault}"
+    return None
 
 
 def main():
     words = [it for it in sys.argv[1:] if it != "--unproved"]
     count = int(words[0]) if words else 10000
     seed = int(words[1]) if len(words) > 1 else 1
-    scripts = (Script(seed + k) for k in range(count))
-    runs, lines = unproved_runs(list(scripts)) if "--unproved" in sys.argv[1:] else proved_runs(scripts), 0
-    for k, (script, ran) in enumerate(runs):
-        lines += len(script.lines)
-        fault = disagreement(script, ran)
-        if fault:
-            print(f"{text_of(script)}seed {seed + k}: {fault}")
-            return 1
-    print(f"{count} scripts agreed ({lines} lines, seeds {seed} to {seed + count - 1})")
-    return 0
+    scripts = [Script(seed + k) for k in range(count)]
+    runs = unproved_runs if "--unproved" in sys.argv[1:] else proved_runs
+    fault = first_fault(runs(scripts), seed)
+    print(fault or f"{count} scripts agreed ({sum(len(it.lines) for it in scripts)} lines, seeds {seed} to {seed + count - 1})")
+    return 1 if fault else 0
 
 
 if __name__ == "__main__":

@@ -188,7 +188,7 @@ class HostileSaves(Tree):
 
     def setUp(self):
         super().setUp()
-        self.take("tools/hostile_saves.py", "tools/random_scripts.py", "tools/script_model.py")
+        self.take("tools/hostile_saves.py", "tools/random_scripts.py", "tools/rooms.py", "tools/script_model.py")
 
     def judged_of(self, said, then=""):
         """A run over a program that says this of each reply, and does that at its end."""

@@ -17,13 +17,13 @@ it stands. None of the clauses that these name may be left open of it: so what r
 An answer by hand (Answers.antt) fits the body for which it was written. Where one no longer fits, that shows nothing: it is taken out, and the function is checked
 again, three times at most. Only a goal that the search then leaves open counts. A name that is lost, an answer that no longer fits or a text that is not read counts nothing.
 
-Edits of one crate that change different functions are applied together, so that one check tries up to sixty of them. It checks the functions of
-the edits and what these call, and no other (`rt check --only`). The next check tries those that need another look, and with them edits of functions that are free
+Edits of one crate that change different functions are applied together, so that one check tries up to a hundred of them. It checks the functions of
+the edits and what these call, and no other (`rt check --only`), once it has read the libraries below. The next check tries those that need another look, and with them edits of functions that are free
 again. Each edit is judged by itself, and what a check of several did not show is tried again alone.
 
 First the libraries below the edited crates are built in the tree, lowest first, each once: what `rt ci` leaves of them may not serve another check, and each room
-would build them again. There are as many lanes as processors, or RT_JOBS. A lane takes the edits of one crate, of which there are most, or half of them where there are many,
-makes a room for them (a copy of the tree), and makes one check after another there. What a check proved and the next did not change is kept in the room. The
+would build them again. There are as many lanes as processors, or RT_JOBS. A lane takes the edits of one crate, of which there are most,
+makes a room for them (a copy of the tree), and makes one check after another there: in two rooms twice as many checks would read the libraries below. What a check proved and the next did not change is kept in the room. The
 verdicts come as they are found.
 
 What an edit showed is kept on this machine, by the checksum of all that decides it: the kit, these scripts, the edit but for its comments, and the files of its crate and
@@ -44,7 +44,7 @@ import threading
 from edits import applied, edits_of
 from verdicts import Said, answers_of, judge, without
 
-MOST = 60
+MOST = 100
 ROUNDS = 3
 
 
@@ -235,24 +235,14 @@ def tried(room, edits, most, tell):
 
 
 class Work:
-    """The edits that no lane has taken yet, in shares of one crate each, of which no function is in two. Those that take longest come first."""
+    """The edits that no lane has taken yet, by crate. Those that take longest come first."""
 
-    def __init__(self, found, lanes):
-        shares = [it for crate, edits in found.items() for it in shares_of(edits, lanes)]
-        self.shares, self.lock = sorted(shares, key=len), threading.Lock()
+    def __init__(self, found):
+        self.shares, self.lock = sorted(found.values(), key=len), threading.Lock()
 
     def share(self):
         with self.lock:
             return self.shares.pop() if self.shares else None
-
-
-def shares_of(edits, lanes):
-    """The edits of a crate that has many in two, where there are lanes for both."""
-    functions = list(dict.fromkeys(it.function for it in edits))
-    if lanes < 3 or len(functions) < MOST // 2:
-        return [edits]
-    first = set(functions[: len(functions) // 2])
-    return [[it for it in edits if (it.function in first) == is_first] for is_first in (True, False)]
 
 
 def lane(work, most, tell):
@@ -317,7 +307,7 @@ def main(words):
         found = not_kept(found, verdicts)
     build_below(found)
     lanes = int(os.environ.get("RT_JOBS") or len(os.sched_getaffinity(0)))
-    work, most = Work(found, lanes), 1 if how == "--alone" else MOST
+    work, most = Work(found), 1 if how == "--alone" else MOST
     with concurrent.futures.ThreadPoolExecutor(lanes) as pool:
         for it in [pool.submit(lane, work, most, tell) for _ in range(lanes)]:
             it.result()
