@@ -25,3 +25,4 @@ pub mod Writing
 pub mod Telling
 pub mod Giving
 pub mod Joined
+pub mod Begun

@@ -1,6 +1,6 @@
 -- The JSON form of a saved list: an array of records. A record is an object of exactly the keys `components` and `marker`. `components` is an
 -- array with one place for each storage: null for an absent component, an array of exactly one value for a present one.
-use Rattle.std.specs.Prelude.{◌≡◌, ℕ, ◌==◌, List, [], ◌∷◌, ◌++◌, map, Bool, false, codes, Option, Some, None, option_map, option_and_then, if◌then◌else◌, is_some, ⊤}
+use Rattle.std.specs.Prelude.{◌≡◌, ℕ, ◌==◌, List, [], ◌∷◌, ◌++◌, map, Bool, false, codes, length, take, Option, Some, None, option_map, option_and_then, if◌then◌else◌, is_some, ⊤}
 use Rattle.json.specs.Tree.{HasNumbers}
 use Rattle.serde_json.specs.Data.{Data, null, array, object, Items, no_items, item, Members, member, no_members}
 use Rattle.serde_json.specs.Find.{get, at, as_null, as_array, as_object}
@@ -87,6 +87,10 @@ IsRead json from x = IsKept (json x) × (from (json x) ≡ Some x)
 abbrev pub AllRead : {D : Type 0} → (D → Data) → (Data → Option D) → List D → Type 0
 AllRead json from [] = ⊤
 AllRead json from (x ∷ xs) = IsRead json from x × AllRead json from xs
+
+-- a list still begins with what it was
+abbrev pub Begins : {X : Type 0} → List X → List X → Type 0
+Begins old new = take (length old) new ≡ old
 
 -- the compact text of x is written behind a text
 abbrev pub Writes : {D : Type 0} → (D → Data) → (Data → Option D) → D → List ℕ → List ℕ → Type 0

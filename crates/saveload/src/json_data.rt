@@ -1,10 +1,10 @@
 //! Saved lists as JSON.
-ghost use Rattle.std.specs.Prelude.{◌≡◌, ◌≤◌, ◌⊎◌, List, Option, Some, None, Ok, Err, IfOk, IfErr, IfSome, OnOk, string_bytes, option_and_then, option_map, false};
+ghost use Rattle.std.specs.Prelude.{◌≡◌, ◌≤◌, ◌⊎◌, List, Option, Some, None, Ok, Err, IfOk, IfErr, IfSome, OnOk, OnErr, string_bytes, option_and_then, option_map, false};
 ghost use Rattle.serde_json.specs.Data.{Data, depth, items_depth};
 ghost use Rattle.serde_json.specs.Read.{read};
 ghost use Rattle.serde_json.specs.View.{view, items_of};
 ghost use Rattle.serde_json.specs.Written.{has_float, items_have_float, compact_text};
-ghost use Rattle.saveload.specs.Json.{array_json, list_json, list_from, record_from, place_from, place_at, has_places, has_two_members, only, Writes, Takes};
+ghost use Rattle.saveload.specs.Json.{array_json, list_json, list_from, record_from, place_from, place_at, has_places, has_two_members, only, Begins, Writes, Takes};
 
 use crate::entity_data::EntityData;
 use crate::error::LoadError;
@@ -31,11 +31,12 @@ pub trait JsonData: Sized {
     fn from_value(alloc: Global, value: &Value) -> Result<Option<Self>, AllocError>
         ensures { IfOk result (λ o. o ≡ from (view value.now)) };
 
-    /// Writes the compact text of its value behind a text.
+    /// Writes the compact text of its value behind a text. An error leaves the text, and maybe something behind it.
     ///
     /// A type that writes its text by itself saves the memory of a value.
     fn write(&self, alloc: Global, text: &mut String) -> Result<(), AllocError>
-        ensures { OnOk result (Writes json from self.now (string_bytes text.old) (string_bytes text.new)) }
+        ensures written { OnOk result (Writes json from self.now (string_bytes text.old) (string_bytes text.new)) }
+        ensures err { OnErr result (Begins (string_bytes text.old) (string_bytes text.new)) }
     {
         let value = self.to_value(alloc)?;
         let written = value.to_string(alloc)?;
@@ -67,9 +68,10 @@ pub trait JsonPlaces: Sized {
     // What an array of places is read as.
     ghost from: { Data → Option Self };
 
-    /// Writes the compact text of its array behind a text.
+    /// Writes the compact text of its array behind a text. An error leaves the text, and maybe something behind it.
     fn write(&self, alloc: Global, text: &mut String) -> Result<(), AllocError>
-        ensures { OnOk result (Writes (array_json places) from self.now (string_bytes text.old) (string_bytes text.new)) };
+        ensures written { OnOk result (Writes (array_json places) from self.now (string_bytes text.old) (string_bytes text.new)) }
+        ensures err { OnErr result (Begins (string_bytes text.old) (string_bytes text.new)) };
 
     /// Takes what [`write`](JsonPlaces::write) writes off the front of a text: the places and what stands behind them. None says nothing of the text.
     fn take<'t>(alloc: Global, text: &'t [u8]) -> Result<Option<(Self, &'t [u8])>, AllocError>

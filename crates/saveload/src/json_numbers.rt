@@ -1,6 +1,6 @@
 //! Numbers, and markers that are numbers, as JSON values.
-ghost use Rattle.std.specs.Prelude.{◌≡◌, IfSome, OnOk, string_bytes};
-ghost use Rattle.saveload.specs.Json.{Writes, Takes};
+ghost use Rattle.std.specs.Prelude.{◌≡◌, IfSome, OnOk, OnErr, string_bytes};
+ghost use Rattle.saveload.specs.Json.{Begins, Writes, Takes};
 ghost use Rattle.saveload.specs.JsonNumbers.{id_json, id_from, whole_json, whole_from};
 
 use crate::json_data::JsonData;
@@ -109,7 +109,8 @@ impl<T> JsonData for SimpleMarker<T> {
 // Writes a number that is not negative behind a text.
 #[inline(always)]
 fn write_id(number: u64, text: &mut String) -> Result<(), AllocError>
-    ensures { OnOk result (Writes id_json id_from number (string_bytes text.old) (string_bytes text.new)) }
+    ensures written { OnOk result (Writes id_json id_from number (string_bytes text.old) (string_bytes text.new)) }
+    ensures err { OnErr result (string_bytes text.new ≡ string_bytes text.old) }
 {
     let mut buffer = Buffer::new();
     text.push_str(buffer.format(number))?;
@@ -128,7 +129,8 @@ fn after_id(number: u64, text: &[u8]) -> Option<&[u8]>
 // Writes a number behind a text.
 #[inline(always)]
 fn write_whole(number: i64, text: &mut String) -> Result<(), AllocError>
-    ensures { OnOk result (Writes whole_json whole_from number (string_bytes text.old) (string_bytes text.new)) }
+    ensures written { OnOk result (Writes whole_json whole_from number (string_bytes text.old) (string_bytes text.new)) }
+    ensures err { OnErr result (string_bytes text.new ≡ string_bytes text.old) }
 {
     let mut buffer = Buffer::new();
     text.push_str(buffer.format(number))?;

@@ -1,6 +1,6 @@
 //! Options of data as rows: a flag, and what there is.
 use crate::json_data::JsonData;
-use crate::json_parts::{JsonParts, first_part, row_of, row_value};
+use crate::json_parts::{JsonParts, first_part, push_one, row_of, row_value};
 use serde_json::Value;
 use std::alloc::{AllocError, Global};
 
@@ -16,14 +16,12 @@ impl<T: JsonParts + Drop> JsonParts for Option<T> {
     fn push_parts(&self, alloc: Global, row: &mut Vec<Value>) -> Result<(), AllocError> {
         match self {
             Some(datum) => {
-                row.push(Value::Bool(true))?;
-                datum.push_parts(alloc, row)
+                push_one(&true, alloc, row)?;
+                datum.push_parts(alloc, row)?;
             }
-            None => {
-                row.push(Value::Bool(false))?;
-                Ok(())
-            }
+            None => push_one(&false, alloc, row)?,
         }
+        Ok(())
     }
 
     fn split_parts<'v>(

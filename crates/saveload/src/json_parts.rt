@@ -1,8 +1,9 @@
 //! Data as a row of plain values.
-ghost use Rattle.std.specs.Prelude.{◌≡◌, List, ◌++◌, map, Option, Some, IfOk, OnOk, MatchOption, option_map, false};
+ghost use Rattle.std.specs.Prelude.{◌≡◌, List, ◌++◌, map, Option, Some, IfOk, OnOk, OnErr, MatchOption, option_map, false};
 ghost use Rattle.serde_json.specs.Data.{Data, Items, no_items, item, items_depth};
 ghost use Rattle.serde_json.specs.View.{view, items_of, items_view};
 ghost use Rattle.serde_json.specs.Written.{items_have_float};
+ghost use Rattle.saveload.specs.Json.{Begins};
 ghost use Rattle.saveload.specs.JsonParts.{row_json, row_from, Splits, one_parts, one_split};
 
 use crate::json_data::JsonData;
@@ -20,10 +21,11 @@ pub trait JsonParts: Sized {
     // What stands at the front of a row, and the values behind it.
     ghost split: { Items → Option (Self × Items) };
 
-    /// Appends its values to a row, from which it is split off again. An error leaves some of them in the row.
+    /// Appends its values to a row, from which it is split off again. An error leaves the row, and maybe some of them behind it.
     fn push_parts(&self, alloc: Global, row: &mut Vec<Value>) -> Result<(), AllocError>
         ensures parts { OnOk result (map view row.new.items ≡ map view row.old.items ++ parts self.now) }
-        ensures back { OnOk result (Splits parts split self.now) };
+        ensures back { OnOk result (Splits parts split self.now) }
+        ensures err { OnErr result (Begins (map view row.old.items) (map view row.new.items)) };
 
     /// What stands at the front of a row, and the values behind it; or none, where the row has another form. Takes time in the length of what is
     /// split off.
@@ -67,6 +69,7 @@ pub(crate) fn push_one<T: JsonData>(
 ) -> Result<(), AllocError>
     ensures parts { OnOk result (map view row.new.items ≡ map view row.old.items ++ one_parts T.json part.now) }
     ensures back { OnOk result (Splits (one_parts T.json) (one_split T.from) part.now) }
+    ensures err { OnErr result (row.new.items ≡ row.old.items) }
 {
     let value = part.to_value(alloc)?;
     row.push(value)?;

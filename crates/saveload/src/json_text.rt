@@ -1,7 +1,7 @@
 //! The compact text of saved lists, a record at a time.
-ghost use Rattle.std.specs.Prelude.{◌≡◌, [], ◌∷◌, ◌++◌, IfOk, IfSome, OnOk, string_bytes};
+ghost use Rattle.std.specs.Prelude.{◌≡◌, [], ◌∷◌, ◌++◌, IfOk, IfSome, OnOk, OnErr, string_bytes};
 ghost use Rattle.serde_json.specs.Written.{compact_text};
-ghost use Rattle.saveload.specs.Json.{list_json, list_from, record_json, record_from, place_json, place_from, IsRead, Writes, Takes};
+ghost use Rattle.saveload.specs.Json.{list_json, list_from, record_json, record_from, place_json, place_from, Begins, IsRead, Writes, Takes};
 
 use crate::entity_data::EntityData;
 use crate::json_data::{JsonData, JsonPlaces};
@@ -14,7 +14,9 @@ pub(crate) fn write_place<D: JsonData>(
     place: &Option<D>,
     text: &mut String,
 ) -> Result<(), AllocError>
-    ensures { OnOk result (Writes (place_json D.json) (place_from D.from) place.now (string_bytes text.old) (string_bytes text.new)) }
+    ensures text { OnOk result (string_bytes text.new ≡ string_bytes text.old ++ compact_text (place_json D.json place.now)) }
+    ensures read { OnOk result (IsRead (place_json D.json) (place_from D.from) place.now) }
+    ensures err { OnErr result (Begins (string_bytes text.old) (string_bytes text.new)) }
 {
     match place {
         Some(data) => {
@@ -35,6 +37,7 @@ pub(crate) fn write_next<D: JsonData>(
 ) -> Result<(), AllocError>
     ensures text { OnOk result (string_bytes text.new ≡ string_bytes text.old ++ (44 ∷ compact_text (place_json D.json place.now))) }
     ensures read { OnOk result (IsRead (place_json D.json) (place_from D.from) place.now) }
+    ensures err { OnErr result (Begins (string_bytes text.old) (string_bytes text.new)) }
 {
     match place {
         Some(data) => {

@@ -1,6 +1,7 @@
 //! Lists that are saved.
 ghost use Rattle.std.specs.Prelude.{◌≡◌, ◌∷◌, ◌++◌, [], map, List, IfOk, OnOk, OnErr, option_map};
 ghost use Rattle.serde_json.specs.View.{view, items_view};
+ghost use Rattle.saveload.specs.Json.{Begins};
 ghost use Rattle.saveload.specs.JsonParts.{all_parts, all_split, AllSplit};
 
 use crate::json_data::JsonData;
@@ -135,6 +136,7 @@ impl<T: JsonParts + Drop> JsonData for SavedVec<T> {
 fn push_all<T: JsonParts>(list: &[T], alloc: Global, row: &mut Vec<Value>) -> Result<(), AllocError>
     ensures parts { OnOk result (map view row.new.items ≡ map view row.old.items ++ all_parts T.parts list.now) }
     ensures back { OnOk result (AllSplit T.parts T.split list.now) }
+    ensures err { OnErr result (Begins (map view row.old.items) (map view row.new.items)) }
 {
     for datum in list {
         datum.push_parts(alloc, row)?;
