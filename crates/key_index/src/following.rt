@@ -13,7 +13,7 @@ use std::alloc::{AllocError, Global};
 use std::collections::BTreeSet;
 use storages::{Component, ComponentEvent, MaskedStorage, UnprotectedStorage};
 
-// Of up to so many events each is compared with those before it.
+// Of up to so many events each is compared with those before it, and of more a set is kept.
 const FEW: usize = 16;
 
 // The key of the component of an index, if it has one.
@@ -50,7 +50,7 @@ fn stands_in(events: &[ComponentEvent], id: Index) -> bool
     false
 }
 
-// The same as `follow`, which says of which events. It looks for an index among the events before, so that one event takes no memory for it.
+// Brings the keys of the indices that events are of up to the storage now, each once. It looks for each index among the events before, which takes no memory.
 fn follow_few<T: Component<Storage: UnprotectedStorage<T>>, K: KeyOf<T>>(
     lists: &mut KeyLists<K::Key>,
     key: &K,
@@ -69,7 +69,7 @@ fn follow_few<T: Component<Storage: UnprotectedStorage<T>>, K: KeyOf<T>>(
     Ok(())
 }
 
-// The same, with a set of the indices that were followed.
+// The same by a set of the indices that were followed: a look at all events before would take long.
 fn follow_many<T: Component<Storage: UnprotectedStorage<T>>, K: KeyOf<T>>(
     alloc: Global,
     lists: &mut KeyLists<K::Key>,
@@ -90,7 +90,7 @@ fn follow_many<T: Component<Storage: UnprotectedStorage<T>>, K: KeyOf<T>>(
     Ok(())
 }
 
-// Brings the keys of the indices that events are of up to the storage now, each once.
+// The same, by what is faster for so many events.
 pub(crate) fn follow<T: Component<Storage: UnprotectedStorage<T>>, K: KeyOf<T>>(
     alloc: Global,
     lists: &mut KeyLists<K::Key>,

@@ -4,8 +4,8 @@ ghost use Rattle.std.specs.Prelude.{◌≡◌};
 use std::cmp::Ordering;
 use std::marker::Model;
 
-/// A key as a tree orders it: just as keys are ordered. A step of a search asks first whether it has to go on, so `cmp` tests that first, and at numbers a step
-/// then takes fewer instructions.
+/// A key as a tree orders it, which is just as keys are ordered. A search goes on past the keys that are less, so `cmp` tests that first: at numbers a step
+/// of a search then takes fewer instructions.
 ///
 /// Contracts see it as the key.
 #[derive(Drop)]
