@@ -13,6 +13,9 @@ use std::alloc::{AllocError, Global};
 use std::collections::BTreeSet;
 use storages::{Component, ComponentEvent, MaskedStorage, UnprotectedStorage};
 
+// Of up to so many events each is compared with those before it, and of more a set is kept.
+const FEW: usize = 16;
+
 // The key of the component of an index, if it has one.
 fn key_now<T: Component<Storage: UnprotectedStorage<T>>, K: KeyOf<T>>(
     key: &K,
@@ -35,8 +38,39 @@ fn is_first(followed: &mut BTreeSet<Index>, id: Index) -> Result<bool, AllocErro
     Ok(followed.insert(id)?)
 }
 
-// Brings the keys of the indices that events are of up to the storage now, each once.
-pub(crate) fn follow<T: Component<Storage: UnprotectedStorage<T>>, K: KeyOf<T>>(
+// Whether an index stands in events.
+fn stands_in(events: &[ComponentEvent], id: Index) -> bool
+    ensures { result ≡ is_named id events.now }
+{
+    for event in events {
+        if event.id() == id {
+            return true;
+        }
+    }
+    false
+}
+
+// Brings the keys of the indices that events are of up to the storage now, each once. It looks for each index among the events before, which takes no memory.
+fn follow_few<T: Component<Storage: UnprotectedStorage<T>>, K: KeyOf<T>>(
+    lists: &mut KeyLists<K::Key>,
+    key: &K,
+    events: &[ComponentEvent],
+    masked: &MaskedStorage<T>,
+) -> Result<(), AllocError>
+    ensures { OnOk result ((i : ℕ) → i < INDEX_LIMIT → key_at lists.new i ≡ cond (is_named i events.now) (key_in (K.key key.now) masked.now i) (key_at lists.old i)) }
+{
+    for (place, event) in events.iter().enumerate() {
+        let id = event.id();
+        if id < INDEX_LIMIT && !stands_in(&events[..place], id) {
+            let now = key_now(key, masked, id);
+            lists.set(id, now)?;
+        }
+    }
+    Ok(())
+}
+
+// The same by a set of the indices that were followed: a look at all events before would take long.
+fn follow_many<T: Component<Storage: UnprotectedStorage<T>>, K: KeyOf<T>>(
     alloc: Global,
     lists: &mut KeyLists<K::Key>,
     key: &K,
@@ -54,6 +88,23 @@ pub(crate) fn follow<T: Component<Storage: UnprotectedStorage<T>>, K: KeyOf<T>>(
         }
     }
     Ok(())
+}
+
+// The same, by what is faster for so many events.
+pub(crate) fn follow<T: Component<Storage: UnprotectedStorage<T>>, K: KeyOf<T>>(
+    alloc: Global,
+    lists: &mut KeyLists<K::Key>,
+    key: &K,
+    events: &[ComponentEvent],
+    masked: &MaskedStorage<T>,
+) -> Result<(), AllocError>
+    ensures { OnOk result ((i : ℕ) → i < INDEX_LIMIT → key_at lists.new i ≡ cond (is_named i events.now) (key_in (K.key key.now) masked.now i) (key_at lists.old i)) }
+{
+    if events.len() <= FEW {
+        follow_few(lists, key, events, masked)
+    } else {
+        follow_many(alloc, lists, key, events, masked)
+    }
 }
 
 // The keys of all components of a storage.

@@ -3,6 +3,7 @@ ghost use Rattle.std.specs.Prelude.{◌≡◌, ◌<◌, ◌==◌, ℕ, None, OnO
 ghost use Rattle.key_index.specs.Keys.{key_at, indices_with};
 
 use crate::lists::exchange;
+use crate::ranked::Ranked;
 use hibits::{INDEX_LIMIT, Index};
 use pages::Pages;
 use std::alloc::{AllocError, Global};
@@ -16,7 +17,7 @@ use std::marker::Model;
 pub struct KeyLists<Q: Ord + Copy> {
     // in pages, so that memory is taken for the indices that have keys, and not for all up to the greatest
     kept: Pages<Option<Q>, 256>,
-    lists: BTreeMap<Q, Vec<Index>>,
+    lists: BTreeMap<Ranked<Q>, Vec<Index>>,
     alloc: Global,
 }
 
@@ -47,7 +48,7 @@ impl<Q: Ord + Copy> KeyLists<Q> {
     pub fn at(&self, key: Q) -> &[Index]
         ensures { result.now ≡ indices_with Q.cmp (key_at self.now) key }
     {
-        match self.lists.get(&key) {
+        match self.lists.get(&Ranked::new(key)) {
             Some(list) => list.as_slice(),
             None => &[],
         }

@@ -6,6 +6,7 @@ mod key_index;
 mod key_lists;
 mod key_of;
 mod lists;
+mod ranked;
 
 pub use key_index::{IndexError, KeyIndex, Stale};
 pub use key_of::KeyOf;

@@ -4,6 +4,7 @@ ghost use Rattle.std.specs.List.Sorted.{IsStrictlyIncreasing};
 ghost use Rattle.key_index.specs.Indices.{with_index, without_index};
 ghost use Rattle.key_index.specs.Keys.{Exchanges, is_key, list_at, same_key};
 
+use crate::ranked::Ranked;
 use hibits::{INDEX_LIMIT, Index};
 use std::alloc::{AllocError, Global};
 use std::collections::BTreeMap;
@@ -33,7 +34,7 @@ fn take_out_of(list: &mut Vec<Index>, id: Index)
 
 // Puts an index into the list of a key, if there is a key.
 fn put<Q: Ord + Copy>(
-    lists: &mut BTreeMap<Q, Vec<Index>>,
+    lists: &mut BTreeMap<Ranked<Q>, Vec<Index>>,
     alloc: Global,
     key: Option<Q>,
     id: Index,
@@ -44,32 +45,32 @@ fn put<Q: Ord + Copy>(
     let Some(key) = key else {
         return Ok(());
     };
-    if let Some(list) = lists.get_mut(&key) {
+    if let Some(list) = lists.get_mut(&Ranked::new(key)) {
         return put_into(list, id);
     }
     let mut list = Vec::new(alloc);
     list.push(id)?;
-    lists.insert(key, list)?;
+    lists.insert(Ranked::new(key), list)?;
     Ok(())
 }
 
 // Takes an index out of the list of a key, if there is a key.
-fn take_out<Q: Ord + Copy>(lists: &mut BTreeMap<Q, Vec<Index>>, key: Option<Q>, id: Index)
+fn take_out<Q: Ord + Copy>(lists: &mut BTreeMap<Ranked<Q>, Vec<Index>>, key: Option<Q>, id: Index)
     ensures { (q : Q) → IsStrictlyIncreasing (list_at Q.cmp lists.old q) → list_at Q.cmp lists.new q ≡ cond (is_key Q.cmp q key) (without_index id (list_at Q.cmp lists.old q)) (list_at Q.cmp lists.old q) }
 {
     if let Some(key) = key
         && take_one(lists, key, id)
     {
-        lists.remove(&key);
+        lists.remove(&Ranked::new(key));
     }
 }
 
 // Takes an index out of the list of a key, and says whether nothing is left there.
-fn take_one<Q: Ord + Copy>(lists: &mut BTreeMap<Q, Vec<Index>>, key: Q, id: Index) -> bool
+fn take_one<Q: Ord + Copy>(lists: &mut BTreeMap<Ranked<Q>, Vec<Index>>, key: Q, id: Index) -> bool
     ensures list { (q : Q) → IsStrictlyIncreasing (list_at Q.cmp lists.old q) → list_at Q.cmp lists.new q ≡ cond (is_key Q.cmp q (Some key)) (without_index id (list_at Q.cmp lists.old q)) (list_at Q.cmp lists.old q) }
     ensures empty { result ≡ true → list_at Q.cmp lists.new key ≡ [] }
 {
-    match lists.get_mut(&key) {
+    match lists.get_mut(&Ranked::new(key)) {
         Some(list) => {
             take_out_of(list, id);
             list.is_empty()
@@ -91,7 +92,7 @@ fn is_same<Q: Ord + Copy>(a: Option<Q>, b: Option<Q>) -> bool
 
 // An index goes from the list of one key to that of another, where there are any. Equal keys change nothing, and take no memory.
 pub(crate) fn exchange<Q: Ord + Copy>(
-    lists: &mut BTreeMap<Q, Vec<Index>>,
+    lists: &mut BTreeMap<Ranked<Q>, Vec<Index>>,
     alloc: Global,
     id: Index,
     old: Option<Q>,

@@ -83,12 +83,13 @@ fn one_change_of_a_thousand_asks_for_two_keys_at_most(rt: HostRuntime) -> Result
     asks_twice(&rt, rt.alloc(), &mut view, list.as_slice())
 }
 
-/// After a thousand writes to one component a refresh asks for one key.
+/// After so many writes to one component a refresh asks for one key.
 fn asks_once<R: Abort>(
     rt: &R,
     alloc: Global,
     view: &mut WriteStorage<'_, Score>,
     list: &[Entity],
+    times: u32,
 ) -> Result<(), Fail> {
     let asked = Cell::new(0);
     let written = player(list, 1)?;
@@ -97,12 +98,12 @@ fn asks_once<R: Abort>(
     }
     let mut board = board(alloc, &asked, view).ok_or("an index")?;
     asked.set(0);
-    for _ in 0..1000 {
+    for _ in 0..times {
         assert!(rt; adds(view, written, 1));
     }
     assert_eq!(rt; refreshed(&mut board, view), Ok(()));
     assert_eq!(rt; asked.get(), 1);
-    assert!(rt; has(&board, 1005, &[1]));
+    assert!(rt; has(&board, times.saturating_add(5), &[1]));
     assert!(rt; has(&board, 5, &[0, 2]));
     ends(board, view);
     Ok(())
@@ -114,7 +115,16 @@ fn a_thousand_writes_to_one_component_ask_for_one_key(rt: HostRuntime) -> Result
     let mut entities = EntitiesRes::new(rt.alloc());
     let list = players(rt.alloc(), &mut entities, 3)?;
     let mut view = WriteStorage::new(&entities, &mut masked);
-    asks_once(&rt, rt.alloc(), &mut view, list.as_slice())
+    asks_once(&rt, rt.alloc(), &mut view, list.as_slice(), 1000)
+}
+
+#[test]
+fn ten_writes_to_one_component_ask_for_one_key(rt: HostRuntime) -> Result<(), Fail> {
+    let mut masked = no_scores(rt.alloc()).ok_or("a storage")?;
+    let mut entities = EntitiesRes::new(rt.alloc());
+    let list = players(rt.alloc(), &mut entities, 3)?;
+    let mut view = WriteStorage::new(&entities, &mut masked);
+    asks_once(&rt, rt.alloc(), &mut view, list.as_slice(), 10)
 }
 
 /// Of two indices one is ended, and the other goes on.

@@ -12,6 +12,6 @@ returns-in-Some-get_mut-clause-ok g c =
     let some = subst IsSome there refl in
     rw c.in-Some.is
     (on_ok_weaker c.put_into.result
-    (λ ok q up. changed g.met.Q.Ord.total c.args.lists.now (c.get_mut.follows.lender c.put_into.new.list) c.in-Some.key (Some c.in-Some-get_mut.list.now) c.put_into.new.list (with_index c.args.id)
+    (λ ok q up. changed g.met.Q.Ord.total c.args.lists.now (c.get_mut.follows.lender c.put_into.new.list) c.new.result c.in-Some.key (Some c.in-Some-get_mut.list.now) c.put_into.new.list (with_index c.args.id) c.new.ensures
     (λ x. (holds.3 some).0 x) (sym there) ok q up)
     c.put_into.ensures.ok)

@@ -5,7 +5,7 @@ use Rattle.hibits.specs.declared.limits.TheConstants.{INDEX_LIMIT}
 use Rattle.storages.specs.Named.{is_named}
 use Rattle.key_index.specs.Indexed.{key_in}
 use Rattle.key_index.specs.Keys.{key_at}
-use Rattle.key_index.proofs.following.follow.Given as goal
+use Rattle.key_index.proofs.following.follow_many.Given as goal
 
 abbrev pub invariant-loop-event : goal.invariant-loop-event
 invariant-loop-event g l = record {
