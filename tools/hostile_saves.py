@@ -73,7 +73,7 @@ def all_scripts():
 def runs(scripts, how):
     """Each script with its run."""
     if how == "--unproved":
-        return unproved_runs(scripts)
+        return unproved_runs([[it] for it in scripts])
     program = os.path.join(TOP, BUILT if how == "--built" else "specs-run")
     return ((it, subprocess.run([program], input=text_of(it), capture_output=True, text=True, check=False)) for it in scripts)
 

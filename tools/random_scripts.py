@@ -3,13 +3,14 @@
 
     python3 tools/random_scripts.py [--unproved] [COUNT] [SEED]      COUNT: how many scripts (10000); SEED: that of the first (1)
 
---unproved runs them by one process of `rt try`, which proves nothing, in place of ./specs-run.
+--unproved runs them by one `rt try`, which proves nothing, in place of ./specs-run.
 
 Script k is made from seed SEED + k. A birth may take any free index, so the model follows the entity that the program printed, if the rule
 allows it. A job that creates an entity does not tell which, nor does a load: the model keeps every world that the replies so far allow. A reply that none of
 them gives is printed, with its script and its seed, and the status is 1."""
 import os
 import random
+import re
 import subprocess
 import sys
 import tempfile
@@ -23,7 +24,7 @@ UNREADABLE = ["frob", "create ", " create", "delete", "delete 0", "insert pos 0:
               "label", "label 0:1 1:1", "index", "index pos", "index hp 0", "find", "find 0:1", "find -0", "find 9223372036854775808", "job label", "save 0", "save-all ", "load", "load ", "load  []", "load [] "]
 
 
-# what stands between scripts that one process runs, as tools/many_scripts.rt.src has it
+# what stands between the scripts that one process runs, as tools/many_scripts.rt.src has it
 END = "\x1e"
 
 
@@ -167,18 +168,30 @@ def proved_runs(scripts):
         yield script, subprocess.run([os.path.join(TOP, "specs-run")], input=text_of(script), capture_output=True, text=True, check=False)
 
 
-def unproved_runs(scripts):
-    """Each script with its run, all by one process: the program of tools/many_scripts.rt.src, by `rt try` in a room of its own."""
+def groups_of(scripts):
+    """The scripts, so many in a group that a run of them prints less than `rt try` takes, which is 1 MiB."""
+    return [scripts[k:k + 250] for k in range(0, len(scripts), 250)]
+
+
+def unproved_runs(groups):
+    """Each script of some groups with its run. Each group is run by one process of the program of tools/many_scripts.rt.src, which `rt try` builds once, in a room of its own."""
     with tempfile.TemporaryDirectory(prefix="many-scripts-") as room:
         crate = make_room(room, "many_scripts", "specs_run", {"main.rt": "tools/many_scripts.rt.src"})
-        # with a step alone the interpreter leaves the run to the program that is built with checks
-        words = ["rt", "try", "--seconds", "3600", "--steps", "1"]
-        ran = subprocess.run(words, cwd=crate, input=END.join(text_of(it) for it in scripts), capture_output=True, text=True, check=False)
-    parts = iter(ran.stdout.split(END)[:-1])
-    for script in scripts:
-        # a run that did not end has no status that fits
-        printed, told, status = next(parts, ""), next(parts, ran.stderr[-1000:]), next(parts, "-1")
-        yield script, subprocess.CompletedProcess(words, int(status), printed, told)
+        os.mkdir(f"{room}/cases")
+        for k, group in enumerate(groups):
+            with open(f"{room}/cases/{k:06}", "w", encoding="utf-8") as it:
+                it.write(END.join(text_of(script) for script in group))
+        # with a step alone the interpreter leaves each run to the program that is built with checks
+        words = ["rt", "try", "--seconds", "3600", "--steps", "1", "--cases", f"{room}/cases"]
+        ran = subprocess.run(words, cwd=crate, stdin=subprocess.DEVNULL, capture_output=True, text=True, check=False)
+    printed = re.split(r"== (\d{6})\n", ran.stdout)[1:]
+    printed = dict(zip(printed[::2], printed[1::2]))
+    for k, group in enumerate(groups):
+        parts = iter(printed.get(f"{k:06}", "").split(END)[:-1])
+        for script in group:
+            # a run that did not end has no status that fits
+            replies, told, status = next(parts, ""), next(parts, ran.stderr[-1000:]), next(parts, "-1")
+            yield script, subprocess.CompletedProcess(words, int(status), replies, told)
 
 
 def first_fault(runs, seed):
@@ -195,8 +208,8 @@ def main():
     count = int(words[0]) if words else 10000
     seed = int(words[1]) if len(words) > 1 else 1
     scripts = [Script(seed + k) for k in range(count)]
-    runs = unproved_runs if "--unproved" in sys.argv[1:] else proved_runs
-    fault = first_fault(runs(scripts), seed)
+    runs = unproved_runs(groups_of(scripts)) if "--unproved" in sys.argv[1:] else proved_runs(scripts)
+    fault = first_fault(runs, seed)
     print(fault or f"{count} scripts agreed ({sum(len(it.lines) for it in scripts)} lines, seeds {seed} to {seed + count - 1})")
     return 1 if fault else 0
 
