@@ -25,6 +25,9 @@ TAKES_NONE = {
     "Storages::drop_reader": "a reader is taken out",
     "emit": "a flag is set",
     "Storages::set_event_emission": "a flag is set",
+    "ConvertSaveload::convert_from": "no conversion back makes a list or a text",
+    "JsonData::take": "numbers alone are taken off a text",
+    "JsonPlaces::take": "numbers alone are taken off a text",
     "JoinParIter::count": "it walks the mask in the caller's thread",
 }
 
