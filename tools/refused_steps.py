@@ -3,8 +3,8 @@
 
     python3 tools/refused_steps.py [PROGRAM]      PROGRAM: one that was built before, else it is built, without a proof
 
-The program of refusals/ gives steps, each of which is a call that takes memory, or a few. A step that is refused memory tells it on standard error,
-and is given again. So, whichever request is refused: standard output is the same, one step was refused, nothing has changed that may not, and the status is 0.
+The program of refusals/ gives steps, each of which is a call that takes memory, or a few; they stand in parts, one of which is run at a time. A step
+that is refused memory tells it on standard error, and is given again. So, whichever request is refused: standard output is the same, one step was refused, nothing has changed that may not, and the status is 0.
 
 A few calls ask for more room than they need, and for less where that is refused: then nothing is told, and the two requests are refused together, upon which
 one step has to be refused. More than ABSORBED such requests are a fault.
@@ -14,6 +14,7 @@ Each public call of docs/API.md that can answer want of memory has to be refused
 It prints what was wrong, if anything was, how much was refused, and last 'N passed, M failed', of the requests and of the calls that no step was refused in."""
 import concurrent.futures
 import os
+import string
 import subprocess
 import sys
 import tempfile
@@ -25,20 +26,21 @@ from unproved import build
 SECONDS = 60
 # requests whose refusal a smaller one makes up for
 ABSORBED = 40
+# what the program says of a letter that asks for no part
+NO_PART = "Error: Kind(NotFound)"
 # how many runs are given out at a time
-BATCH = 64
+BATCH = 32
 
 
 class Run:
-    """A run in which so many requests in a row were refused from one on."""
+    """A run of one part in which so many requests in a row were refused from one on."""
 
-    def __init__(self, refuser, program, number, count=1):
-        environment = {**refuser.environment(number), "REFUSED_COUNT": str(count)}
-        words = {"stdin": subprocess.DEVNULL, "stdout": subprocess.PIPE, "stderr": subprocess.PIPE, "text": True, "errors": "replace"}
-        it = subprocess.run([program], env=environment, timeout=SECONDS, check=False, **words)
+    def __init__(self, refuser, program, part, number, count=1):
+        environment = {**refuser.environment(number), "REFUSED_COUNT": str(count), "REQUESTS_FILE": f"{refuser.folder}/{number}{part}"}
+        it = subprocess.run([program], input=part, capture_output=True, text=True, errors="replace", env=environment, timeout=SECONDS, check=False)
         self.status, self.printed, self.told = it.returncode, it.stdout, it.stderr.splitlines()
         self.refused = [line.removeprefix("refused ") for line in self.told if line.startswith("refused ")]
-        self.met = refuser.met(number)
+        self.met = refuser.met(f"{number}{part}")
 
 
 def fault_of(whole, run):
@@ -58,49 +60,73 @@ def differs(whole, run):
     return next((f"{run.told}: printed {b!r} in place of {a!r}" for a, b in pairs if a != b), f"{run.told}: another length is printed")
 
 
-class Steps:
-    """The program of steps."""
+class Part:
+    """A part of the program of steps."""
 
-    def __init__(self, refuser, program):
-        self.refuser, self.program = refuser, program
-        self.whole = Run(refuser, program, 0)
+    def __init__(self, refuser, program, letter):
+        self.refuser, self.program, self.letter = refuser, program, letter
+        self.whole = self.run(0)
+
+    def run(self, number, count=1):
+        return Run(self.refuser, self.program, self.letter, number, count)
 
     def judge(self, number):
-        """How many requests a run met in which this one was refused, the step that was, whether it took two refusals, and what was wrong, if anything was."""
-        run = Run(self.refuser, self.program, number)
+        """Whether a run met a request, the step in which this was refused, whether it took two refusals, and what was wrong, if anything was."""
+        run = self.run(number)
+        if run.met < number:
+            return False, None, False, None
         is_absorbed = run.status == 0 and not run.told and run.printed == self.whole.printed and run.met > self.whole.met
-        met = run.met
         if is_absorbed:
-            run = Run(self.refuser, self.program, number, 2)
-        return met, (run.refused or [None])[0], is_absorbed, fault_of(self.whole, run) if met >= number else None
-
-    def tried(self):
-        """How many requests were refused rightly, how many of these were absorbed, the steps that were refused, and what was wrong."""
-        if self.whole.told or self.whole.status != 0:
-            return 0, 0, set(), [f"without a refusal: {self.whole.told[:4]}, status {self.whole.status}"]
-        passed, absorbed, steps, wrong, number = 0, 0, set(), [], 1
-        with concurrent.futures.ProcessPoolExecutor(len(os.sched_getaffinity(0))) as pool:
-            while True:
-                numbers = range(number, number + BATCH)
-                for n, (met, step, is_absorbed, fault) in zip(numbers, pool.map(self.judge, numbers)):
-                    if met < n:
-                        return passed, absorbed, steps, wrong
-                    passed += fault is None
-                    absorbed += is_absorbed
-                    steps.add(step)
-                    wrong += [f"request {n}: {fault}"] if fault else []
-                number += BATCH
+            run = self.run(number, 2)
+        fault = fault_of(self.whole, run)
+        return True, (run.refused or [None])[0], is_absorbed, fault and f"part {self.letter}, request {number}: {fault}"
 
 
-def report(steps):
-    """Tells of all requests, and answers how many passed, and what was wrong."""
-    passed, absorbed, refused, wrong = steps.tried()
-    if absorbed > ABSORBED:
-        wrong.append(f"{absorbed} requests are made up for by smaller ones, of {ABSORBED} at most")
-    wrong += refusable.missing(refusable.calls(), refused)
-    given = len(steps.whole.printed.splitlines())
-    print(*wrong, f"{passed} requests refused, of {len(refused - {None})} steps of {given}; {absorbed} of them made up for by smaller ones", sep="\n")
-    return passed, wrong
+class Found:
+    """What became of all requests: how many were judged right, how many of these smaller ones made up for, the steps in which, and what was wrong."""
+
+    def __init__(self):
+        self.passed, self.absorbed, self.steps, self.wrong, self.given = 0, 0, set(), [], 0
+
+    def take(self, part, pool):
+        """Judges each request of a part in turn."""
+        self.given += len(part.whole.printed.splitlines())
+        if part.whole.told or part.whole.status != 0:
+            self.wrong.append(f"part {part.letter}, without a refusal: {part.whole.told[:4]}, status {part.whole.status}")
+            return
+        number = 1
+        while True:
+            for is_met, step, is_absorbed, fault in pool.map(part.judge, range(number, number + BATCH)):
+                if not is_met:
+                    return
+                self.passed += fault is None
+                self.absorbed += is_absorbed
+                self.steps |= {step} - {None}
+                self.wrong += [fault] if fault else []
+            number += BATCH
+
+
+def tried(refuser, program):
+    """What became of all requests of all parts."""
+    found, letters = Found(), iter(string.ascii_lowercase)
+    with concurrent.futures.ProcessPoolExecutor(len(os.sched_getaffinity(0))) as pool:
+        for letter in letters:
+            part = Part(refuser, program, letter)
+            if part.whole.told == [NO_PART] and not part.whole.printed:
+                return found
+            found.take(part, pool)
+    return found
+
+
+def report(found):
+    """Tells of all requests, and answers what was wrong."""
+    wrong = list(found.wrong)
+    if found.absorbed > ABSORBED:
+        wrong.append(f"{found.absorbed} requests are made up for by smaller ones, of {ABSORBED} at most")
+    wrong += refusable.missing(refusable.calls(), found.steps)
+    made_up = f"{found.absorbed} of them made up for by smaller ones"
+    print(*wrong, f"{found.passed} requests refused, of {len(found.steps)} steps of {found.given}; {made_up}", sep="\n")
+    return wrong
 
 
 def main(words):
@@ -108,9 +134,10 @@ def main(words):
         sys.exit(__doc__)
     with tempfile.TemporaryDirectory(prefix="refused-steps-") as folder:
         program = os.path.abspath(words[0]) if words else build(f"{folder}/program", "refusals", "refusals")
-        passed, wrong = report(Steps(Refuser(folder), program))
-    print(f"{passed} passed, {len(wrong)} failed")
-    return 1 if wrong or not passed else 0
+        found = tried(Refuser(folder), program)
+    wrong = report(found)
+    print(f"{found.passed} passed, {len(wrong)} failed")
+    return 1 if wrong or not found.passed else 0
 
 
 if __name__ == "__main__":
