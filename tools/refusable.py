@@ -18,7 +18,6 @@ TAKES_NONE = {
     "Core::register": "each kind of storages begins without memory",
     "Storages::register": "each kind of storages begins without memory",
     "get": "a copy of a component takes none",
-    "CloneStorages::get": "the values of the steps are copied",
     "events": "the list of the events is handed over",
     "Storages::read": "the list of the events is handed over",
     "drop_reader": "a reader is taken out",
