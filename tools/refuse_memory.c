@@ -3,11 +3,13 @@
    Loaded before a program by LD_PRELOAD. The count stands, as eight bytes, in the file that REQUESTS_FILE names, however the program ends.
 
    A program that was built with checks brings an allocator of its own, before which no library's comes. Its `malloc` is a jump of five bytes, which is led here; from here
-   it goes on to where it led. Where that `malloc` is anything else, the program is ended, with status 97, rather than run without a refusal. */
+   it goes on to where it led. Where that `malloc` is anything else, the program is ended, with status 97, rather than run without a refusal. Of such a program only the
+   requests of its own code count: the C library makes threads by the same `malloc`, and those checks end a program that finds no memory for one. */
 #define _GNU_SOURCE
 #include <dlfcn.h>
 #include <errno.h>
 #include <fcntl.h>
+#include <link.h>
 #include <stdatomic.h>
 #include <stdint.h>
 #include <stdlib.h>
@@ -23,6 +25,9 @@ static void *(*real_malloc)(size_t);
 static void *(*real_realloc)(void *, size_t);
 static void *(*real_aligned_alloc)(size_t, size_t);
 static int (*real_posix_memalign)(void **, size_t, size_t);
+
+/* Where the program's code lies, if only its own requests count. */
+static uintptr_t code_begins, code_ends;
 
 /* The number that a variable gives, or 0. */
 static unsigned long number_in(const char *name)
@@ -66,10 +71,27 @@ static void *led_here(const char *name, void *here)
     return own;
 }
 
+/* Notes where the code of the program lies, which is told before that of any library. */
+static int note_code(struct dl_phdr_info *info, size_t size, void *unused)
+{
+    (void)size;
+    (void)unused;
+    for (int i = 0; i < info->dlpi_phnum; i++) {
+        const ElfW(Phdr) *part = &info->dlpi_phdr[i];
+        if (part->p_type == PT_LOAD && part->p_flags & PF_X) {
+            code_begins = info->dlpi_addr + part->p_vaddr;
+            code_ends = code_begins + part->p_memsz;
+        }
+    }
+    return 1;
+}
+
 /* What a request goes on to: the program's own function, or else the next library's. */
 static void *real(const char *name, void *here)
 {
     void *own = led_here(name, here);
+    if (own)
+        dl_iterate_phdr(note_code, NULL);
     return own ? own : dlsym(RTLD_NEXT, name);
 }
 
@@ -101,9 +123,11 @@ __attribute__((constructor)) static void begin(void)
     atomic_store(requests, 0);
 }
 
-/* Whether this request is one that is refused. */
-static int is_refused(void)
+/* Whether this request is one that is refused, by the place that it was made from. */
+static int is_refused(void *from)
 {
+    if (code_ends && ((uintptr_t)from < code_begins || (uintptr_t)from >= code_ends))
+        return 0;
     unsigned long number = atomic_fetch_add(requests, 1) + 1;
     int in_row = refused && number >= refused && number - refused < (in_a_row ? in_a_row : 1);
     if (!in_row && number != refused_too)
@@ -116,26 +140,26 @@ void *malloc(size_t size)
 {
     if (!real_malloc)
         real_malloc = dlsym(RTLD_NEXT, "malloc");
-    return is_refused() ? NULL : real_malloc(size);
+    return is_refused(__builtin_return_address(0)) ? NULL : real_malloc(size);
 }
 
 void *realloc(void *old, size_t size)
 {
     if (!real_realloc)
         real_realloc = dlsym(RTLD_NEXT, "realloc");
-    return is_refused() ? NULL : real_realloc(old, size);
+    return is_refused(__builtin_return_address(0)) ? NULL : real_realloc(old, size);
 }
 
 void *aligned_alloc(size_t alignment, size_t size)
 {
     if (!real_aligned_alloc)
         real_aligned_alloc = dlsym(RTLD_NEXT, "aligned_alloc");
-    return is_refused() ? NULL : real_aligned_alloc(alignment, size);
+    return is_refused(__builtin_return_address(0)) ? NULL : real_aligned_alloc(alignment, size);
 }
 
 int posix_memalign(void **place, size_t alignment, size_t size)
 {
     if (!real_posix_memalign)
         real_posix_memalign = dlsym(RTLD_NEXT, "posix_memalign");
-    return is_refused() ? ENOMEM : real_posix_memalign(place, alignment, size);
+    return is_refused(__builtin_return_address(0)) ? ENOMEM : real_posix_memalign(place, alignment, size);
 }

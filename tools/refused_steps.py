@@ -6,8 +6,9 @@
 The program of refusals/ gives steps, each of which is a call that takes memory, or a few; they stand in parts, one of which is run at a time. A step
 that is refused memory tells it on standard error, and is given again. So, whichever request is refused: standard output is the same, one step was refused, nothing has changed that may not, and the status is 0.
 
-A few calls ask for more room than they need, and for less where that is refused: then nothing is told, and the two requests are refused together, upon which
-one step has to be refused. More than ABSORBED such requests are a fault.
+Growing lists ask for more room than they need, and for less where that is refused: then nothing is told, and the two requests are refused together, upon which
+one step has to be refused. More than ABSORBED such requests are a fault. In the part THREADED, where the order of the requests is another from run to run, a thread
+that finds no memory is done without, and nothing is told: more than UNTHREADED such requests are a fault.
 
 Each public call of docs/API.md that can answer want of memory has to be refused in a step of its name (tools/refusable.py).
 
@@ -25,7 +26,9 @@ from unproved import build
 
 SECONDS = 60
 # requests whose refusal a smaller one makes up for
-ABSORBED = 40
+ABSORBED = 320
+# the part whose calls make threads, and requests whose refusal leaves a thread out
+THREADED, UNTHREADED = "w", 40
 # what the program says of a letter that asks for no part
 NO_PART = "Error: Kind(NotFound)"
 # how many runs are given out at a time
@@ -71,11 +74,14 @@ class Part:
         return Run(self.refuser, self.program, self.letter, number, count)
 
     def judge(self, number):
-        """Whether a run met a request, the step in which this was refused, whether it took two refusals, and what was wrong, if anything was."""
+        """Whether a run met a request, the step in which this was refused, whether something made up for it, and what was wrong, if anything was."""
         run = self.run(number)
         if run.met < number:
             return False, None, False, None
-        is_absorbed = run.status == 0 and not run.told and run.printed == self.whole.printed and run.met > self.whole.met
+        is_silent = run.status == 0 and not run.told and run.printed == self.whole.printed
+        if is_silent and self.letter == THREADED:
+            return True, None, True, None
+        is_absorbed = is_silent and run.met > self.whole.met
         if is_absorbed:
             run = self.run(number, 2)
         fault = fault_of(self.whole, run)
@@ -83,10 +89,10 @@ class Part:
 
 
 class Found:
-    """What became of all requests: how many were judged right, how many of these smaller ones made up for, the steps in which, and what was wrong."""
+    """What became of all requests: how many were judged right, how many of these something made up for, the steps in which, and what was wrong."""
 
     def __init__(self):
-        self.passed, self.absorbed, self.steps, self.wrong, self.given = 0, 0, set(), [], 0
+        self.passed, self.absorbed, self.unthreaded, self.steps, self.wrong, self.given = 0, 0, 0, set(), [], 0
 
     def take(self, part, pool):
         """Judges each request of a part in turn."""
@@ -100,7 +106,8 @@ class Found:
                 if not is_met:
                     return
                 self.passed += fault is None
-                self.absorbed += is_absorbed
+                self.absorbed += is_absorbed and part.letter != THREADED
+                self.unthreaded += is_absorbed and part.letter == THREADED
                 self.steps |= {step} - {None}
                 self.wrong += [fault] if fault else []
             number += BATCH
@@ -121,10 +128,11 @@ def tried(refuser, program):
 def report(found):
     """Tells of all requests, and answers what was wrong."""
     wrong = list(found.wrong)
-    if found.absorbed > ABSORBED:
-        wrong.append(f"{found.absorbed} requests are made up for by smaller ones, of {ABSORBED} at most")
+    for count, most, what in ((found.absorbed, ABSORBED, "a smaller one makes up for"), (found.unthreaded, UNTHREADED, "left a thread out")):
+        if count > most:
+            wrong.append(f"{count} requests that {what}, of {most} at most")
     wrong += refusable.missing(refusable.calls(), found.steps)
-    made_up = f"{found.absorbed} of them made up for by smaller ones"
+    made_up = f"a smaller one made up for {found.absorbed} of them, and {found.unthreaded} left a thread out"
     print(*wrong, f"{found.passed} requests refused, of {len(found.steps)} steps of {found.given}; {made_up}", sep="\n")
     return wrong
 
