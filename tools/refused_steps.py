@@ -1,7 +1,8 @@
 #!/usr/bin/env python3
 """Refuses each request for memory of a program of steps in turn, and judges what it tells.
 
-    python3 tools/refused_steps.py [PROGRAM]      PROGRAM: one that was built before, else it is built, without a proof
+    python3 tools/refused_steps.py [--parts LETTERS] [PROGRAM]      LETTERS: the parts that are tried, else all, and then each call is looked for;
+                                                                    PROGRAM: one that was built before, else it is built, without a proof
 
 The program of refusals/ gives steps, each of which is a call that takes memory, or a few; they stand in parts, one of which is run at a time. A step
 that is refused memory tells it on standard error, and is given again. So, whichever request is refused: standard output is the same, one step was refused, nothing has changed that may not, and the status is 0.
@@ -49,7 +50,7 @@ class Run:
 def fault_of(whole, run):
     """What is wrong with a run in which a request was refused, if anything is."""
     if len(run.refused) != 1 or len(run.told) != 1:
-        return f"it tells {run.told[:4]}, and ends with status {run.status}"
+        return f"it tells {run.told[:2]}, and ends with status {run.status}"
     if run.status != 0:
         return f"status {run.status}, after {run.told}"
     return differs(whole, run)
@@ -113,9 +114,9 @@ class Found:
             number += BATCH
 
 
-def tried(refuser, program):
-    """What became of all requests of all parts."""
-    found, letters = Found(), iter(string.ascii_lowercase)
+def tried(refuser, program, letters=string.ascii_lowercase):
+    """What became of all requests of some parts."""
+    found = Found()
     with concurrent.futures.ProcessPoolExecutor(len(os.sched_getaffinity(0))) as pool:
         for letter in letters:
             part = Part(refuser, program, letter)
@@ -125,25 +126,27 @@ def tried(refuser, program):
     return found
 
 
-def report(found):
-    """Tells of all requests, and answers what was wrong."""
+def report(found, is_whole):
+    """Tells of all requests, and answers what was wrong. Each call is looked for where each part was tried."""
     wrong = list(found.wrong)
     for count, most, what in ((found.absorbed, ABSORBED, "a smaller one makes up for"), (found.unthreaded, UNTHREADED, "left a thread out")):
         if count > most:
             wrong.append(f"{count} requests that {what}, of {most} at most")
-    wrong += refusable.missing(refusable.calls(), found.steps)
+    wrong += refusable.missing(refusable.calls(), found.steps) if is_whole else []
     made_up = f"a smaller one made up for {found.absorbed} of them, and {found.unthreaded} left a thread out"
     print(*wrong, f"{found.passed} requests refused, of {len(found.steps)} steps of {found.given}; {made_up}", sep="\n")
     return wrong
 
 
 def main(words):
+    letters = words[1:2] if words[:1] == ["--parts"] else []
+    words = words[2:] if letters else words
     if len(words) > 1 or any(it.startswith("-") for it in words):
         sys.exit(__doc__)
     with tempfile.TemporaryDirectory(prefix="refused-steps-") as folder:
         program = os.path.abspath(words[0]) if words else build(f"{folder}/program", "refusals", "refusals")
-        found = tried(Refuser(folder), program)
-    wrong = report(found)
+        found = tried(Refuser(folder), program, *letters)
+    wrong = report(found, not letters)
     print(f"{found.passed} passed, {len(wrong)} failed")
     return 1 if wrong or not found.passed else 0
 
