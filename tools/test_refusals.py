@@ -8,11 +8,13 @@ import shutil
 import tempfile
 import types
 import unittest
+from unittest import mock
 
 from refusals import LINES, REFUSED, Refuser, disagreement, read, wrong_talk
 from refusable import TAKES_NONE, calls, made_by, missing, steps_in_sources
 from refused_steps import Found, Part, fault_of
 from refused_tests import Test
+import unproved
 
 SAID = [("register hp", "ok"), ("create", "0:1"), ("insert hp 0:1 5", "none"), ("count hp", "1")]
 
@@ -165,6 +167,40 @@ class PartsAreTried(unittest.TestCase):
         found = Found()
         found.take(types.SimpleNamespace(letter="a", whole=run((), ["failed a step"])), None)
         self.assertIn("part a, without a refusal", found.wrong[0])
+
+
+class ProgramsAreBuilt(unittest.TestCase):
+    """tools/unproved.py, over stand-ins for `rt try`."""
+
+    def built(self, rt):
+        """What is built where `rt` is this script, which is given the name of the file as its standard input."""
+        folder = tempfile.mkdtemp(prefix="test-unproved-")
+        self.addCleanup(shutil.rmtree, folder)
+        with open(f"{folder}/rt", "w", encoding="utf-8") as it:
+            it.write(f"#!/bin/sh\n{rt}\n")
+        os.chmod(it.name, 0o700)
+        path = {"PATH": f"{folder}:{os.environ['PATH']}"}
+        with mock.patch.object(unproved, "make_room", lambda room, *_: room), mock.patch.dict(os.environ, path):
+            return unproved.build(f"{folder}/program", "refusals", "refusals")
+
+    def refuses(self, rt, text):
+        with self.assertRaises(SystemExit) as refusal:
+            self.built(rt)
+        self.assertIn(text, str(refusal.exception))
+
+    ENDS = "echo 'run=ended status=0 runners=1 proved=no' >&2"
+
+    def test_a_program_that_wrote_itself_is_built(self):
+        self.assertTrue(os.access(self.built(f"printf '\\177ELF' >$(cat)\n{self.ENDS}"), os.X_OK))
+
+    def test_one_that_did_not_end_or_printed_something_is_refused(self):
+        self.refuses("printf '\\177ELF' >$(cat)\necho 'run=none proved=no' >&2", "run=none")
+        self.refuses(f"printf '\\177ELF' >$(cat)\n{self.ENDS}\nexit 1", "is not built")
+        self.refuses(f"printf '\\177ELF' >$(cat)\necho a step\n{self.ENDS}", "a step")
+
+    def test_one_that_wrote_nothing_or_something_else_is_refused(self):
+        self.refuses(self.ENDS, "it wrote itself nowhere")
+        self.refuses(f"echo text >$(cat)\n{self.ENDS}", "what wrote itself is no program")
 
 
 class CallsAreListed(unittest.TestCase):

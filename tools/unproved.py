@@ -28,6 +28,8 @@ def build(to, folder, name):
         shutil.rmtree(room)
     if it.returncode != 0 or not ENDED.search(it.stderr) or it.stdout:
         raise SystemExit(f"{name} is not built:\n{it.stdout}{it.stderr}"[-4000:])
+    if not os.path.exists(to):
+        raise SystemExit(f"{name} is not built: it wrote itself nowhere")
     with open(to, "rb") as program:
         if program.read(4) != b"\x7fELF":
             raise SystemExit(f"{name} is not built: what wrote itself is no program")
