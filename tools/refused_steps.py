@@ -49,19 +49,20 @@ class Run:
 
 def fault_of(whole, run):
     """What is wrong with a run in which a request was refused, if anything is."""
+    fault = differs(whole, run)
     if len(run.refused) != 1 or len(run.told) != 1:
-        return f"it tells {run.told[:2]}, and ends with status {run.status}"
+        return f"it tells {run.told[:2]}, and ends with status {run.status}{fault and f': {fault}' or ''}"
     if run.status != 0:
         return f"status {run.status}, after {run.told}"
-    return differs(whole, run)
+    return fault and f"{run.told}: {fault}"
 
 
 def differs(whole, run):
     """The first line in which a run is another than the whole, or none."""
     if run.printed == whole.printed:
         return None
-    pairs = list(zip(whole.printed.splitlines() + ["nothing"], run.printed.splitlines() + ["nothing"]))
-    return next((f"{run.told}: printed {b!r} in place of {a!r}" for a, b in pairs if a != b), f"{run.told}: another length is printed")
+    pairs = zip(whole.printed.splitlines() + ["nothing"], run.printed.splitlines() + ["nothing"])
+    return next((f"printed {b!r} in place of {a!r}" for a, b in pairs if a != b), "another length is printed")
 
 
 class Part:
@@ -97,7 +98,7 @@ class Found:
 
     def take(self, part, pool):
         """Judges each request of a part in turn."""
-        self.given += len(part.whole.printed.splitlines())
+        self.given += sum("|" in line for line in part.whole.printed.splitlines())
         if part.whole.told or part.whole.status != 0:
             self.wrong.append(f"part {part.letter}, without a refusal: {part.whole.told[:4]}, status {part.whole.status}")
             return
