@@ -141,7 +141,7 @@ class PartsAreTried(unittest.TestCase):
             it.write("#!/usr/bin/env python3\nimport os, sys\nat, count = int(os.environ['REFUSED_REQUEST']), int(os.environ['REFUSED_COUNT'])\n"
                      f"told, met = {others}.get((at, count), ('refused a step', {requests}))\n"
                      "with open(os.environ['REQUESTS_FILE'], 'wb') as it:\n    it.write(met.to_bytes(8, sys.byteorder))\n"
-                     "print('a step', file=sys.stdout)\nprint(told if at else '', end='', file=sys.stderr)\n")
+                     "print('a step: | 1', file=sys.stdout)\nprint(told if at else '', end='', file=sys.stderr)\n")
         os.chmod(it.name, 0o700)
         refuser = Refuser.__new__(Refuser)
         refuser.folder, refuser.library = folder, ""
