@@ -1,6 +1,6 @@
 #!/usr/bin/env bash
 # Whether each crate's sources, definitions and proofs are in the layout of `rt fmt`: `rt ci` asks for it too, but only once it comes to the crate, which may be after half an hour.
-# It formats a copy, and names the files that differ. Of the benchmark, which `rt ci` does not see, too. Run at the top of the repository.
+# It formats a copy, and names the files that differ. Of the benchmark and of refusals/, which `rt ci` does not see, too. Run at the top of the repository.
 set -euo pipefail
 
 laid=$(mktemp -d)
@@ -25,5 +25,17 @@ cp -r "$laid/room/crates/bench" "$laid/bench"
 (cd "$laid/room/crates/bench" && rt fmt >/dev/null)
 diff -rq "$laid/bench" "$laid/room/crates/bench" || {
   echo "the benchmark: bench/room.sh ROOM, and bench/room.sh --back ROOM, which lays it out"
+  exit 1
+}
+mkdir -p "$laid/crates/refusals/src"
+echo "refusals: $(cat refusals/uses)" >>"$laid/crates.txt"
+for source in refusals/src/*.rt.src; do
+  name=${source##*/}
+  cp "$source" "$laid/crates/refusals/src/${name%.src}"
+done
+cp -r "$laid/crates/refusals/src" "$laid/steps"
+(cd "$laid/crates/refusals" && rt fmt >/dev/null)
+diff -rq "$laid/steps" "$laid/crates/refusals/src" || {
+  echo "refusals: their lines are not as rt fmt lays them out"
   exit 1
 }

@@ -1,17 +1,33 @@
 /* Counts a program's requests for memory, and refuses one: that whose number REFUSED_REQUEST gives, none where it is 0 or missing; and likewise another, by REFUSED_TOO.
-   Loaded before a program by LD_PRELOAD. The count stands, as eight bytes, in the file that REQUESTS_FILE names, however the program ends. */
+   From the first on REFUSED_COUNT are refused in a row, one where it is missing.
+   Loaded before a program by LD_PRELOAD. The count stands, as eight bytes, in the file that REQUESTS_FILE names, however the program ends.
+
+   A program that was built with checks brings an allocator of its own, before which no library's comes. Its `malloc` is a jump of five bytes, which is led here; from here
+   it goes on to where it led. Where that `malloc` is anything else, the program is ended, with status 97, rather than run without a refusal. Of such a program only the
+   requests of its own code count: the C library makes threads by the same `malloc`, and those checks end a program that finds no memory for one. */
 #define _GNU_SOURCE
 #include <dlfcn.h>
 #include <errno.h>
 #include <fcntl.h>
+#include <link.h>
 #include <stdatomic.h>
+#include <stdint.h>
 #include <stdlib.h>
+#include <string.h>
 #include <sys/mman.h>
 #include <unistd.h>
 
 static atomic_ulong own;
 static atomic_ulong *requests = &own;
-static unsigned long refused, refused_too;
+static unsigned long refused, refused_too, in_a_row;
+
+static void *(*real_malloc)(size_t);
+static void *(*real_realloc)(void *, size_t);
+static void *(*real_aligned_alloc)(size_t, size_t);
+static int (*real_posix_memalign)(void **, size_t, size_t);
+
+/* Where the program's code lies, if only its own requests count. */
+static uintptr_t code_begins, code_ends;
 
 /* The number that a variable gives, or 0. */
 static unsigned long number_in(const char *name)
@@ -19,6 +35,72 @@ static unsigned long number_in(const char *name)
     const char *text = getenv(name);
     return text ? strtoul(text, NULL, 10) : 0;
 }
+
+/* A page of code near a place, from where a jump of five bytes reaches it, or NULL. */
+static unsigned char *page_near(unsigned char *at)
+{
+    uintptr_t base = (uintptr_t)at & ~(uintptr_t)0xffff;
+    for (uintptr_t step = 0x10000; step < 0x70000000; step += 0x10000) {
+        void *page = mmap((void *)(base - step), 4096, PROT_READ | PROT_WRITE | PROT_EXEC, MAP_PRIVATE | MAP_ANONYMOUS | MAP_FIXED_NOREPLACE, -1, 0);
+        if (page != MAP_FAILED)
+            return page;
+    }
+    return NULL;
+}
+
+/* Leads a function that the program brings to one of this library. It answers where the program's own goes on, or NULL where the program brings none. */
+static void *led_here(const char *name, void *here)
+{
+    unsigned char *at = dlsym(RTLD_DEFAULT, name);
+    if (!at || at == here)
+        return NULL;
+    unsigned char *page = *at == 0xe9 ? page_near(at) : NULL;
+    uintptr_t text = (uintptr_t)at & ~(uintptr_t)4095;
+    if (!page || mprotect((void *)text, 8192, PROT_READ | PROT_WRITE | PROT_EXEC) != 0)
+        _exit(97);
+    int32_t distance;
+    memcpy(&distance, at + 1, 4);
+    void *own = at + 5 + distance;
+    /* movabs $here, %r11; jmp *%r11 */
+    memcpy(page, "\x49\xbb", 2);
+    memcpy(page + 2, &here, 8);
+    memcpy(page + 10, "\x41\xff\xe3", 3);
+    distance = (int32_t)(page - (at + 5));
+    memcpy(at + 1, &distance, 4);
+    mprotect((void *)text, 8192, PROT_READ | PROT_EXEC);
+    return own;
+}
+
+/* Notes where the code of the program lies, which is told before that of any library. */
+static int note_code(struct dl_phdr_info *info, size_t size, void *unused)
+{
+    (void)size;
+    (void)unused;
+    for (int i = 0; i < info->dlpi_phnum; i++) {
+        const ElfW(Phdr) *part = &info->dlpi_phdr[i];
+        if (part->p_type == PT_LOAD && part->p_flags & PF_X) {
+            code_begins = info->dlpi_addr + part->p_vaddr;
+            code_ends = code_begins + part->p_memsz;
+        }
+    }
+    return 1;
+}
+
+/* What a request goes on to: the program's own function, or else the next library's. */
+static void *real(const char *name, void *here)
+{
+    void *own = led_here(name, here);
+    if (own)
+        dl_iterate_phdr(note_code, NULL);
+    return own ? own : dlsym(RTLD_NEXT, name);
+}
+
+/* This library's functions by names that no other library's come before. */
+#define OURS(name) extern __typeof(name) our_##name __attribute__((alias(#name), visibility("hidden")))
+OURS(malloc);
+OURS(realloc);
+OURS(aligned_alloc);
+OURS(posix_memalign);
 
 __attribute__((constructor)) static void begin(void)
 {
@@ -33,14 +115,22 @@ __attribute__((constructor)) static void begin(void)
         close(file);
     refused = number_in("REFUSED_REQUEST");
     refused_too = number_in("REFUSED_TOO");
+    in_a_row = number_in("REFUSED_COUNT");
+    real_malloc = real("malloc", our_malloc);
+    real_realloc = real("realloc", our_realloc);
+    real_aligned_alloc = real("aligned_alloc", our_aligned_alloc);
+    real_posix_memalign = real("posix_memalign", our_posix_memalign);
     atomic_store(requests, 0);
 }
 
-/* Whether this request is one that is refused. */
-static int is_refused(void)
+/* Whether this request is one that is refused, by the place that it was made from. */
+static int is_refused(void *from)
 {
+    if (code_ends && ((uintptr_t)from < code_begins || (uintptr_t)from >= code_ends))
+        return 0;
     unsigned long number = atomic_fetch_add(requests, 1) + 1;
-    if (number != refused && number != refused_too)
+    int in_row = refused && number >= refused && number - refused < (in_a_row ? in_a_row : 1);
+    if (!in_row && number != refused_too)
         return 0;
     errno = ENOMEM;
     return 1;
@@ -48,32 +138,28 @@ static int is_refused(void)
 
 void *malloc(size_t size)
 {
-    static void *(*real)(size_t);
-    if (!real)
-        real = dlsym(RTLD_NEXT, "malloc");
-    return is_refused() ? NULL : real(size);
+    if (!real_malloc)
+        real_malloc = dlsym(RTLD_NEXT, "malloc");
+    return is_refused(__builtin_return_address(0)) ? NULL : real_malloc(size);
 }
 
 void *realloc(void *old, size_t size)
 {
-    static void *(*real)(void *, size_t);
-    if (!real)
-        real = dlsym(RTLD_NEXT, "realloc");
-    return is_refused() ? NULL : real(old, size);
+    if (!real_realloc)
+        real_realloc = dlsym(RTLD_NEXT, "realloc");
+    return is_refused(__builtin_return_address(0)) ? NULL : real_realloc(old, size);
 }
 
 void *aligned_alloc(size_t alignment, size_t size)
 {
-    static void *(*real)(size_t, size_t);
-    if (!real)
-        real = dlsym(RTLD_NEXT, "aligned_alloc");
-    return is_refused() ? NULL : real(alignment, size);
+    if (!real_aligned_alloc)
+        real_aligned_alloc = dlsym(RTLD_NEXT, "aligned_alloc");
+    return is_refused(__builtin_return_address(0)) ? NULL : real_aligned_alloc(alignment, size);
 }
 
 int posix_memalign(void **place, size_t alignment, size_t size)
 {
-    static int (*real)(void **, size_t, size_t);
-    if (!real)
-        real = dlsym(RTLD_NEXT, "posix_memalign");
-    return is_refused() ? ENOMEM : real(place, alignment, size);
+    if (!real_posix_memalign)
+        real_posix_memalign = dlsym(RTLD_NEXT, "posix_memalign");
+    return is_refused(__builtin_return_address(0)) ? ENOMEM : real_posix_memalign(place, alignment, size);
 }

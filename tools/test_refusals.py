@@ -1,5 +1,5 @@
 #!/usr/bin/env python3
-"""Tests of tools/refusals.py: what its judges let pass, and what they tell.
+"""Tests of tools/refusals.py, tools/refused_tests.py, tools/refused_steps.py and tools/refusable.py: what their judges let pass, and what they tell.
 
     python3 tools/test_refusals.py"""
 import os
@@ -8,9 +8,13 @@ import shutil
 import tempfile
 import types
 import unittest
+from unittest import mock
 
 from refusals import LINES, REFUSED, Refuser, disagreement, read, wrong_talk
+from refusable import TAKES_NONE, calls, made_by, missing, steps_in_sources
+from refused_steps import Found, Part, fault_of
 from refused_tests import Test
+import unproved
 
 SAID = [("register hp", "ok"), ("create", "0:1"), ("insert hp 0:1 5", "none"), ("count hp", "1")]
 
@@ -105,6 +109,146 @@ class TestsAreRefused(unittest.TestCase):
     def test_one_that_fails_by_itself_or_asks_for_no_memory_is_told(self):
         self.assertIn("status 1", self.tried([(0, 0)])[1][0])
         self.assertIn("no memory", self.tried([], requests=0)[1][0])
+
+
+def run(refused=("a step",), told=None, status=0, printed="one\ntwo\n"):
+    """A run in which steps were refused."""
+    told = [f"refused {it}" for it in refused] if told is None else told
+    return types.SimpleNamespace(refused=list(refused), told=told, status=status, printed=printed)
+
+
+class StepsAreJudged(unittest.TestCase):
+    whole = run(())
+
+    def test_one_refused_step_with_the_same_output_passes(self):
+        self.assertIsNone(fault_of(self.whole, run()))
+
+    def test_any_other_is_told(self):
+        for other in (run(()), run(("a", "b")), run(told=["refused a step", "changed a step"]), run(status=1), run(told=["refused a step", "failed a step"])):
+            self.assertIsNotNone(fault_of(self.whole, other))
+        self.assertIn("printed 'three' in place of 'two'", fault_of(self.whole, run(printed="one\nthree\n")))
+        self.assertIn("in place of 'nothing'", fault_of(self.whole, run(printed="one\ntwo\nthree\n")))
+
+
+class PartsAreTried(unittest.TestCase):
+    """Parts over a stand-in for the program of steps, of which some requests do something else."""
+
+    def tried(self, others="{}", requests=5):
+        """What is told of a part, where `others` has for a request, and a count in a row, what is told and how many requests are met."""
+        folder = tempfile.mkdtemp(prefix="test-steps-")
+        self.addCleanup(shutil.rmtree, folder)
+        with open(f"{folder}/steps", "w", encoding="utf-8") as it:
+            it.write("#!/usr/bin/env python3\nimport os, sys\nat, count = int(os.environ['REFUSED_REQUEST']), int(os.environ['REFUSED_COUNT'])\n"
+                     f"told, met = {others}.get((at, count), ('refused a step', {requests}))\n"
+                     "with open(os.environ['REQUESTS_FILE'], 'wb') as it:\n    it.write(met.to_bytes(8, sys.byteorder))\n"
+                     "print('a step: | 1', file=sys.stdout)\nprint(told if at else '', end='', file=sys.stderr)\n")
+        os.chmod(it.name, 0o700)
+        refuser = Refuser.__new__(Refuser)
+        refuser.folder, refuser.library = folder, ""
+        found = Found()
+        found.take(Part(refuser, it.name, "a"), types.SimpleNamespace(map=map))
+        return found
+
+    def test_each_request_of_a_step_counts(self):
+        found = self.tried()
+        self.assertEqual((found.passed, found.absorbed, found.steps, found.wrong, found.given), (5, 0, {"a step"}, [], 1))
+
+    def test_a_request_that_a_smaller_one_makes_up_for_is_refused_with_that(self):
+        found = self.tried("{(2, 1): ('', 6)}")
+        self.assertEqual((found.passed, found.absorbed, found.wrong), (5, 1, []))
+        found = self.tried("{(2, 1): ('', 6), (2, 2): ('', 7)}")
+        self.assertEqual((found.passed, len(found.wrong)), (4, 1))
+
+    def test_a_refusal_that_nobody_tells_is_told(self):
+        found = self.tried("{(2, 1): ('', 5)}")
+        self.assertEqual((found.passed, found.absorbed, len(found.wrong)), (4, 0, 1))
+
+    def test_a_part_that_is_wrong_by_itself_is_told(self):
+        found = Found()
+        found.take(types.SimpleNamespace(letter="a", whole=run((), ["failed a step"])), None)
+        self.assertIn("part a, without a refusal", found.wrong[0])
+
+
+class ProgramsAreBuilt(unittest.TestCase):
+    """tools/unproved.py, over stand-ins for `rt try`."""
+
+    def built(self, rt):
+        """What is built where `rt` is this script, which is given the name of the file as its standard input."""
+        folder = tempfile.mkdtemp(prefix="test-unproved-")
+        self.addCleanup(shutil.rmtree, folder)
+        with open(f"{folder}/rt", "w", encoding="utf-8") as it:
+            it.write(f"#!/bin/sh\n{rt}\n")
+        os.chmod(it.name, 0o700)
+        path = {"PATH": f"{folder}:{os.environ['PATH']}"}
+        with mock.patch.object(unproved, "make_room", lambda room, *_: room), mock.patch.dict(os.environ, path):
+            return unproved.build(f"{folder}/program", "refusals", "refusals")
+
+    def refuses(self, rt, text):
+        with self.assertRaises(SystemExit) as refusal:
+            self.built(rt)
+        self.assertIn(text, str(refusal.exception))
+
+    ENDS = "echo 'run=ended status=0 runners=1 proved=no' >&2"
+
+    def test_a_program_that_wrote_itself_is_built(self):
+        self.assertTrue(os.access(self.built(f"printf '\\177ELF' >$(cat)\n{self.ENDS}"), os.X_OK))
+
+    def test_one_that_did_not_end_or_printed_something_is_refused(self):
+        self.refuses("printf '\\177ELF' >$(cat)\necho 'run=none proved=no' >&2", "run=none")
+        self.refuses(f"printf '\\177ELF' >$(cat)\n{self.ENDS}\nexit 1", "is not built")
+        self.refuses(f"printf '\\177ELF' >$(cat)\necho a step\n{self.ENDS}", "a step")
+
+    def test_one_that_wrote_nothing_or_something_else_is_refused(self):
+        self.refuses(self.ENDS, "it wrote itself nowhere")
+        self.refuses(f"echo text >$(cat)\n{self.ENDS}", "what wrote itself is no program")
+
+
+class CallsAreListed(unittest.TestCase):
+    TEXT = """### enum `Loss`
+
+- `OutOfMemory`: None is left.
+
+### enum `Trouble`
+
+- `Lost(Loss)`: It was lost.
+- `Other`: Anything else.
+
+### struct `Thing`
+
+- `pub fn made(f: fn() -> Loss) -> Thing`: It is made.
+- `pub fn put(&mut self) -> Result<(), Trouble>`: It is put.
+- `pub fn get<F: Fn() -> Loss>(&self, f: F) -> bool`: It is got.
+
+### fn `take`
+
+`pub fn take(from: &Thing) -> Result<Thing, (AllocError, u8)>`
+
+### fn `take`
+
+`pub fn take(from: u8) -> Result<Thing, Loss>`
+"""
+
+    def test_calls_whose_result_can_say_want_of_memory_are_listed(self):
+        self.assertEqual(calls(self.TEXT), ["Thing::put", "take", "take"])
+
+    def test_a_call_in_no_refused_step_is_told(self):
+        wanted = calls(self.TEXT)
+        self.assertEqual(missing(wanted, {"Thing::put once", "here::take", "there::take twice"}), [])
+        self.assertIn("Thing::put was refused in no step", missing(wanted, {"here::take", "there::take"}))
+        self.assertIn("stands 2 times", missing(wanted, {"Thing::put", "here::take", "here::take again"})[0])
+        self.assertEqual(made_by("take", {"here::take it", "Thing::take", "here::taken"}), {"here::take"})
+
+    def test_a_call_that_is_said_to_take_none_is_told_where_it_was_refused(self):
+        call = "JoinParIter::count"
+        self.assertIn(call, TAKES_NONE)
+        self.assertEqual(missing([call], set()), [])
+        self.assertIn("was refused memory", missing([call], {f"{call} of three"})[0])
+
+    def test_each_call_of_the_document_has_a_step(self):
+        wanted, steps = calls(), steps_in_sources()
+        self.assertGreater(len(wanted), 180)
+        self.assertEqual([it for it in dict.fromkeys(wanted) if len(made_by(it, steps)) < wanted.count(it)], [])
+        self.assertEqual([it for it in TAKES_NONE if it not in wanted], [])
 
 
 if __name__ == "__main__":

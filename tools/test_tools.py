@@ -73,6 +73,7 @@ class Gate(Tree):
         for name in (*GATE_TOOLS, "refusals.py"):
             self.write(f"tools/{name}", "print('3 passed, 0 failed')\n")
         self.write("tools/refused_tests.py", "")
+        self.write("tools/refused_steps.py", "print('4 passed, 0 failed')\n")
         self.rt("echo '5 passed, 0 failed'")
         self.commit()
 
@@ -89,13 +90,13 @@ class Gate(Tree):
     def test_it_adds_up(self):
         ran = self.gate()
         self.accepts(ran)
-        self.assertEqual(ran.stdout.split("\n")[-2], "12 passed, 0 failed")
+        self.assertEqual(ran.stdout.split("\n")[-2], "16 passed, 0 failed")
 
     def test_it_refuses_memory_to_a_built_program(self):
         self.write("crates/specs_run_main/out/specs_run_main", "#!/bin/sh\n", runs=True)
         ran = self.gate()
         self.accepts(ran)
-        self.assertEqual(ran.stdout.split("\n")[-2], "15 passed, 0 failed")
+        self.assertEqual(ran.stdout.split("\n")[-2], "19 passed, 0 failed")
         self.write("tools/refusals.py", "print('3 passed, 1 failed')\n")
         self.refuses(self.gate(), "the refusals failed")
 
@@ -104,7 +105,7 @@ class Gate(Tree):
         self.write("tools/refused_tests.py", f"{listing}    print('2 passed, 0 failed')\n")
         ran = self.gate()
         self.accepts(ran)
-        self.assertEqual(ran.stdout.split("\n")[-2], "14 passed, 0 failed")
+        self.assertEqual(ran.stdout.split("\n")[-2], "18 passed, 0 failed")
         self.write("tools/refused_tests.py", f"{listing}    print('2 passed, 1 failed')\n")
         self.refuses(self.gate(), "the tests with refused memory failed")
         self.write("tools/refused_tests.py", "raise SystemExit(1)\n")
@@ -139,11 +140,11 @@ class Gate(Tree):
         self.rt("echo '19 passed, 3 failed'")
         ran = self.gate()
         self.refuses(ran, "rt ci failed")
-        self.assertEqual(ran.stdout.split("\n")[-2], "20 passed, 3 failed")
+        self.assertEqual(ran.stdout.split("\n")[-2], "24 passed, 3 failed")
 
     def test_a_bad_end_of_a_good_count(self):
         self.rt("echo '19 passed, 0 failed'; exit 1")
-        self.refuses(self.gate(), "20 passed, 1 failed")
+        self.refuses(self.gate(), "24 passed, 1 failed")
 
     def test_no_count(self):
         self.rt("echo done")
@@ -161,11 +162,21 @@ class Gate(Tree):
         os.remove(f"{self.top}/bench/try.sh")
         self.refuses(self.gate(), "the benchmark gave no count")
 
+    def test_steps_that_fail(self):
+        self.write("tools/refused_steps.py", "print('4 passed, 1 failed')\nraise SystemExit(1)\n")
+        ran = self.gate()
+        self.refuses(ran, "the refusals of steps failed")
+        self.assertEqual(ran.stdout.split("\n")[-2], "5 passed, 1 failed")
+        self.write("tools/refused_steps.py", "print('0 passed, 0 failed')\n")
+        self.refuses(self.gate(), "the refusals of steps failed")
+        os.remove(f"{self.top}/tools/refused_steps.py")
+        self.refuses(self.gate(), "the refusals of steps gave no count")
+
     def test_wrong_bodies_that_fail(self):
         self.write("tools/wrong_bodies.py", "import sys\nprint('3 passed, 1 failed')\nsys.exit('--list' not in sys.argv)\n")
         ran = self.gate()
         self.refuses(ran, "the wrong bodies failed")
-        self.assertEqual(ran.stdout.split("\n")[-2], "12 passed, 1 failed")
+        self.assertEqual(ran.stdout.split("\n")[-2], "16 passed, 1 failed")
 
     def test_no_wrong_body_tried(self):
         self.write("tools/wrong_bodies.py", "print('0 passed, 0 failed')\n")

@@ -1,0 +1,37 @@
+"""Programs that are built without a proof, to be run by themselves: `rt try` runs what it makes, and keeps nothing of it."""
+import os
+import re
+import shutil
+import subprocess
+import tempfile
+
+from rooms import TOP, make_room
+
+# `rt try` ends with this line where the program ran to its end
+ENDED = re.compile(r"^run=ended status=0 .*proved=no\n\Z", re.M)
+
+
+def build(to, folder, name):
+    """Makes the program of the sources in a folder of the repository, as a file, or says why there is none.
+
+    The program is one that writes itself to the file that its standard input names. It is built with checks, and brings an allocator of its own."""
+    if os.path.exists(to):
+        os.remove(to)
+    with open(f"{TOP}/{folder}/uses", encoding="utf-8") as it:
+        uses = it.read().strip()
+    sources = {it.removesuffix(".src"): f"{folder}/src/{it}" for it in sorted(os.listdir(f"{TOP}/{folder}/src")) if it.endswith(".src")}
+    room = tempfile.mkdtemp(prefix="unproved-")
+    try:
+        crate = make_room(room, name, uses, sources)
+        it = subprocess.run(["rt", "try", "--steps", "1"], cwd=crate, input=to, capture_output=True, text=True, errors="replace", check=False)
+    finally:
+        shutil.rmtree(room)
+    if it.returncode != 0 or not ENDED.search(it.stderr) or it.stdout:
+        raise SystemExit(f"{name} is not built:\n{it.stdout}{it.stderr}"[-4000:])
+    if not os.path.exists(to):
+        raise SystemExit(f"{name} is not built: it wrote itself nowhere")
+    with open(to, "rb") as program:
+        if program.read(4) != b"\x7fELF":
+            raise SystemExit(f"{name} is not built: what wrote itself is no program")
+    os.chmod(to, 0o700)
+    return to
