@@ -42,6 +42,7 @@ class Refuser:
             words = [compiler, "-O1", "-shared", "-fPIC", "-o", self.library, f"{TOP}/tools/refuse_memory.c", "-ldl"]
             try:
                 if subprocess.run(words, check=False).returncode == 0:
+                    self.compiler = compiler
                     return
             except OSError:
                 continue
@@ -225,7 +226,7 @@ class Scripts:
 
 
 def read(path):
-    with open(path, encoding="utf-8") as it:
+    with open(path, encoding="utf-8", errors="replace") as it:
         return it.read()
 
 

@@ -2,6 +2,11 @@
    From the first on REFUSED_COUNT are refused in a row, one where it is missing.
    Loaded before a program by LD_PRELOAD. The count stands, as eight bytes, in the file that REQUESTS_FILE names, however the program ends.
 
+   Where REFUSE_EACH names a folder, no request is refused of the program itself: at each it forks a child of which this one is refused, and which goes on from there, so that
+   one run and the ends of others do what as many whole runs would. REFUSED_AT_ONCE tells how many children run at a time. A child reads the rest of the program's standard
+   input, which has to be a file, and writes to N.out and N.err. For each the file `ends` has a line: N, how the child ended, as wait tells it, how many requests it met, and
+   how much the program had written before it. Only a program of one thread can be forked so.
+
    A program that was built with checks brings an allocator of its own, before which no library's comes. Its `malloc` is a jump of five bytes, which is led here; from here
    it goes on to where it led. Where that `malloc` is anything else, the program is ended, with status 97, rather than run without a refusal. Of such a program only the
    requests of its own code count: the C library makes threads by the same `malloc`, and those checks end a program that finds no memory for one. */
@@ -12,14 +17,36 @@
 #include <link.h>
 #include <stdatomic.h>
 #include <stdint.h>
+#include <stdio.h>
 #include <stdlib.h>
 #include <string.h>
 #include <sys/mman.h>
+#include <sys/prctl.h>
+#include <sys/wait.h>
 #include <unistd.h>
 
 static atomic_ulong own;
 static atomic_ulong *requests = &own;
 static unsigned long refused, refused_too, in_a_row;
+
+/* A child of which a request was refused: its process, or 0 where there is none, the number of the request, how many it met, and what stood written before it. */
+struct child {
+    pid_t pid;
+    unsigned long number;
+    atomic_ulong requests;
+    off_t written;
+};
+
+#define MOST_AT_ONCE 64
+#define CHILD_SECONDS 60
+
+/* Where the children's files go, if each request is refused in a child, and what is noted of their ends. */
+static const char *each;
+static int ends = -1;
+static unsigned long at_once;
+static struct child *children;
+/* Whether a request is one that this library makes for itself. */
+static int is_ours;
 
 static void *(*real_malloc)(size_t);
 static void *(*real_realloc)(void *, size_t);
@@ -102,6 +129,45 @@ OURS(realloc);
 OURS(aligned_alloc);
 OURS(posix_memalign);
 
+/* Waits for a child, and notes how it ended. It answers the process, and gives how it ended. */
+static pid_t wait_for_one(int *status)
+{
+    pid_t ended = wait(status);
+    for (struct child *it = children; ended > 0 && it < children + at_once; it++)
+        if (it->pid == ended) {
+            it->pid = 0;
+            dprintf(ends, "%lu %d %lu %ld\n", it->number, *status, atomic_load(&it->requests), (long)it->written);
+            break;
+        }
+    return ended;
+}
+
+/* Makes ready for a child at each request, if that is asked for. */
+static void begin_each(void)
+{
+    const char *folder = getenv("REFUSE_EACH");
+    if (!folder)
+        return;
+    at_once = number_in("REFUSED_AT_ONCE");
+    at_once = at_once < 1 ? 1 : at_once > MOST_AT_ONCE ? MOST_AT_ONCE : at_once;
+    char path[4096];
+    snprintf(path, sizeof path, "%s/ends", folder);
+    ends = open(path, O_WRONLY | O_CREAT | O_TRUNC | O_APPEND, 0600);
+    children = mmap(NULL, sizeof *children * MOST_AT_ONCE, PROT_READ | PROT_WRITE, MAP_SHARED | MAP_ANONYMOUS, -1, 0);
+    if (ends < 0 || children == MAP_FAILED || prctl(PR_SET_CHILD_SUBREAPER, 1) != 0)
+        _exit(98);
+    each = folder;
+    /* the program itself is a child too, since it may end before the others, and by ways that nobody hears of */
+    pid_t program = fork(), ended;
+    if (program == 0)
+        return;
+    is_ours = 1;
+    int status, whole = 0x7f00;
+    while ((ended = wait_for_one(&status)) > 0)
+        whole = ended == program ? status : whole;
+    _exit(WIFEXITED(whole) ? WEXITSTATUS(whole) : 127);
+}
+
 __attribute__((constructor)) static void begin(void)
 {
     const char *path = getenv("REQUESTS_FILE");
@@ -121,14 +187,65 @@ __attribute__((constructor)) static void begin(void)
     real_aligned_alloc = real("aligned_alloc", our_aligned_alloc);
     real_posix_memalign = real("posix_memalign", our_posix_memalign);
     atomic_store(requests, 0);
+    begin_each();
+}
+
+/* Gives a child a file of its own in the place of one that it has from the program, open at the same place. */
+static void put_file(int to, const char *path, int flags, off_t at)
+{
+    int file = open(path, flags, 0600);
+    if (file < 0 || lseek(file, at, SEEK_SET) < 0 || dup2(file, to) < 0)
+        _exit(98);
+    close(file);
+}
+
+/* Forks a child of which this request is refused. It answers whether this is the child. */
+static int is_child_of(unsigned long number)
+{
+    struct child *free_one = NULL;
+    while (!free_one) {
+        for (struct child *it = children; it < children + at_once; it++)
+            free_one = it->pid ? free_one : it;
+        int status;
+        if (!free_one && wait_for_one(&status) < 0)
+            _exit(98);
+    }
+    atomic_store(&free_one->requests, number);
+    free_one->number = number;
+    free_one->written = lseek(1, 0, SEEK_CUR);
+    off_t read = lseek(0, 0, SEEK_CUR);
+    pid_t pid = fork();
+    if (pid < 0)
+        _exit(98);
+    if (pid > 0) {
+        free_one->pid = pid;
+        return 0;
+    }
+    char path[4096];
+    alarm(CHILD_SECONDS);
+    put_file(0, "/proc/self/fd/0", O_RDONLY, read);
+    snprintf(path, sizeof path, "%s/%lu.out", each, number);
+    put_file(1, path, O_WRONLY | O_CREAT | O_TRUNC, 0);
+    snprintf(path, sizeof path, "%s/%lu.err", each, number);
+    put_file(2, path, O_WRONLY | O_CREAT | O_TRUNC, 0);
+    requests = &free_one->requests;
+    each = NULL;
+    return 1;
 }
 
 /* Whether this request is one that is refused, by the place that it was made from. */
 static int is_refused(void *from)
 {
-    if (code_ends && ((uintptr_t)from < code_begins || (uintptr_t)from >= code_ends))
+    if (is_ours || (code_ends && ((uintptr_t)from < code_begins || (uintptr_t)from >= code_ends)))
         return 0;
     unsigned long number = atomic_fetch_add(requests, 1) + 1;
+    if (each) {
+        is_ours = 1;
+        int is_child = is_child_of(number);
+        is_ours = 0;
+        errno = ENOMEM;
+        return is_child;
+    }
     int in_row = refused && number >= refused && number - refused < (in_a_row ? in_a_row : 1);
     if (!in_row && number != refused_too)
         return 0;

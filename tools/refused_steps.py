@@ -11,6 +11,9 @@ Growing lists ask for more room than they need, and for less where that is refus
 one step has to be refused. More than ABSORBED such requests are a fault. In the part THREADED, where the order of the requests is another from run to run, a thread
 that finds no memory is done without, and nothing is told: more than UNTHREADED such requests are a fault.
 
+A part is run once, and at each request a child goes on from there of which this one is refused, as tools/refuse_memory.c does it; a program of several threads can't be
+forked so, and the part THREADED is run anew for each request.
+
 Each public call of docs/API.md that can answer want of memory has to be refused in a step of its name (tools/refusable.py).
 
 It prints what was wrong, if anything was, how much was refused, and last 'N passed, M failed', of the requests and of the calls that no step was refused in."""
@@ -22,7 +25,7 @@ import sys
 import tempfile
 
 import refusable
-from refusals import Refuser
+from refusals import Refuser, read
 from unproved import build
 
 SECONDS = 60
@@ -37,14 +40,11 @@ BATCH = 32
 
 
 class Run:
-    """A run of one part in which so many requests in a row were refused from one on."""
+    """What a run of one part printed and told, how it ended, and how many requests it met."""
 
-    def __init__(self, refuser, program, part, number, count=1):
-        environment = {**refuser.environment(number), "REFUSED_COUNT": str(count), "REQUESTS_FILE": f"{refuser.folder}/{number}{part}"}
-        it = subprocess.run([program], input=part, capture_output=True, text=True, errors="replace", env=environment, timeout=SECONDS, check=False)
-        self.status, self.printed, self.told = it.returncode, it.stdout, it.stderr.splitlines()
+    def __init__(self, status, printed, told, met):
+        self.status, self.printed, self.told, self.met = status, printed, told.splitlines(), met
         self.refused = [line.removeprefix("refused ") for line in self.told if line.startswith("refused ")]
-        self.met = refuser.met(f"{number}{part}")
 
 
 def fault_of(whole, run):
@@ -73,21 +73,56 @@ class Part:
         self.whole = self.run(0)
 
     def run(self, number, count=1):
-        return Run(self.refuser, self.program, self.letter, number, count)
+        """A run in which so many requests in a row are refused from one on, none where its number is 0."""
+        file = f"{number}{self.letter}"
+        environment = {**self.refuser.environment(number), "REFUSED_COUNT": str(count), "REQUESTS_FILE": f"{self.refuser.folder}/{file}"}
+        words = {"input": self.letter, "capture_output": True, "text": True, "errors": "replace"}
+        it = subprocess.run([self.program], env=environment, timeout=SECONDS, check=False, **words)
+        return Run(it.returncode, it.stdout, it.stderr, self.refuser.met(file))
 
-    def judge(self, number):
-        """Whether a run met a request, the step in which this was refused, whether something made up for it, and what was wrong, if anything was."""
-        run = self.run(number)
-        if run.met < number:
-            return False, None, False, None
+    def runs(self, pool):
+        """A run for each request, in which that one is refused."""
+        if self.letter != THREADED:
+            return self.forked()
+        found, number = [], 1
+        while True:
+            for run in pool.map(self.run, range(number, number + BATCH)):
+                if run.met <= len(found):
+                    return found
+                found.append(run)
+            number += BATCH
+
+    def forked(self):
+        """The same, where one run does for all: of each request a child of it is refused."""
+        folder = f"{self.refuser.folder}/{self.letter}"
+        os.mkdir(folder)
+        lanes = len(os.sched_getaffinity(0))
+        environment = {**self.refuser.environment(0), "REFUSE_EACH": folder, "REFUSED_AT_ONCE": str(lanes), "REQUESTS_FILE": f"{folder}/met"}
+        with open(f"{folder}/given", "w+", encoding="utf-8") as given, open(f"{folder}/printed", "w", encoding="utf-8") as printed:
+            given.write(self.letter)
+            given.seek(0)
+            it = subprocess.run([self.program], stdin=given, stdout=printed, env=environment, timeout=SECONDS * BATCH, check=False)
+        ends = {int(line.split()[0]): [int(word) for word in line.split()[1:]] for line in read(f"{folder}/ends").splitlines()}
+        whole = read(f"{folder}/printed")
+        if it.returncode != 0 or whole != self.whole.printed or sorted(ends) != list(range(1, self.whole.met + 1)):
+            raise SystemExit(f"part {self.letter} ends with status {it.returncode}, and {len(ends)} of its {self.whole.met} requests were refused")
+        return [self.child(folder, whole, number, *ends[number]) for number in sorted(ends)]
+
+    def child(self, folder, whole, number, status, met, written):
+        """The run that a child ended."""
+        printed = whole.encode()[:written].decode(errors="replace") + read(f"{folder}/{number}.out")
+        return Run(os.waitstatus_to_exitcode(status), printed, read(f"{folder}/{number}.err"), met)
+
+    def judge(self, number, run):
+        """The step in which a request was refused, whether something made up for it, and what was wrong, if anything was."""
         is_silent = run.status == 0 and not run.told and run.printed == self.whole.printed
         if is_silent and self.letter == THREADED:
-            return True, None, True, None
+            return None, True, None
         is_absorbed = is_silent and run.met > self.whole.met
         if is_absorbed:
             run = self.run(number, 2)
         fault = fault_of(self.whole, run)
-        return True, (run.refused or [None])[0], is_absorbed, fault and f"part {self.letter}, request {number}: {fault}"
+        return (run.refused or [None])[0], is_absorbed, fault and f"part {self.letter}, request {number}: {fault}"
 
 
 class Found:
@@ -102,17 +137,13 @@ class Found:
         if part.whole.told or part.whole.status != 0:
             self.wrong.append(f"part {part.letter}, without a refusal: {part.whole.told[:4]}, status {part.whole.status}")
             return
-        number = 1
-        while True:
-            for is_met, step, is_absorbed, fault in pool.map(part.judge, range(number, number + BATCH)):
-                if not is_met:
-                    return
-                self.passed += fault is None
-                self.absorbed += is_absorbed and part.letter != THREADED
-                self.unthreaded += is_absorbed and part.letter == THREADED
-                self.steps |= {step} - {None}
-                self.wrong += [fault] if fault else []
-            number += BATCH
+        runs = part.runs(pool)
+        for step, is_absorbed, fault in pool.map(part.judge, range(1, len(runs) + 1), runs):
+            self.passed += fault is None
+            self.absorbed += is_absorbed and part.letter != THREADED
+            self.unthreaded += is_absorbed and part.letter == THREADED
+            self.steps |= {step} - {None}
+            self.wrong += [fault] if fault else []
 
 
 def tried(refuser, program, letters=string.ascii_lowercase):

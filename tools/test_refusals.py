@@ -5,6 +5,7 @@
 import os
 import re
 import shutil
+import subprocess
 import tempfile
 import types
 import unittest
@@ -12,7 +13,7 @@ from unittest import mock
 
 from refusals import LINES, REFUSED, Refuser, disagreement, read, wrong_talk
 from refusable import TAKES_NONE, calls, made_by, missing, steps_in_sources
-from refused_steps import Found, Part, fault_of
+from refused_steps import THREADED, Found, Part, fault_of
 from refused_tests import Test
 import unproved
 
@@ -130,28 +131,53 @@ class StepsAreJudged(unittest.TestCase):
         self.assertIn("in place of 'nothing'", fault_of(self.whole, run(printed="one\ntwo\nthree\n")))
 
 
+# a program of steps with this many requests, of which some do something else
+STEPS = """#!/usr/bin/env python3
+import os, sys
+others, requests, lost, part = {others}, {requests}, {lost}, sys.stdin.read()
+
+def write(path, text):
+    with open(path, "a") as it:
+        it.write(text)
+
+def tell(at, count):
+    return others.get((at, count), ("refused a step", requests))
+
+print("a step: | 1", flush=True)
+folder, at = os.environ.get("REFUSE_EACH"), int(os.environ["REFUSED_REQUEST"])
+for n in range(1, requests + 1) if folder else []:
+    write(folder + "/" + str(n) + ".out", "the end\\n")
+    write(folder + "/" + str(n) + ".err", tell(n, 1)[0])
+    if n != lost:
+        write(folder + "/ends", " ".join([str(n), "0", str(tell(n, 1)[1]), str(len("a step: | 1\\n"))]) + "\\n")
+told, met = tell(at, int(os.environ.get("REFUSED_COUNT", "0"))) if at else ("", requests)
+with open(os.environ["REQUESTS_FILE"], "wb") as it:
+    it.write((requests if at > requests else met).to_bytes(8, sys.byteorder))
+print("the end")
+print(told if at <= requests else "", end="", file=sys.stderr)
+"""
+
+
 class PartsAreTried(unittest.TestCase):
     """Parts over a stand-in for the program of steps, of which some requests do something else."""
 
-    def tried(self, others="{}", requests=5):
-        """What is told of a part, where `others` has for a request, and a count in a row, what is told and how many requests are met."""
+    def tried(self, others="{}", requests=5, part="a", lost=0):
+        """What is told of a part, where `others` has for a request, and a count in a row, what is told and how many requests are met; the end of one request may be lost."""
         folder = tempfile.mkdtemp(prefix="test-steps-")
         self.addCleanup(shutil.rmtree, folder)
         with open(f"{folder}/steps", "w", encoding="utf-8") as it:
-            it.write("#!/usr/bin/env python3\nimport os, sys\nat, count = int(os.environ['REFUSED_REQUEST']), int(os.environ['REFUSED_COUNT'])\n"
-                     f"told, met = {others}.get((at, count), ('refused a step', {requests}))\n"
-                     "with open(os.environ['REQUESTS_FILE'], 'wb') as it:\n    it.write(met.to_bytes(8, sys.byteorder))\n"
-                     "print('a step: | 1', file=sys.stdout)\nprint(told if at else '', end='', file=sys.stderr)\n")
+            it.write(STEPS.format(others=others, requests=requests, lost=lost))
         os.chmod(it.name, 0o700)
         refuser = Refuser.__new__(Refuser)
         refuser.folder, refuser.library = folder, ""
         found = Found()
-        found.take(Part(refuser, it.name, "a"), types.SimpleNamespace(map=map))
+        found.take(Part(refuser, it.name, part), types.SimpleNamespace(map=map))
         return found
 
     def test_each_request_of_a_step_counts(self):
-        found = self.tried()
-        self.assertEqual((found.passed, found.absorbed, found.steps, found.wrong, found.given), (5, 0, {"a step"}, [], 1))
+        for part in "a", THREADED:
+            found = self.tried(part=part)
+            self.assertEqual((found.passed, found.absorbed, found.steps, found.wrong, found.given), (5, 0, {"a step"}, [], 1))
 
     def test_a_request_that_a_smaller_one_makes_up_for_is_refused_with_that(self):
         found = self.tried("{(2, 1): ('', 6)}")
@@ -163,10 +189,55 @@ class PartsAreTried(unittest.TestCase):
         found = self.tried("{(2, 1): ('', 5)}")
         self.assertEqual((found.passed, found.absorbed, len(found.wrong)), (4, 0, 1))
 
+    def test_a_request_that_no_child_was_refused_is_told(self):
+        with self.assertRaises(SystemExit) as refusal:
+            self.tried(lost=3)
+        self.assertIn("4 of its 5 requests were refused", str(refusal.exception))
+
     def test_a_part_that_is_wrong_by_itself_is_told(self):
         found = Found()
         found.take(types.SimpleNamespace(letter="a", whole=run((), ["failed a step"])), None)
         self.assertIn("part a, without a refusal", found.wrong[0])
+
+
+CHILDREN = """
+#include <stdio.h>
+#include <stdlib.h>
+#include <string.h>
+#include <unistd.h>
+static void say(int to, const char *text) { if (write(to, text, strlen(text)) < 0) _exit(3); }
+static void *volatile kept;
+int main(void)
+{
+    char word[2] = "";
+    if (read(0, word, 1) != 1) _exit(4);
+    for (int n = 1; n < 4; n++) {
+        char line[32];
+        kept = malloc(16 + n);
+        snprintf(line, sizeof line, kept ? "%s %d\\n" : "%s %d is lost\\n", word, n);
+        say(1, line);
+        if (!kept) say(2, "refused\\n");
+    }
+    _exit(0);
+}
+"""
+
+
+class RequestsAreRefusedInChildren(unittest.TestCase):
+    """tools/refuse_memory.c, over a program in C that asks three times for memory and ends by `_exit`."""
+
+    def test_each_request_has_a_child_that_goes_on_from_there(self):
+        folder = tempfile.mkdtemp(prefix="test-children-")
+        self.addCleanup(shutil.rmtree, folder)
+        refuser = Refuser(folder)
+        with open(f"{folder}/program.c", "w", encoding="utf-8") as it:
+            it.write(CHILDREN)
+        subprocess.run([refuser.compiler, "-O0", "-o", f"{folder}/program", it.name], check=True)
+        part = Part(refuser, f"{folder}/program", "a")
+        self.assertEqual((part.whole.printed, part.whole.met), ("a 1\na 2\na 3\n", 3))
+        runs = part.forked()
+        self.assertEqual([it.printed for it in runs], [part.whole.printed.replace(f"a {n}\n", f"a {n} is lost\n") for n in (1, 2, 3)])
+        self.assertEqual([(it.status, it.told, it.met) for it in runs], [(0, ["refused"], 3)] * 3)
 
 
 class ProgramsAreBuilt(unittest.TestCase):
