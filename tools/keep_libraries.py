@@ -8,9 +8,9 @@
 would prove all of them again: more than an hour of a processor. This writes the stamps, as the kit itself makes them.
 
 A stamp is the sum of all that a library is built from: the kit, its own files, and those of the libraries below it. What stands without a stamp before `rt ci`
-may be built of other sources, and `rt ci` would put it back: --begin removes it, and records each library's sum and the time. Afterwards
-a library gets its stamp only where its sum is the recorded one, all of its files are younger than the record, and so it is of each library below it: where a run kept one that
-was proved before, that one is built again, and what stands on it would stand on another. Whatever else is found, and where the kit has another form, no stamp is written, and the library is built again.
+may be built of other sources, and `rt ci` would put it back: --begin removes it, and records each library's sum and the time. So what stands there afterwards `rt ci` built, or took from what it
+keeps of its own runs by the sums of all that they read: a library gets its stamp where its sum is the recorded one, all of its files were put there since, and so it is of each library below it.
+Whatever else is found, and where the kit has another form, no stamp is written, and the library is built again.
 
 Run at the top of the repository."""
 import glob
@@ -39,8 +39,16 @@ def stamps():
 
 
 def oldest(folder):
-    """When the oldest file below a folder was written."""
-    return min((os.stat(f"{at}/{it}").st_mtime_ns for at, _, names in os.walk(folder) for it in names), default=0)
+    """When the first file below a folder was put there, whenever it was written."""
+    return min((os.stat(f"{at}/{it}").st_ctime_ns for at, _, names in os.walk(folder) for it in names), default=0)
+
+
+def stamp_of(folder):
+    """The stamp of a library, if it has one."""
+    if not os.path.exists(f"{folder}/stamp"):
+        return None
+    with open(f"{folder}/stamp", encoding="utf-8") as it:
+        return it.read()
 
 
 def below():
@@ -73,17 +81,17 @@ def end():
     sums, uses, stands = stamps(), below(), {}
 
     def is_built(name):
-        """Whether a library was built in this run of these sources, or has a stamp, and so has each that it stands on."""
+        """Whether a library was put there by this run for these sources, or has their stamp, and so it is of each that it stands on."""
         if name not in stands:
             folder = f"crates/{name}/out/rlib"
             there = os.path.isdir(f"{folder}/{name}.rlib") and all(is_built(it) for it in uses.get(name, []))
             built = record["stamps"].get(name) == sums.get(name) and oldest(folder) >= record["time"]
-            stands[name] = there and (os.path.exists(f"{folder}/stamp") or built)
+            stands[name] = there and (stamp_of(folder) == sums.get(name) or stamp_of(folder) is None and built)
         return stands[name]
 
     for name, stamp in sums.items():
         folder = f"crates/{name}/out/rlib"
-        if not os.path.isdir(f"{folder}/{name}.rlib") or os.path.exists(f"{folder}/stamp"):
+        if not os.path.isdir(f"{folder}/{name}.rlib") or stamp_of(folder) is not None:
             continue
         if not is_built(name):
             print(f"library {name}: not built of these sources in this run: it is built again for the wrong bodies", flush=True)

@@ -4,6 +4,7 @@
     python3 tools/test_tools.py
 
 Run at the top of the repository; it takes seconds, and ends with status 1 if a test fails."""
+import json
 import os
 import shutil
 import stat
@@ -587,13 +588,21 @@ class KeptLibraries(Tree):
         self.keep()
         self.assertTrue(self.is_stamped("high"))
 
-    def test_what_stands_on_what_is_older(self):
+    def test_what_stands_on_what_has_the_stamp_of_other_sources(self):
         self.keep("--begin")
         self.build()
+        self.write("crates/low/out/rlib/stamp", "other sources")
         self.build("high")
-        os.utime(f"{self.top}/crates/low/out/rlib/low.rlib/format", (0, 0))
         self.keep()
         self.assertFalse(self.is_stamped("high"))
+
+    def test_what_was_kept_of_an_earlier_run_and_put_there(self):
+        self.keep("--begin")
+        for name in "low", "high":
+            self.build(name)
+            os.utime(f"{self.top}/crates/{name}/out/rlib/{name}.rlib/format", (0, 0))
+        self.keep()
+        self.assertTrue(self.is_stamped("low") and self.is_stamped("high"))
 
     def test_what_was_built_of_these_sources(self):
         self.keep("--begin")
@@ -611,7 +620,11 @@ class KeptLibraries(Tree):
     def test_what_is_older_than_the_run(self):
         self.keep("--begin")
         self.build()
-        os.utime(f"{self.top}/crates/low/out/rlib/low.rlib/format", (0, 0))
+        record = f"{self.top}/.git/libraries-begun.json"
+        with open(record, encoding="utf-8") as it:
+            begun = json.load(it)
+        with open(record, "w", encoding="utf-8") as it:
+            json.dump({**begun, "time": begun["time"] + 10**12}, it)
         self.keep()
         self.assertFalse(self.is_stamped())
 
