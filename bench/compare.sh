@@ -4,7 +4,7 @@
 # workload the least time of both, their ratio and whether the checksums agree, as a table.
 # A workload of this repository that does one of the others' in another way is named by that one's name, a plus sign and the way.
 # usage: bench/compare.sh [N=100000] [ITERATIONS=15] [ROUNDS=5] [NAME-PREFIX..]
-# Both are kept to one processor, or to two, where the prefix of a line j_ ends in _t1 or _t2.
+# Both are kept to one processor, but to two or to all for a prefix of a line j_ that ends in _t2 or _t4, and for births by threads.
 # SPECS_BASELINE names the folder with the Rust sources and their assemble.sh; BASELINE_BUILD the folder to build them in;
 # BENCH_ROOM the one where bench/prove.sh proves and builds this repository's.
 set -euo pipefail
@@ -17,7 +17,7 @@ baseline=$(cd "$here" && cd "${SPECS_BASELINE:-../shared/baseline}" 2>/dev/null 
 build=${BASELINE_BUILD:-${TMPDIR:-/tmp}/specs-baseline-$(id -u)}
 count=${1:-100000} iterations=${2:-15} rounds=${3:-5}
 prefixes=("${@:4}")
-[ ${#prefixes[@]} -gt 0 ] || prefixes=(i_ l_atomic_create l_atomic_maintain a_ g_ m_ z_ k_ e_ f_ b_ c_ h_ n_ o_ p_ j_par_heavy_t1 j_par_heavy_t2 j_par_heavy_t4)
+[ ${#prefixes[@]} -gt 0 ] || prefixes=(i_ l_atomic_create l_atomic_maintain a_ g_ m_ z_ k_ e_ f_ b_ c_ d_ h_ n_ o_ p_ j_par_heavy_t1 j_par_heavy_t2 j_par_heavy_t4)
 rust=$build/target/release/bench
 twin=$build/twin
 room=${BENCH_ROOM:-${TMPDIR:-/tmp}/specs-bench-$(id -u)}
@@ -29,8 +29,9 @@ bash "$here/bench/prove.sh" "$room" >/dev/null 2>&1 || { echo "bench/compare.sh:
 # The command that keeps a program to the processors that a prefix names.
 kept_to() {
   case $1 in
-    j_*_t1) echo taskset -c 0 ;;
+    j_*_t4 | l_atomic_create) ;;
     j_*_t2) echo taskset -c 0,1 ;;
+    *) echo taskset -c 0 ;;
   esac
 }
 results=$(mktemp -d)

@@ -153,7 +153,7 @@ def exported(crate, items):
                 others.append(f"{path}::{name}")
                 continue
             near = [item for (module, at), item in items.items() if at == name and (module == path or module.startswith(path + "::"))]
-            own += near[:1]
+            own += near[:1] or [item for (module, _), item in items.items() if module == f"{path}::{name}"]
     return own, others
 
 

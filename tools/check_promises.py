@@ -25,9 +25,9 @@ STATUSES = ("proved", "tested", "not promised", "by the check that every functio
 def found_functions(where):
     """The public functions of a path."""
     crate, *owner, name = where.split("::")
-    module = owner.pop() if owner and owner[-1].islower() else "**/*"
+    module = owner.pop() if owner and owner[-1].islower() else "*"
     here = []
-    for path in sorted(glob.glob(f"crates/{crate}/src/{module}.rt", recursive=True)):
+    for path in sorted(glob.glob(f"crates/{crate}/src/**/{module}.rt", recursive=True)):
         for f in in_file(path):
             names = [it.removeprefix("trait ") for it in f.owners]
             # a program has no public function

@@ -1,6 +1,6 @@
 #!/usr/bin/env bash
 # Whether each crate's sources, definitions and proofs are in the layout of `rt fmt`: `rt ci` asks for it too, but only once it comes to the crate, which may be after half an hour.
-# It formats a copy, and names the files that differ. Of the benchmark and of refusals/, which `rt ci` does not see, too. Run at the top of the repository.
+# It formats a copy, and names the files that differ. Of the benchmark, of refusals/ and of tools/script/, which `rt ci` does not see, too. Run at the top of the repository.
 set -euo pipefail
 
 laid=$(mktemp -d)
@@ -27,15 +27,18 @@ diff -rq "$laid/bench" "$laid/room/crates/bench" || {
   echo "the benchmark: bench/room.sh ROOM, and bench/room.sh --back ROOM, which lays it out"
   exit 1
 }
-mkdir -p "$laid/crates/refusals/src"
-echo "refusals: $(cat refusals/uses)" >>"$laid/crates.txt"
-for source in refusals/src/*.rt.src; do
-  name=${source##*/}
-  cp "$source" "$laid/crates/refusals/src/${name%.src}"
+for folder in refusals tools/script; do
+  crate=${folder##*/}
+  mkdir -p "$laid/crates/$crate/src"
+  echo "$crate: $(cat "$folder/uses")" >>"$laid/crates.txt"
+  for source in "$folder"/src/*.rt.src; do
+    name=${source##*/}
+    cp "$source" "$laid/crates/$crate/src/${name%.src}"
+  done
+  cp -r "$laid/crates/$crate/src" "$laid/as-$crate"
+  (cd "$laid/crates/$crate" && rt fmt >/dev/null)
+  diff -rq "$laid/as-$crate" "$laid/crates/$crate/src" || {
+    echo "$folder: its lines are not as rt fmt lays them out"
+    exit 1
+  }
 done
-cp -r "$laid/crates/refusals/src" "$laid/steps"
-(cd "$laid/crates/refusals" && rt fmt >/dev/null)
-diff -rq "$laid/steps" "$laid/crates/refusals/src" || {
-  echo "refusals: their lines are not as rt fmt lays them out"
-  exit 1
-}

@@ -5,6 +5,7 @@
 
 Run at the top of the repository; it takes seconds, and ends with status 1 if a test fails."""
 import os
+import subprocess
 import unittest
 
 from test_tools import SOURCE, Tree
@@ -134,6 +135,38 @@ class Benchmark(Tree):
     def test_a_comparison_whose_checksums_differ(self):
         ran = self.compared("a_) printf 'a_one\\t1.000\\t02\\n' ;;\np_) printf 'p_index\\t1.000\\t06\\n' ;;\n")
         self.assertEqual(ran.stdout.count("DIFFER"), 2, ran.stdout)
+
+    PAGE = ("| Taken | Day | Machine | Runs |\n|---|---|---|---|\n| A | 2026-11-22 | one | best of 8 |\n| B | 2026-11-23 | two | best of 4 |\n\n## Worlds\n\n"
+            "| Workload | What one operation is | Rust, ns | Here, ns | Ratio | At 10,000 | Goal | Taken |\n|---|---|---|---|---|---|---|---|\n"
+            "| a_one | a birth | 1.00 | 9.00 | 9.00 | 9.00 | 0.5 | A |\n| b_two | a join | 3.00 | 1.50 | 0.50 | 0.40 | 0.5 | B |\n")
+
+    def table(self, few="| a_one | 2.000 | 3.000 | 1.50 | equal |\n", many="| a_one | 1234.500 | 12.340 | 0.01 | equal |\n"):
+        """Puts what two comparisons printed into a page."""
+        self.take("bench/table.py")
+        self.write("docs/BENCHMARKS.md", self.PAGE)
+        self.write("tools/chart.py", "open('made', 'w')\n")
+        self.write("taken/100000", many)
+        self.write("taken/10000", few)
+        for git in (["init", "-q"], ["add", "-A"], ["-c", "user.name=a", "-c", "user.email=a@b", "commit", "-qm", "all"]):
+            subprocess.run(["git", *git], cwd=self.top, check=True)
+        return self.run_in("python3", "bench/table.py", "--from", "taken", "3")
+
+    def test_figures_that_are_taken_anew(self):
+        self.accepts(self.table())
+        page = self.text("docs/BENCHMARKS.md").split("\n")
+        self.assertIn("| a_one | a birth | 1,234 | 12.3 | 0.01 | 1.50 | 0.5 | C |", page)
+        self.assertIn("| b_two | a join | 3.00 | 1.50 | 0.50 | 0.40 | 0.5 | B |", page)
+        taken = [it for it in page if it.startswith(("| A | ", "| B | ", "| C | "))]
+        self.assertEqual(len(taken), 2, taken)
+        self.assertRegex(taken[1], r"^\| C \| \d{4}-\d\d-\d\d \| .*commit \w+, nothing else running \| best of 3 rounds of 15 with 100,000 and 40 with 10,000 \|$")
+        self.assertTrue(os.path.exists(f"{self.top}/made"))
+
+    def test_figures_without_a_row(self):
+        self.refuses(self.table(many="| a_one | 4.000 | 1.000 | 0.25 | equal |\n| c_three | 4.000 | 1.000 | 0.25 | equal |\n"), "has no row for c_three")
+
+    def test_figures_of_other_work(self):
+        self.refuses(self.table(few="| a_one | 4.000 | 1.000 | 0.25 | DIFFER |\n"), "the checksums of a_one differ")
+        self.refuses(self.table(few=""), "nothing was compared")
 
     def test_another_folder(self):
         self.write("room/letter", "")

@@ -340,6 +340,35 @@ class WrongBodies(Tree):
         self.write("crates/low/right/sum.edit", RIGHT.replace("two", "three"))
         self.refuses(self.tried(), "three is no wrong body of its function")
 
+    def within(self, *words, said=OPEN):
+        """Runs those that a promise names, `three`, and the others, `two`, as the gate does."""
+        self.take("tools/check_promises.py", "tools/contracts.py")
+        self.write("docs/PROMISES.md", "| Promise | Function | Clause | Status | Wrong body |\n|---|---|---|---|---|\n| It is one | `low::one` | - | proved | `low/three` |\n")
+        self.write("crates/low/wrong/three.edit", WRONG.replace("not one", "no one"))
+        self.says("wrong", said)
+        for git in (["init", "-q"], ["add", "-A"], ["-c", "user.name=a", "-c", "user.email=a@b", "commit", "-qm", "all"]):
+            subprocess.run(["git", *git], cwd=self.top, check=True)
+        return self.tried("--within", *words)
+
+    def test_all_within_the_time(self):
+        ran = self.within("600")
+        self.accepts(ran)
+        self.assertIn("2 passed, 0 failed", ran.stdout)
+        self.assertNotIn("were not tried", ran.stdout)
+
+    def test_what_no_promise_names_where_time_is_over(self):
+        ran = self.within("0")
+        self.accepts(ran)
+        self.assertIn("1 of 2 wrong bodies and right variants were not tried, for want of time: low/two", ran.stdout)
+        self.assertIn("wrong body low/three: refused", ran.stdout)
+        self.assertIn("1 passed, 0 failed", ran.stdout)
+
+    def test_what_a_promise_names_where_time_is_over(self):
+        self.refuses(self.within("0", said="fn low::one: proved"), "three: NOT REFUSED")
+
+    def test_a_time_that_is_none(self):
+        self.refuses(self.within("low"), "Tries the wrong bodies")
+
     def test_no_wrong_body(self):
         os.remove(f"{self.top}/crates/low/wrong/two.edit")
         self.refuses(self.tried(), "there is no wrong body")
@@ -513,7 +542,7 @@ class Program(Tree):
 
     def setUp(self):
         super().setUp()
-        self.take("specs-run")
+        self.take("specs-run", "tools/sources.sh")
         self.write("crates.txt", "low: thiserror\nspecs_run_main: low\n")
         self.write("crates/low/src/lib.rt", "fn low() {}\n")
         self.write("crates/low/src/more.rt", "fn more() {}\n")
@@ -549,6 +578,58 @@ class Program(Tree):
     def test_a_build_that_fails(self):
         self.write("bin/rt", "#!/bin/sh\nexit 1\n", runs=True)
         self.refuses(self.run_in("./specs-run"), "was not built")
+
+
+class Tried(Tree):
+    """specs-try, over a stand-in for tools/unproved.py that makes a program which prints its script, and ends with the status that this begins with."""
+
+    BUILDS = """import os, sys
+with open("builds", "a") as it:
+    it.write("built\\n")
+with open(sys.argv[1], "w") as it:
+    it.write("#!/bin/sh\\nread status\\ncat\\nexit $status\\n")
+os.chmod(sys.argv[1], 0o700)
+"""
+
+    def setUp(self):
+        super().setUp()
+        self.take("specs-try", "tools/sources.sh")
+        self.write("crates.txt", "specs_run_main:\n")
+        self.write("crates/specs_run_main/src/main.rt", "fn main() {}\n")
+        self.write("tools/script/uses", "specs_run\n")
+        self.write("tools/script/src/main.rt.src", "fn main() {}\n")
+        self.write("tools/unproved.py", self.BUILDS)
+        self.write("bin/rt", "#!/bin/sh\n", runs=True)
+        self.write("one.script", "0\ncreate\n")
+        self.write("two.script", "2\nbirth\n")
+
+    def builds(self):
+        with open(f"{self.top}/builds", encoding="utf-8") as it:
+            return len(it.readlines())
+
+    def test_it_runs_each_script_and_tells_the_status(self):
+        ran = self.run_in("./specs-try", "one.script")
+        self.accepts(ran)
+        self.assertIn("== one.script\ncreate\n", ran.stdout)
+        ran = self.run_in("./specs-try", "one.script", "two.script", "one.script")
+        self.assertEqual(ran.returncode, 2)
+        self.assertIn("== one.script\ncreate\n== two.script\nbirth\n", ran.stdout)
+        self.assertTrue(ran.stdout.endswith("== one.script\ncreate\n"), ran.stdout)
+
+    def test_it_builds_after_a_change_alone(self):
+        for _ in range(2):
+            self.accepts(self.run_in("./specs-try", "one.script"))
+        self.assertEqual(self.builds(), 1)
+        self.write("crates/specs_run_main/src/main.rt", "fn main() { other() }\n")
+        self.accepts(self.run_in("./specs-try", "one.script"))
+        self.write("tools/script/src/main.rt.src", "fn main() { other() }\n")
+        self.accepts(self.run_in("./specs-try", "one.script"))
+        self.assertEqual(self.builds(), 3)
+
+    def test_a_build_that_fails_is_no_program(self):
+        self.write("tools/unproved.py", "import sys\nsys.exit('it is not built')\n")
+        for _ in range(2):
+            self.refuses(self.run_in("./specs-try", "one.script"), "it is not built")
 
 
 KIT = """import hashlib, os

@@ -1,8 +1,11 @@
-"""Programs that are built without a proof, to be run by themselves: `rt try` runs what it makes, and keeps nothing of it."""
+"""Programs that are built without a proof, to be run by themselves: `rt try` runs what it makes, and keeps nothing of it.
+
+    python3 tools/unproved.py TO FOLDER NAME      makes the program of FOLDER/src, over the libraries that FOLDER/uses names, which is given its word"""
 import os
 import re
 import shutil
 import subprocess
+import sys
 import tempfile
 
 from rooms import TOP, make_room
@@ -11,10 +14,10 @@ from rooms import TOP, make_room
 ENDED = re.compile(r"^run=ended status=0 .*proved=no\n\Z", re.M)
 
 
-def build(to, folder, name):
+def build(to, folder, name, by_word=False):
     """Makes the program of the sources in a folder of the repository, as a file, or says why there is none.
 
-    The program is one that writes itself to the file that its standard input names. It is built with checks, and brings an allocator of its own."""
+    The program is one that writes itself to the file that its standard input names, or its first word. It is built with checks, and brings an allocator of its own."""
     if os.path.exists(to):
         os.remove(to)
     with open(f"{TOP}/{folder}/uses", encoding="utf-8") as it:
@@ -23,7 +26,8 @@ def build(to, folder, name):
     room = tempfile.mkdtemp(prefix="unproved-")
     try:
         crate = make_room(room, name, uses, sources)
-        it = subprocess.run(["rt", "try", "--steps", "1"], cwd=crate, input=to, capture_output=True, text=True, errors="replace", check=False)
+        words, told = (["--", to], "") if by_word else ([], to)
+        it = subprocess.run(["rt", "try", "--steps", "1", *words], cwd=crate, input=told, capture_output=True, text=True, errors="replace", check=False)
     finally:
         shutil.rmtree(room)
     if it.returncode != 0 or not ENDED.search(it.stderr) or it.stdout:
@@ -35,3 +39,7 @@ def build(to, folder, name):
             raise SystemExit(f"{name} is not built: what wrote itself is no program")
     os.chmod(to, 0o700)
     return to
+
+
+if __name__ == "__main__":
+    build(os.path.abspath(sys.argv[1]), sys.argv[2], sys.argv[3], by_word=True)

@@ -2,7 +2,7 @@
 """Tries the wrong bodies crates/NAME/wrong/*.edit and the right ones crates/NAME/right/*.edit, several in a check: the prover must refuse each wrong one
 for the clauses that it breaks, and accept each right one by the same means.
 
-    python3 tools/wrong_bodies.py [--anew | --alone | --explain | --list] [NAME..]      NAME: a crate, or a crate and an edit, as hibits or hibits/add_of_a_neighbour
+    python3 tools/wrong_bodies.py [--anew | --alone | --explain | --list | --within SECONDS] [NAME..]      NAME: a crate, or a crate and an edit, as hibits or hibits/add_of_a_neighbour
 
 An edit has the lines of a must-fail edit ('file: src/FILE', 'old: TEXT', 'new: TEXT', each TEXT once in the file), a comment ('# TEXT') that says why
 it breaks what it names, and 'fn: PATH', the function that has to be refused, as the check names it without its crate. Then, as often as it is so,
@@ -23,11 +23,14 @@ again. Each edit is judged by itself, and what a check of several did not show i
 
 First the libraries below the edited crates are built in the tree, lowest first, each once: what `rt ci` leaves of them may not serve another check, and each room
 would build them again. There are as many lanes as processors, or RT_JOBS. A lane takes the edits of one crate, of which there are most,
-makes a room for them (a copy of the tree), and makes one check after another there: in two rooms twice as many checks would read the libraries below. What a check proved and the next did not change is kept in the room. The
+makes a room for the crate (a copy of the tree), and makes one check after another there: in two rooms twice as many checks would read the libraries below. What a check proved and the next did not change is kept in the room. The
 verdicts come as they are found.
 
 What an edit showed is kept on this machine, by the checksum of all that decides it: the kit, these scripts, the edit but for its comments, and the files of its crate and
 of those below. So a later run tries what changed, and what stands above it, as `rt ci` proves it; --anew tries all.
+
+With --within, as the gate calls it, those that docs/PROMISES.md names beside a promise come first, with the right variants of their functions, and are tried whatever it takes. Of the others no
+check begins after so many seconds; what is left then is told, and counts neither as passed nor as failed. Which of them come first the last commit decides, so that each has its turn.
 
 Run at the top of the repository; --alone tries each edit alone, --explain only tells which goals each leaves open, for writing its lines 'clause:', and --list
 only reads the edits. It fails where there is no edit, or another file among them."""
@@ -40,11 +43,14 @@ import subprocess
 import sys
 import tempfile
 import threading
+import time
 
 from edits import applied, edits_of
 from verdicts import Said, answers_of, judge, without
 
 MOST = 100
+# where time may run out, so that no check takes long
+MOST_WITHIN = 40
 ROUNDS = 3
 
 
@@ -211,11 +217,13 @@ def next_wave(pending, most):
     return wave
 
 
-def tried(room, edits, most, tell):
-    """Tries edits of one crate, a wave in each check, until each is judged for good. What a wave did not show is tried again alone; a wave of which
-    the check looked at no function, in halves."""
+def tried(room, edits, most, tell, until=None):
+    """Tries edits of one crate, a wave in each check, until each is judged for good, or the time is over, and gives those that are left then. What a wave did not show is tried
+    again alone; a wave of which the check looked at no function, in halves."""
     pending = [Trial(it) for it in edits]
     while pending:
+        if until is not None and time.monotonic() > until:
+            return [it.edit for it in pending]
         wave = next_wave(pending, most)
         pending = [it for it in pending if it not in wave]
         crate, out = wave[0].edit.crate, {it.edit.function: it.out for it in wave if it.out}
@@ -232,25 +240,51 @@ def tried(room, edits, most, tell):
                 tell(it)
             else:
                 tried(room, [it.edit], 1, tell)
+    return []
 
 
 class Work:
-    """The edits that no lane has taken yet, by crate. Those that take longest come first."""
+    """The shares of edits that no lane has taken yet, each of one crate: first those that are tried whatever it takes, and of each kind first what takes longest.
+    A crate has one room, a folder below the given one, in which one lane works at a time."""
 
-    def __init__(self, found):
-        self.shares, self.lock = sorted(found.values(), key=len), threading.Lock()
+    def __init__(self, found, later, below):
+        self.shares = [(crate, edits, may_wait) for part, may_wait in ((later, True), (found, False)) for crate, edits in sorted(part.items(), key=lambda it: len(it[1]))]
+        self.below, self.busy, self.free = below, set(), threading.Condition()
 
     def share(self):
-        with self.lock:
-            return self.shares.pop() if self.shares else None
+        """The next share, as soon as no other lane works in its room; nothing where none is left."""
+        with self.free:
+            while self.shares:
+                for it in reversed(self.shares):
+                    if it[0] not in self.busy:
+                        self.shares.remove(it)
+                        self.busy.add(it[0])
+                        return it
+                self.free.wait()
+        return None
+
+    def end(self, crate):
+        with self.free:
+            self.busy.discard(crate)
+            self.free.notify_all()
+
+    def room(self, crate):
+        top = f"{self.below}/{crate}"
+        if not os.path.isdir(top):
+            room_for(crate, top)
+        return top
 
 
-def lane(work, most, tell):
-    """Tries one share after another, each in a room of its own, until none is left."""
+def lane(work, most, tell, until):
+    """Tries one share after another, until none is left, and gives the edits for which there was no time."""
+    left = []
     while share := work.share():
-        with tempfile.TemporaryDirectory(prefix="wrong-bodies-") as top:
-            room_for(share[0].crate, top)
-            tried(top, share, most, tell)
+        crate, edits, may_wait = share
+        try:
+            left += tried(work.room(crate), edits, most, tell, until if may_wait else None)
+        finally:
+            work.end(crate)
+    return left
 
 
 def read_edits(wanted, explains):
@@ -280,12 +314,44 @@ def not_kept(found, verdicts):
     return rest
 
 
+def named_beside_promises():
+    """The wrong bodies that docs/PROMISES.md names."""
+    import check_promises
+
+    return {cells[-1].removeprefix("through ") for _, (_, *cells, _) in check_promises.rows() if cells}
+
+
+def parted(found):
+    """The edits that are tried whatever it takes, and the others, by crate: first by the last commit, so that each has its turn."""
+    names, first, later = named_beside_promises(), {}, {}
+    commit = subprocess.run(["git", "rev-parse", "HEAD"], stdout=subprocess.PIPE, check=True).stdout
+    for crate, edits in found.items():
+        functions = {it.function for it in edits if it.name in names}
+        parts = [[it for it in edits if (it.function in functions if it.is_right else it.name in names) == chief] for chief in (True, False)]
+        parts[1].sort(key=lambda it: hashlib.sha256(commit + it.name.encode()).digest())
+        for part, into in zip(parts, (first, later)):
+            if part:
+                into[crate] = part
+    return first, later
+
+
+def in_lanes(found, later, most, tell, until):
+    """Tries all edits, in as many lanes as there are processors, and gives those for which there was no time."""
+    lanes = int(os.environ.get("RT_JOBS") or len(os.sched_getaffinity(0)))
+    with tempfile.TemporaryDirectory(prefix="wrong-bodies-") as below, concurrent.futures.ThreadPoolExecutor(lanes) as pool:
+        work = Work(found, later, below)
+        return [it for ran in [pool.submit(lane, work, most, tell, until) for _ in range(lanes)] for it in ran.result()]
+
+
 def main(words):
+    begun = time.monotonic()
     how = next((it for it in words if it.startswith("--")), "")
-    if how not in ("", "--anew", "--alone", "--explain", "--list"):
+    names = [it for it in words if not it.startswith("--")]
+    if how not in ("", "--anew", "--alone", "--explain", "--list", "--within") or how == "--within" and not (names and names[0].isdigit()):
         print(__doc__)
         return 2
-    found = read_edits([it for it in words if not it.startswith("--")], how == "--explain")
+    until = begun + int(names.pop(0)) if how == "--within" else None
+    found = read_edits(names, how == "--explain")
     if found is None:
         return 1
     if how == "--list":
@@ -303,14 +369,14 @@ def main(words):
         if well and how != "--explain":
             keep(trial.edit, text)
 
-    if how == "":
+    if how in ("", "--within"):
         found = not_kept(found, verdicts)
     build_below(found)
-    lanes = int(os.environ.get("RT_JOBS") or len(os.sched_getaffinity(0)))
-    work, most = Work(found), 1 if how == "--alone" else MOST
-    with concurrent.futures.ThreadPoolExecutor(lanes) as pool:
-        for it in [pool.submit(lane, work, most, tell) for _ in range(lanes)]:
-            it.result()
+    found, later = parted(found) if how == "--within" else (found, {})
+    left = in_lanes(found, later, 1 if how == "--alone" else MOST if until is None else MOST_WITHIN, tell, until)
+    if left:
+        print(f"{len(left)} of {len(left) + len(verdicts)} wrong bodies and right variants were not tried, for want of time: {', '.join(sorted(it.name for it in left))}")
+        print("python3 tools/wrong_bodies.py tries all")
     passed = sum(verdicts)
     print(f"{passed} passed, {len(verdicts) - passed} failed")
     return 0 if passed == len(verdicts) else 1

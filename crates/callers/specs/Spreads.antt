@@ -6,18 +6,19 @@ use Rattle.entities.specs.Population.{born}
 use Rattle.specs.specs.declared.command.Command.TheVariants.{Insert}
 use Rattle.specs.specs.declared.command.Reply.TheVariants.{Value}
 use Rattle.specs.specs.declared.job.Job.{Job}
-use Rattle.specs.specs.Evolving.{Evolves, ValuesLive}
-use Rattle.specs.specs.Following.{IsFollowed, IsListening, Advances, JobSpares, AllSpare, Spared, Tells}
-use Rattle.specs.specs.Lawful.{still_grows, still_lives, still_tells, born_lives, inserted_tells}
-use Rattle.specs.specs.Clones.{no_clones}
-use Rattle.specs.specs.Living.{keeps_step}
-use Rattle.specs.specs.People.{Births}
-use Rattle.specs.specs.Reached.{OnlyLiving}
-use Rattle.specs.specs.State.{State, OnPeople, OnTable}
-use Rattle.specs.specs.Table.{Table, Inserts}
+use Rattle.specs.specs.Laws.Evolving.{Evolves, ValuesLive}
+use Rattle.specs.specs.Reading.Following.{IsFollowed, IsListening, Advances, JobSpares, AllSpare, Spared, Tells}
+use Rattle.specs.specs.Laws.Lawful.{still_grows, still_lives, still_tells, born_lives, inserted_tells}
+use Rattle.specs.specs.Slots.Clones.{no_clones}
+use Rattle.specs.specs.Laws.Living.{keeps_step}
+use Rattle.specs.specs.World.People.{Births}
+use Rattle.specs.specs.Laws.Reached.{OnlyLiving}
+use Rattle.specs.specs.World.State.{State, OnPeople, OnTable}
+use Rattle.specs.specs.Slots.Table.{Table, Inserts}
 
 -- a job that changed nothing, and queued one that spares the reader
-pub still_after : {S J K V : Type 0} (spares : J → K → ℕ → Type 0) (slot : K) (n : ℕ) (old new : State K V) (more : List (Job S J K V)) → new ≡ old → (job : Job S J K V) → JobSpares spares slot n job → more ≡ job ∷ [] → IsFollowed slot n old → Spared spares slot n old more new
+pub still_after : {S J K V : Type 0} (spares : J → K → ℕ → Type 0) (slot : K) (n : ℕ) (old new : State K V) (more : List (Job S J K V)) → new ≡ old
+    → (job : Job S J K V) → JobSpares spares slot n job → more ≡ job ∷ [] → IsFollowed slot n old → Spared spares slot n old more new
 still_after spares slot n old new more same job q is l = still_tells spares slot n old new more (ap (λ (s : State _ _). s.table) same) (subst (AllSpare spares slot n) (sym is) (q, tt)) l
 
 -- an entity gets the value, or nothing happens
@@ -58,7 +59,8 @@ spreads_lives {J} {K} {V} place value old new more d w = both d.1
     both (inr s) = (after s.mid s.born_as s.given (born_lives place old s.mid s.born_as s.born w)).values
 
 -- who follows a slot is told of the value that the entity got, if it got one in that slot, and follows it still
-pub spreads_tells : {S J K V : Type 0} (spares : J → K → ℕ → Type 0) (slot : K) (n : ℕ) (here : K → Bool) → Tells here slot → (place : V → K) (value : V) (old new : State K V) (more : List (Job S J K V)) → MaySpread place value old more new → IsFollowed slot n old → Spared spares slot n old more new
+pub spreads_tells : {S J K V : Type 0} (spares : J → K → ℕ → Type 0) (slot : K) (n : ℕ) (here : K → Bool) → Tells here slot
+    → (place : V → K) (value : V) (old new : State K V) (more : List (Job S J K V)) → MaySpread place value old more new → IsFollowed slot n old → Spared spares slot n old more new
 spreads_tells {S} {J} {K} {V} spares slot n here tells place value old new more d l = both d.1
   where
     added : AllSpare spares slot n more

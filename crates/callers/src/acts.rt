@@ -1,7 +1,7 @@
 //! Jobs without laws of their own: at whichever struct of storages, and at a known one.
-ghost use Rattle.specs.specs.Going.{GoesOn};
-ghost use Rattle.specs.specs.Reached.{OnlyLiving};
-ghost use Rattle.specs.specs.State.{core_state, state_of};
+ghost use Rattle.specs.specs.Laws.Going.{GoesOn};
+ghost use Rattle.specs.specs.Laws.Reached.{OnlyLiving};
+ghost use Rattle.specs.specs.World.State.{core_state, state_of};
 
 use composed::{
     Act, Builder, Component, Core, DenseVecStorage, Doing, Entity, Has, Held, InsertError,

@@ -31,7 +31,8 @@ fn first_living_has(
 
 /// The first that lives gets a load, through the entries of its storage. Nobody is born or dies, and no other storage changes.
 pub fn first_living_is_loaded(core: &mut Core<Stores>, load: Load) -> Option<Option<Index>>
-    ensures loaded { IfSome result (λ found. IfSome found (λ i. IfSome core.old.parts.storages.rest.first.field (λ before. IfSome core.new.parts.storages.rest.first.field (λ after. after.map ≡ map.insert before.map i load)))) }
+    ensures loaded { IfSome result (λ found. IfSome found (λ i. IfSome core.old.parts.storages.rest.first.field
+        (λ before. IfSome core.new.parts.storages.rest.first.field (λ after. after.map ≡ map.insert before.map i load)))) }
     ensures people { core.new.parts.entities ≡ core.old.parts.entities }
     ensures first { core.new.parts.storages.first ≡ core.old.parts.storages.first }
     ensures rest { core.new.parts.storages.rest.rest ≡ core.old.parts.storages.rest.rest }

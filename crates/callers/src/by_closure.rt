@@ -55,7 +55,8 @@ pub fn go_on_by_cursor(
     ways: &mut MaskedStorage<Way>,
     paces: &MaskedStorage<Pace>,
 ) -> Result<(), AllocError>
-    ensures map { OnOk result (ways.new.map ≡ each_becomes (λ i w. gone_on (map.get paces.now.map i) w) (left (λ i. map.contains_key ways.old.map i && map.contains_key paces.now.map i) 0) ways.old.map) }
+    ensures map { OnOk result (ways.new.map ≡ each_becomes (λ i w. gone_on (map.get paces.now.map i) w)
+        (left (λ i. map.contains_key ways.old.map i && map.contains_key paces.now.map i) 0) ways.old.map) }
     ensures ok { ways.old.room ≡ None → IsOk result }
 {
     ways.join_mut(paces).for_each(|way: &mut Way, pace: &Pace| {
@@ -118,7 +119,8 @@ pub fn go_far(
     paces: &ReadStorage<'_, Pace>,
     steps: u32,
 ) -> Result<(), AllocError>
-    ensures moved { OnOk result ((i : ℕ) (w : Way) (p : Pace) → i < INDEX_LIMIT → map.get (slot ways.old).map i ≡ Some w → map.get (read.slot paces.now).map i ≡ Some p → map.get (slot ways.new).map i ≡ Some (moved steps w p)) }
+    ensures moved { OnOk result ((i : ℕ) (w : Way) (p : Pace) → i < INDEX_LIMIT → map.get (slot ways.old).map i ≡ Some w
+        → map.get (read.slot paces.now).map i ≡ Some p → map.get (slot ways.new).map i ≡ Some (moved steps w p)) }
     ensures others { OnOk result ((i : ℕ) → map.get (read.slot paces.now).map i ≡ None → map.get (slot ways.new).map i ≡ map.get (slot ways.old).map i) }
     ensures ok { (slot ways.old).room ≡ None → IsOk result }
 {
@@ -169,7 +171,8 @@ pub fn go_on_or_stop(
     ways: &mut MaskedStorage<Way>,
     paces: &MaskedStorage<Pace>,
 ) -> Result<(), EachError<TooFar>>
-    ensures moved { OnOk result ((i : ℕ) (w : Way) (p : Pace) → i < INDEX_LIMIT → map.get ways.old.map i ≡ Some w → map.get paces.now.map i ≡ Some p → map.get ways.new.map i ≡ Some (record { 0 = w.0 + p.0 })) }
+    ensures moved { OnOk result ((i : ℕ) (w : Way) (p : Pace) → i < INDEX_LIMIT → map.get ways.old.map i ≡ Some w → map.get paces.now.map i ≡ Some p
+        → map.get ways.new.map i ≡ Some (record { 0 = w.0 + p.0 })) }
     ensures others { OnOk result ((i : ℕ) → map.get paces.now.map i ≡ None → map.get ways.new.map i ≡ map.get ways.old.map i) }
     ensures memory { ways.old.room ≡ None → result ≢ Err EachError.OutOfMemory }
 {

@@ -1,8 +1,8 @@
 //! Players by their points, from an index of a world.
 ghost use Rattle.std.specs.Prelude.{IfSome};
 ghost use Rattle.specs.specs.Indexing.{IsEmitting, Knows};
-ghost use Rattle.specs.specs.Following.{IsFollowed};
-ghost use Rattle.specs.specs.State.{core_state};
+ghost use Rattle.specs.specs.Reading.Following.{IsFollowed};
+ghost use Rattle.specs.specs.World.State.{core_state};
 
 use specs::{Component, Core, DenseVecStorage, FlaggedStorage, Has, KeyIndex, KeyOf};
 

@@ -2,10 +2,10 @@
 ghost use Rattle.std.specs.Prelude.{◌≡◌, ◌∷◌, [], ◌++◌, false, Some, IfOk, IfErr, OnOk, OnErr};
 ghost use Rattle.entities.specs.declared.entity.Entity.{Entity as AnEntity};
 ghost use Rattle.entities.specs.Population.{born};
-ghost use Rattle.specs.specs.People.{Births};
-ghost use Rattle.specs.specs.State.{State, core_state, OnPeople};
-ghost use Rattle.specs.specs.Steps.{world_state};
-ghost use Rattle.specs.specs.Queue.{queued};
+ghost use Rattle.specs.specs.World.People.{Births};
+ghost use Rattle.specs.specs.World.State.{State, core_state, OnPeople};
+ghost use Rattle.specs.specs.Job.Steps.{world_state};
+ghost use Rattle.specs.specs.Job.Queue.{queued};
 ghost use Rattle.specs.specs.declared.job.Job.TheVariants.{Insert, Own};
 ghost use Rattle.callers.specs.Spreads.{Given};
 
@@ -24,7 +24,7 @@ pub struct Again {
 
 impl<S: Held> WorldJob<S> for Again {
     ghost use Rattle.std.specs.Prelude.{◌≡◌, [], ◌∷◌};
-    ghost use Rattle.specs.specs.Lawful.{still_grows, still_lives};
+    ghost use Rattle.specs.specs.Laws.Lawful.{still_grows, still_lives};
     ghost use Rattle.specs.specs.declared.job.Job.TheVariants.{Own};
     ghost use Rattle.callers.specs.Spreads.{still_after};
 
@@ -63,7 +63,7 @@ pub struct Late<S: Held> {
 
 impl<S: Held> WorldJob<S> for Late<S> {
     ghost use Rattle.std.specs.Prelude.{◌≡◌, [], ◌∷◌};
-    ghost use Rattle.specs.specs.Lawful.{still_grows, still_lives};
+    ghost use Rattle.specs.specs.Laws.Lawful.{still_grows, still_lives};
     ghost use Rattle.specs.specs.declared.job.Job.TheVariants.{Insert};
     ghost use Rattle.callers.specs.Spreads.{still_after};
 

@@ -2,11 +2,11 @@
 ghost use Rattle.std.specs.Prelude.{◌≡◌, [], ◌∷◌, ◌++◌, Some, true, IsTrue, MatchOption, IfOk, IfSome};
 ghost use Rattle.entities.specs.Census.{population};
 ghost use Rattle.entities.specs.Population.{born, index_of, IsAlive};
-ghost use Rattle.specs.specs.Column.{Column};
+ghost use Rattle.specs.specs.Slots.Column.{Column};
 ghost use Rattle.std.specs.Option.{option_map};
-ghost use Rattle.specs.specs.People.{Births};
-ghost use Rattle.specs.specs.Queue.{queued};
-ghost use Rattle.specs.specs.State.{core_state};
+ghost use Rattle.specs.specs.World.People.{Births};
+ghost use Rattle.specs.specs.Job.Queue.{queued};
+ghost use Rattle.specs.specs.World.State.{core_state};
 ghost use Rattle.specs.specs.declared.job.Job.TheVariants.{Insert, Mark};
 
 use specs::{
@@ -34,7 +34,8 @@ pub fn is_labelled_anew<S: Storages>(
     slot: S::Slot,
     e: Entity,
 ) -> bool
-    ensures { IsTrue result → (v : S.Value) × S.marks.comes slot (S.ids storages.old slot) v × (option_map (λ (c : Column S.Value). c.values (index_of e)) (S.table storages.new slot) ≡ Some (Some v)) }
+    ensures { IsTrue result → (v : S.Value) × S.marks.comes slot (S.ids storages.old slot) v
+        × (option_map (λ (c : Column S.Value). c.values (index_of e)) (S.table storages.new slot) ≡ Some (Some v)) }
 {
     match storages.mark(entities, slot, e) {
         Ok(Some(given)) => given,

@@ -2,11 +2,11 @@
 ghost use Rattle.std.specs.Prelude.{◌≡◌, ◌⊎◌, ℕ, true, IfSome};
 ghost use Rattle.entities.specs.Census.{population};
 ghost use Rattle.entities.specs.Population.{lives};
-ghost use Rattle.specs.specs.Following.{AreQuiet, AllSpare, IsFollowed, Follows, given};
-ghost use Rattle.specs.specs.Gone.{KeepsGone};
-ghost use Rattle.specs.specs.Reached.{KeepsLiving, OnlyLiving};
-ghost use Rattle.specs.specs.State.{core_state, state_of};
-ghost use Rattle.specs.specs.Steps.{world_state};
+ghost use Rattle.specs.specs.Reading.Following.{AreQuiet, AllSpare, IsFollowed, Follows, given};
+ghost use Rattle.specs.specs.Laws.Gone.{KeepsGone};
+ghost use Rattle.specs.specs.Laws.Reached.{KeepsLiving, OnlyLiving};
+ghost use Rattle.specs.specs.World.State.{core_state, state_of};
+ghost use Rattle.specs.specs.Job.Steps.{world_state};
 
 use specs::{
     Builder, CloneStorages, Command, Component, Core, DeserializeComponents, EntitiesRes, Entity,

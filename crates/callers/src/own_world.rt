@@ -3,8 +3,8 @@ ghost use Rattle.std.specs.Prelude.{◌≡◌, Some, IfOk, refl};
 ghost use Rattle.composed.specs.declared.only.Sole.TheVariants.{Sole as TheSole};
 ghost use Rattle.composed.specs.declared.either.Either.TheVariants.{First, Rest};
 ghost use Rattle.specs.specs.declared.command.Command.TheVariants.{Insert};
-ghost use Rattle.specs.specs.Reached.{OnlyLiving};
-ghost use Rattle.specs.specs.State.{state_of};
+ghost use Rattle.specs.specs.Laws.Reached.{OnlyLiving};
+ghost use Rattle.specs.specs.World.State.{state_of};
 
 use crate::worlds::new_world;
 use composed::Of5;
@@ -87,7 +87,7 @@ pub fn loaded(e: Entity, load: Load) -> Command<Stores>
 }
 
 /// A component that was put at an entity is found there, in whichever struct of storages.
-#[tactic(auto, using(specs::specs::Finds::found_put))]
+#[tactic(auto, using(specs::specs::Typed::Finds::found_put))]
 pub fn put_and_found<T: Component<Storage: UnprotectedStorage<T>> + Copy, S: Has<T, I>, I>(
     storages: &mut S,
     entities: &EntitiesRes,

@@ -2,7 +2,7 @@
 ghost use Rattle.std.specs.Prelude.{◌≡◌, ◌⊎◌, None, IsTrue, IfSome, IfNone};
 ghost use Rattle.std.specs.FinMap as map;
 ghost use Rattle.entities.specs.Population.{index_of};
-ghost use Rattle.specs.specs.State.{state_of};
+ghost use Rattle.specs.specs.World.State.{state_of};
 
 use crate::own_world::{Frozen, Game, Leader, Load, Place, Speed, Stores};
 use composed::{
@@ -36,7 +36,9 @@ fn is_at_its_leader(
 
 /// One storage is written while another is read: an entity gets the place of its leader, and nothing but that place changes.
 pub fn gone_to_its_leader(storages: &mut Stores, e: Entity) -> Option<bool>
-    ensures moved { IfSome result (λ done. IsTrue done → IfSome storages.old.rest.rest.rest.field (λ leaders. IfSome storages.old.first.first.field (λ before. IfSome storages.new.first.first.field (λ after. IfSome (map.get leaders.map (index_of e)) (λ l. IfSome (map.get before.map (index_of l.0)) (λ p. after.map ≡ map.insert before.map (index_of e) p)))))) }
+    ensures moved { IfSome result (λ done. IsTrue done → IfSome storages.old.rest.rest.rest.field
+        (λ leaders. IfSome storages.old.first.first.field (λ before. IfSome storages.new.first.first.field
+        (λ after. IfSome (map.get leaders.map (index_of e)) (λ l. IfSome (map.get before.map (index_of l.0)) (λ p. after.map ≡ map.insert before.map (index_of e) p)))))) }
     ensures speeds { storages.new.first.rest ≡ storages.old.first.rest }
     ensures rest { storages.new.rest ≡ storages.old.rest }
     ensures none { IfNone result ((storages.old.first.first.field ≡ None) ⊎ (storages.old.rest.rest.rest.field ≡ None)) }
@@ -85,8 +87,10 @@ fn is_loaded(
 
 /// Both are written, of which the first stands behind the second in the struct: an entity is loaded, and slower.
 pub fn loaded_and_slower(storages: &mut Stores, e: Entity, load: Load, speed: Speed) -> Option<bool>
-    ensures loads { IfSome result (λ done. IsTrue done → IfSome storages.old.rest.first.field (λ before. IfSome storages.new.rest.first.field (λ after. after.map ≡ map.insert before.map (index_of e) load))) }
-    ensures speeds { IfSome result (λ done. IsTrue done → IfSome storages.old.first.rest.field (λ before. IfSome storages.new.first.rest.field (λ after. after.map ≡ map.insert before.map (index_of e) speed))) }
+    ensures loads { IfSome result (λ done. IsTrue done → IfSome storages.old.rest.first.field
+        (λ before. IfSome storages.new.rest.first.field (λ after. after.map ≡ map.insert before.map (index_of e) load))) }
+    ensures speeds { IfSome result (λ done. IsTrue done → IfSome storages.old.first.rest.field
+        (λ before. IfSome storages.new.first.rest.field (λ after. after.map ≡ map.insert before.map (index_of e) speed))) }
     ensures places { storages.new.first.first ≡ storages.old.first.first }
     ensures rest { storages.new.rest.rest ≡ storages.old.rest.rest }
     ensures none { IfNone result ((storages.old.rest.first.field ≡ None) ⊎ (storages.old.first.rest.field ≡ None)) }
@@ -120,7 +124,10 @@ fn is_living_at_its_leader(
 
 /// In a core, with its entities beside: an entity that is alive gets the place of its leader. Nobody is born or dies.
 pub fn led_in_core(core: &mut Core<Stores>, e: Entity) -> Option<bool>
-    ensures moved { IfSome result (λ done. IsTrue done → IfSome core.old.parts.storages.rest.rest.rest.field (λ leaders. IfSome core.old.parts.storages.first.first.field (λ before. IfSome core.new.parts.storages.first.first.field (λ after. IfSome (map.get leaders.map (index_of e)) (λ l. IfSome (map.get before.map (index_of l.0)) (λ p. after.map ≡ map.insert before.map (index_of e) p)))))) }
+    ensures moved { IfSome result (λ done. IsTrue done → IfSome core.old.parts.storages.rest.rest.rest.field
+        (λ leaders. IfSome core.old.parts.storages.first.first.field
+        (λ before. IfSome core.new.parts.storages.first.first.field
+        (λ after. IfSome (map.get leaders.map (index_of e)) (λ l. IfSome (map.get before.map (index_of l.0)) (λ p. after.map ≡ map.insert before.map (index_of e) p)))))) }
     ensures people { core.new.parts.entities ≡ core.old.parts.entities }
     ensures speeds { core.new.parts.storages.first.rest ≡ core.old.parts.storages.first.rest }
     ensures rest { core.new.parts.storages.rest ≡ core.old.parts.storages.rest }
@@ -160,8 +167,10 @@ fn is_loaded_somewhere(
 
 /// Of three storages two are written, in an order of the caller's: an entity that has a place is loaded, and slower.
 pub fn loaded_somewhere(storages: &mut Stores, e: Entity, load: Load, speed: Speed) -> Option<bool>
-    ensures loads { IfSome result (λ done. IsTrue done → IfSome storages.old.rest.first.field (λ before. IfSome storages.new.rest.first.field (λ after. after.map ≡ map.insert before.map (index_of e) load))) }
-    ensures speeds { IfSome result (λ done. IsTrue done → IfSome storages.old.first.rest.field (λ before. IfSome storages.new.first.rest.field (λ after. after.map ≡ map.insert before.map (index_of e) speed))) }
+    ensures loads { IfSome result (λ done. IsTrue done → IfSome storages.old.rest.first.field
+        (λ before. IfSome storages.new.rest.first.field (λ after. after.map ≡ map.insert before.map (index_of e) load))) }
+    ensures speeds { IfSome result (λ done. IsTrue done → IfSome storages.old.first.rest.field
+        (λ before. IfSome storages.new.first.rest.field (λ after. after.map ≡ map.insert before.map (index_of e) speed))) }
     ensures places { storages.new.first.first ≡ storages.old.first.first }
     ensures rest { storages.new.rest.rest ≡ storages.old.rest.rest }
     ensures same { IfNone result (storages.new ≡ storages.old) }

@@ -86,7 +86,8 @@ where
     requires { (m n : M) → M.is_clone m n → m ≡ n }
     ensures { TellsApart M.id_of (λ e. found markers.new e)
         → IsEmpty {V = Option A × Option B} (loading M.id_of M.Allocator.mapping M.Allocator.ids_past (λ s i. (column s.0.now i, column s.1.now i)) entities.old allocator.old others.old masked.old)
-        → OnOk result ((es added : List Being) × (es ≡ marked_by markers.old ++ added) × IsRenaming M.id_of (two_places A.conversion B.conversion) (λ e. found markers.new e) (λ e. (seen places.now.0 e, seen places.now.1 e)) es
+        → OnOk result ((es added : List Being) × (es ≡ marked_by markers.old ++ added)
+        × IsRenaming M.id_of (two_places A.conversion B.conversion) (λ e. found markers.new e) (λ e. (seen places.now.0 e, seen places.now.1 e)) es
         (loading M.id_of M.Allocator.mapping M.Allocator.ids_past (λ s i. (column s.0.now i, column s.1.now i)) entities.new allocator.new others.new masked.new)) }
 {
     let Ok(list) = serialize_recursive(alloc, places, giver, markers) else {

@@ -1,7 +1,7 @@
 //! A level that is saved and loaded in one call each, by the component types that are saved.
 ghost use Rattle.std.specs.Prelude.{◌≡◌, Err};
 ghost use Rattle.entities.specs.Census.{population};
-ghost use Rattle.specs.specs.Gone.{KeepsGone};
+ghost use Rattle.specs.specs.Laws.Gone.{KeepsGone};
 ghost use Rattle.composed.specs.declared.saved_error.LoadWorldError.TheVariants.{Unregistered};
 
 use crate::saved_types::{Bag, Pose};

@@ -2,7 +2,7 @@
 ghost use Rattle.std.specs.Prelude.{◌≡◌, ◌↔◌, IsTrue, IfOk, IfSome, IsSome, length};
 ghost use Rattle.std.specs.FinMap as map;
 ghost use Rattle.storages.specs.Slot.{indices_of};
-ghost use Rattle.specs.specs.Writing.{storages_of};
+ghost use Rattle.specs.specs.Typed.Writing.{storages_of};
 
 use specs::{Component, Core, Has, Index, SliceAccess, Unregistered, Writing};
 

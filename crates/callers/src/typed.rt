@@ -1,15 +1,15 @@
 //! Storages of cores and worlds by component types, and builders.
 ghost use Rattle.std.specs.Prelude.{◌≡◌, true, MatchOption, IfOk, OnErr};
 ghost use Rattle.entities.specs.Population.{born, IsMerged};
-ghost use Rattle.specs.specs.People.{Births};
-ghost use Rattle.specs.specs.State.{core_state, state_of};
+ghost use Rattle.specs.specs.World.People.{Births};
+ghost use Rattle.specs.specs.World.State.{core_state, state_of};
 
 use specs::{Builder, Core, Entity, Has, Storages, Unregistered, World};
 use std::alloc::AllocError;
 use storages::{Component, UnprotectedStorage};
 
 /// A component that was written through a view is found through it.
-#[tactic(auto, using(specs::specs::Finds::found_put))]
+#[tactic(auto, using(specs::specs::Typed::Finds::found_put))]
 pub fn written_and_found<T: Component<Storage: UnprotectedStorage<T>> + Copy, S: Has<T, I>, I>(
     core: &mut Core<S>,
     e: Entity,

@@ -1,9 +1,9 @@
 //! Worlds.
 ghost use Rattle.std.specs.Prelude.{◌≡◌, Some, None, true, IfOk};
-ghost use Rattle.specs.specs.Column.{WantsNone};
-ghost use Rattle.specs.specs.Gone.{IsGone};
-ghost use Rattle.specs.specs.Reached.{OnlyLiving};
-ghost use Rattle.specs.specs.State.{state_of};
+ghost use Rattle.specs.specs.Slots.Column.{WantsNone};
+ghost use Rattle.specs.specs.Laws.Gone.{IsGone};
+ghost use Rattle.specs.specs.Laws.Reached.{OnlyLiving};
+ghost use Rattle.specs.specs.World.State.{state_of};
 
 use composed::{Both, Either, Empty, Only, Sole};
 use slots::Position;

@@ -4,12 +4,12 @@ use Rattle.std.specs.Prelude.{is_some}
 use Rattle.std.proofs.lemmas.Bool.{false≢true}
 use Rattle.entities.specs.declared.entity.Entity.{Entity}
 use Rattle.entities.specs.Population.{Population}
-use Rattle.specs.specs.Column.{Column}
-use Rattle.specs.specs.Marks.{GivesMarker, FieldGivesMarker}
-use Rattle.specs.specs.Table.{Table}
-use Rattle.specs.specs.Reached.{HasNoValue}
-use Rattle.specs.specs.Shows.{Shows}
-use Rattle.specs.specs.Ids.{Ids, AllLeft, IdsAfter, LeftAfter}
+use Rattle.specs.specs.Slots.Column.{Column}
+use Rattle.specs.specs.Slots.Marks.{GivesMarker, FieldGivesMarker}
+use Rattle.specs.specs.Slots.Table.{Table}
+use Rattle.specs.specs.Laws.Reached.{HasNoValue}
+use Rattle.specs.specs.Typed.Shows.{Shows}
+use Rattle.specs.specs.Slots.Ids.{Ids, AllLeft, IdsAfter, LeftAfter}
 use Rattle.composed.specs.Both.{table_of_both, of_either}
 use Rattle.composed.specs.Exact.{sole_is}
 use Rattle.composed.specs.declared.only.Sole.{Sole as OnlySlot}

@@ -1,10 +1,10 @@
 -- The table that two make.
 use Rattle.std.specs.Prelude.{ℕ, Option}
 use Rattle.std.specs.Option.{option_map}
-use Rattle.specs.specs.Clones.{Clones}
-use Rattle.specs.specs.Marks.{Markers}
-use Rattle.specs.specs.Shows.{column_as}
-use Rattle.specs.specs.Table.{Table}
+use Rattle.specs.specs.Slots.Clones.{Clones}
+use Rattle.specs.specs.Slots.Marks.{Markers}
+use Rattle.specs.specs.Typed.Shows.{column_as}
+use Rattle.specs.specs.Slots.Table.{Table}
 use Rattle.composed.specs.declared.either.Either.{Either}
 use Rattle.composed.specs.declared.either.Either.TheVariants.{First, Rest}
 

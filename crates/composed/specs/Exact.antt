@@ -26,7 +26,8 @@ module _ {K L : Type 0} where
 
   -- a test of two that is that of the firsts and that of the rests
   pub exact_by : (test : Either K L → Either K L → Bool) (of_first : K → K → Bool) (of_rest : L → L → Bool)
-      → ((x y : K) → test (First x) (First y) ≡ of_first x y) → ((x y : L) → test (Rest x) (Rest y) ≡ of_rest x y) → ((x : K) (y : L) → test (First x) (Rest y) ≡ false) → ((x : L) (y : K) → test (Rest x) (First y) ≡ false)
+      → ((x y : K) → test (First x) (First y) ≡ of_first x y) → ((x y : L) → test (Rest x) (Rest y) ≡ of_rest x y)
+      → ((x : K) (y : L) → test (First x) (Rest y) ≡ false) → ((x : L) (y : K) → test (Rest x) (First y) ≡ false)
       → ((x y : K) → Decides (of_first x y) (x ≡ y)) → ((x y : L) → Decides (of_rest x y) (x ≡ y)) → (a b : Either K L) → Decides (test a b) (a ≡ b)
   exact_by test e g ff rr fr rf de dg (First x) (First y) = (λ h. ap First ((de x y).0 (sym (ff x y) ∙ h)), λ q. ff x y ∙ (de x y).1 (ap (first_or x) q))
   exact_by test e g ff rr fr rf de dg (Rest x) (Rest y) = (λ h. ap Rest ((dg x y).0 (sym (rr x y) ∙ h)), λ q. rr x y ∙ (dg x y).1 (ap (rest_or x) q))

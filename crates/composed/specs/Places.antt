@@ -3,11 +3,11 @@ use Rattle.std.proofs.Common.{◌≡◌, inl, inr, ℕ, Bool, false, Option, Som
 use Rattle.std.specs.Prelude.{◌⊎◌}
 use mathlib.Core.Path.{fun_ext}
 use Rattle.std.specs.Option.{option_map}
-use Rattle.specs.specs.Column.{Column}
-use Rattle.specs.specs.Table.{Table}
+use Rattle.specs.specs.Slots.Column.{Column}
+use Rattle.specs.specs.Slots.Table.{Table}
 use Rattle.composed.specs.declared.either.Either.{Either}
 use Rattle.composed.specs.declared.either.Either.TheVariants.{First, Rest}
-use Rattle.specs.specs.Shows.{column_as}
+use Rattle.specs.specs.Typed.Shows.{column_as}
 use Rattle.composed.specs.Both.{table_of_both, of_either}
 
 itself : {V : Type 0} (o : Option V) → o ≡ option_map (λ x. x) o
@@ -32,20 +32,24 @@ first_of V W x = First x
 abbrev rest_of : (V W : Type 0) → W → Either V W
 rest_of V W x = Rest x
 
-pub sees_first : {T V W : Type 0} (f : T → V) (o : Option (Column T)) (shown : Option (Column V)) → shown ≡ option_map (column_as f) o → option_map (column_as (first_of V W)) shown ≡ option_map (column_as (λ t. first_of V W (f t))) o
+pub sees_first : {T V W : Type 0} (f : T → V) (o : Option (Column T)) (shown : Option (Column V)) → shown ≡ option_map (column_as f) o
+    → option_map (column_as (first_of V W)) shown ≡ option_map (column_as (λ t. first_of V W (f t))) o
 sees_first {T} {V} {W} f o shown e = ap (option_map (column_as (first_of V W))) e ∙ twice_each f (first_of V W) o
 
-pub sees_rest : {T V W : Type 0} (f : T → W) (o : Option (Column T)) (shown : Option (Column W)) → shown ≡ option_map (column_as f) o → option_map (column_as (rest_of V W)) shown ≡ option_map (column_as (λ t. rest_of V W (f t))) o
+pub sees_rest : {T V W : Type 0} (f : T → W) (o : Option (Column T)) (shown : Option (Column W)) → shown ≡ option_map (column_as f) o
+    → option_map (column_as (rest_of V W)) shown ≡ option_map (column_as (λ t. rest_of V W (f t))) o
 sees_rest {T} {V} {W} f o shown e = ap (option_map (column_as (rest_of V W))) e ∙ twice_each f (rest_of V W) o
 
-pub only_first : {K L V W : Type 0} (t t' : Table K V) (u : Table L W) (slot : K) → ((k : K) → (k ≡ slot) ⊎ (t' k ≡ t k)) → (k : Either K L) → (k ≡ First slot) ⊎ (table_of_both t' u k ≡ table_of_both t u k)
+pub only_first : {K L V W : Type 0} (t t' : Table K V) (u : Table L W) (slot : K) → ((k : K) → (k ≡ slot) ⊎ (t' k ≡ t k)) → (k : Either K L)
+    → (k ≡ First slot) ⊎ (table_of_both t' u k ≡ table_of_both t u k)
 only_first t t' u slot only (First k) = elim (only k) [
   | inl e ↦ inl (ap First e)
   | inr e ↦ inr (ap (option_map (column_as First)) e)
 ]
 only_first t t' u slot only (Rest l) = inr refl
 
-pub only_rest : {K L V W : Type 0} (t : Table K V) (u u' : Table L W) (slot : L) → ((l : L) → (l ≡ slot) ⊎ (u' l ≡ u l)) → (l : Either K L) → (l ≡ Rest slot) ⊎ (table_of_both t u' l ≡ table_of_both t u l)
+pub only_rest : {K L V W : Type 0} (t : Table K V) (u u' : Table L W) (slot : L) → ((l : L) → (l ≡ slot) ⊎ (u' l ≡ u l)) → (l : Either K L)
+    → (l ≡ Rest slot) ⊎ (table_of_both t u' l ≡ table_of_both t u l)
 only_rest t u u' slot only (First k) = inr refl
 only_rest t u u' slot only (Rest l) = elim (only l) [
   | inl e ↦ inl (ap Rest e)

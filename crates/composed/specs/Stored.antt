@@ -26,7 +26,8 @@ abbrev pub IsMissing : {L S : Type 0} → Option L → Option S → Type 0
 IsMissing lent markers = (lent ≡ None) ⊎ (markers ≡ None)
 
 -- what stands at two places was there, and is left so; of what holds the first nothing else changed
-pub record LeavesBoth {F L S : Type 0} (lent : F → Option L) (with_lent : F → L → F) (Leaves : L → S → L → S → Type 0) (fields : F) (markers : Option S) (fields' : F) (markers' : Option S) : Type 0 where
+pub record LeavesBoth {F L S : Type 0} (lent : F → Option L) (with_lent : F → L → F) (Leaves : L → S → L → S → Type 0) (fields : F) (markers : Option S)
+    (fields' : F) (markers' : Option S) : Type 0 where
   pub stored : L
   pub marks : S
   pub stored' : L

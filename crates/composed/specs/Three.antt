@@ -51,7 +51,8 @@ pub record CallsThree {M N O : Type 0} (m : M) (n : N) (o : O) (m' : M) (n' : N)
   pub called : post x y z x' y' z'
 
 -- A call that reads e took m, n and o to m', n' and o'.
-pub record CallsThreeBeside {E M N O : Type 0} (e : E) (m : M) (n : N) (o : O) (m' : M) (n' : N) (o' : O) (post : Bor E → MutBor M → MutBor N → MutBor O → MutBor M → MutBor N → MutBor O → Type 0) : Type 0 where
+pub record CallsThreeBeside {E M N O : Type 0} (e : E) (m : M) (n : N) (o : O) (m' : M) (n' : N) (o' : O)
+    (post : Bor E → MutBor M → MutBor N → MutBor O → MutBor M → MutBor N → MutBor O → Type 0) : Type 0 where
   pub b : Bor E
   pub x : MutBor M
   pub y : MutBor N

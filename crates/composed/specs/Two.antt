@@ -14,7 +14,8 @@ pub record OnTwo {S M N : Type 0} (one : Option M) (other : Option N) (with_two 
   pub is : n ≡ with_two x'.now y'.now
 
 -- The same of a call that also reads what stands beside both.
-pub record OnTwoBeside {S E M N : Type 0} (beside : E) (one : Option M) (other : Option N) (with_two : M → N → S) (post : Bor E → MutBor M → MutBor N → MutBor M → MutBor N → Type 0) (n : S) : Type 0 where
+pub record OnTwoBeside {S E M N : Type 0} (beside : E) (one : Option M) (other : Option N) (with_two : M → N → S)
+    (post : Bor E → MutBor M → MutBor N → MutBor M → MutBor N → Type 0) (n : S) : Type 0 where
   pub e : Bor E
   pub x : MutBor M
   pub y : MutBor N
@@ -27,7 +28,8 @@ pub record OnTwoBeside {S E M N : Type 0} (beside : E) (one : Option M) (other :
   pub is : n ≡ with_two x'.now y'.now
 
 -- The same of a call that also writes to what stands beside both, which ends as e_n.
-pub record OnTwoAnd {S E M N : Type 0} (beside : E) (one : Option M) (other : Option N) (with_two : M → N → S) (post : MutBor E → MutBor M → MutBor N → MutBor E → MutBor M → MutBor N → Type 0) (e_n : E) (n : S) : Type 0 where
+pub record OnTwoAnd {S E M N : Type 0} (beside : E) (one : Option M) (other : Option N) (with_two : M → N → S)
+    (post : MutBor E → MutBor M → MutBor N → MutBor E → MutBor M → MutBor N → Type 0) (e_n : E) (n : S) : Type 0 where
   pub e : MutBor E
   pub x : MutBor M
   pub y : MutBor N

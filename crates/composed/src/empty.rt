@@ -1,7 +1,7 @@
 //! Storages without any component type registered.
 ghost use Rattle.std.specs.Prelude.{◌≡◌, None};
-ghost use Rattle.specs.specs.Ids.{AllLeft};
-ghost use Rattle.specs.specs.Reached.{HasNoValue};
+ghost use Rattle.specs.specs.Slots.Ids.{AllLeft};
+ghost use Rattle.specs.specs.Laws.Reached.{HasNoValue};
 
 use crate::both::Both;
 use crate::marking::Marking;

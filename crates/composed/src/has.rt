@@ -1,5 +1,5 @@
 //! The storages of component types, within composed structs.
-ghost use Rattle.specs.specs.Field.{field_column};
+ghost use Rattle.specs.specs.Typed.Field.{field_column};
 
 use crate::both::Both;
 use crate::either::Either;
@@ -144,7 +144,7 @@ impl<T: Component + Drop> Has<T, Here> for Only<T> {
 impl<M: Marker, A: MarkerAllocator<M>> Has<M, Here> for Marking<M, A> {
     ghost use Rattle.composed.specs.declared.only.Sole.TheVariants.{Sole};
     ghost use Rattle.composed.specs.Places.{sees_only};
-    ghost use Rattle.specs.specs.Field.{field_column};
+    ghost use Rattle.specs.specs.Typed.Field.{field_column};
     ghost use Rattle.std.proofs.Common.{refl, inl};
 
     ghost the_slot = { Sole };

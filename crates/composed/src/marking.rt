@@ -45,7 +45,7 @@ impl<T> Marking<SimpleMarker<T>, SimpleMarkerAllocator<T>> {
 
 impl<M: Marker, A: MarkerAllocator<M>> Held for Marking<M, A> {
     ghost use Rattle.std.specs.Prelude.{true};
-    ghost use Rattle.specs.specs.Field.{field_column};
+    ghost use Rattle.specs.specs.Typed.Field.{field_column};
     ghost use Rattle.composed.specs.declared.only.Sole.TheVariants.{Sole};
 
     type Slot = Sole;
@@ -68,7 +68,7 @@ where
     ghost use Rattle.std.specs.Prelude.{refl};
     ghost use Rattle.std.proofs.Common.{true≢false};
     ghost use Rattle.composed.specs.Exact.{sole_is};
-    ghost use Rattle.specs.specs.Field.{field_room};
+    ghost use Rattle.specs.specs.Typed.Field.{field_room};
 
     ghost room = { λ s _. field_room s.markers.field };
 

@@ -39,8 +39,8 @@ impl<T: Component> Only<T> {
 
 impl<T: Component + Drop> Held for Only<T> {
     ghost use Rattle.std.specs.Prelude.{Some};
-    ghost use Rattle.specs.specs.Field.{field_column};
-    ghost use Rattle.specs.specs.Marks.{no_markers};
+    ghost use Rattle.specs.specs.Typed.Field.{field_column};
+    ghost use Rattle.specs.specs.Slots.Marks.{no_markers};
     ghost use Rattle.composed.specs.declared.only.Sole.TheVariants.{Sole};
 
     type Slot = Sole;
@@ -62,7 +62,7 @@ where
 {
     ghost use Rattle.std.specs.Prelude.{refl};
     ghost use Rattle.composed.specs.Exact.{sole_is};
-    ghost use Rattle.specs.specs.Field.{field_room};
+    ghost use Rattle.specs.specs.Typed.Field.{field_room};
 
     ghost room = { λ s _. field_room s.field };
 

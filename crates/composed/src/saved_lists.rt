@@ -5,7 +5,7 @@ ghost use Rattle.storages.specs.Found.{found_in};
 ghost use Rattle.saveload.specs.Json.{IsTextOf};
 ghost use Rattle.saveload.specs.Places.{place};
 ghost use Rattle.saveload.specs.Saved.{IsSavedList, HoldsReferences, RefusesSave, DistinctIds, TellsApart, all_marked};
-ghost use Rattle.specs.specs.Gone.{KeepsGone};
+ghost use Rattle.specs.specs.Laws.Gone.{KeepsGone};
 ghost use Rattle.composed.specs.Loading.{stand, LoadsRecords, StopsRecords};
 ghost use Rattle.composed.specs.Saves.{NotSaved};
 ghost use Rattle.composed.specs.Stored.{LeavesIn, rows_of_one, TellsOne, StoresInOne, rows_of_two, TellsTwo, StoresInTwo};
@@ -36,9 +36,11 @@ where
     requires registered { IsSome marking.old.markers.field }
     ensures gone { KeepsGone (population entities.old) (population entities.new) }
     ensures changes { P.Changes masked.old masked.new }
-    ensures loaded { OnOk result (LeavesIn marking.old.markers.field marking.new.markers.field (λ m m'. LoadsRecords M.id_of M.Identifier.eq P.conversion M.Allocator.mapping M.Allocator.ids_past P.rows P.Changes P.Stores
+    ensures loaded { OnOk result (LeavesIn marking.old.markers.field marking.new.markers.field
+        (λ m m'. LoadsRecords M.id_of M.Identifier.eq P.conversion M.Allocator.mapping M.Allocator.ids_past P.rows P.Changes P.Stores
         list.items (stand entities.old marking.old.allocator masked.old m) (stand entities.new marking.new.allocator masked.new m'))) }
-    ensures refused { IfErr result (λ e. LeavesIn marking.old.markers.field marking.new.markers.field (λ m m'. StopsRecords M.id_of M.Identifier.eq P.conversion M.Allocator.mapping M.Allocator.ids_past P.rows P.Changes P.Partly
+    ensures refused { IfErr result (λ e. LeavesIn marking.old.markers.field marking.new.markers.field
+        (λ m m'. StopsRecords M.id_of M.Identifier.eq P.conversion M.Allocator.mapping M.Allocator.ids_past P.rows P.Changes P.Partly
         list.items e (stand entities.old marking.old.allocator masked.old m) (stand entities.new marking.new.allocator masked.new m'))) }
 {
     loads_keep::<M, P>();
@@ -71,10 +73,13 @@ where
     requires clones { (m n : M) → M.is_clone m n → m ≡ n }
     requires registered { IsSome marking.old.markers.field }
     ensures gone { KeepsGone (population entities.old) (population entities.new) }
-    ensures loaded { OnOk result (LeavesIn marking.old.markers.field marking.new.markers.field (λ m m'. LoadsRecords M.id_of M.Identifier.eq (one_place A.conversion) M.Allocator.mapping M.Allocator.ids_past
+    ensures loaded { OnOk result (LeavesIn marking.old.markers.field marking.new.markers.field
+        (λ m m'. LoadsRecords M.id_of M.Identifier.eq (one_place A.conversion) M.Allocator.mapping M.Allocator.ids_past
         rows_of_one TellsOne StoresInOne list.items (stand entities.old marking.old.allocator (record { 0 = one.old }) m) (stand entities.new marking.new.allocator (record { 0 = one.new }) m'))) }
-    ensures refused { IfErr result (λ e. LeavesIn marking.old.markers.field marking.new.markers.field (λ m m'. StopsRecords M.id_of M.Identifier.eq (one_place A.conversion) M.Allocator.mapping M.Allocator.ids_past
-        rows_of_one TellsOne (PartlyOne (one_place A.conversion).unloaded) list.items e (stand entities.old marking.old.allocator (record { 0 = one.old }) m) (stand entities.new marking.new.allocator (record { 0 = one.new }) m'))) }
+    ensures refused { IfErr result (λ e. LeavesIn marking.old.markers.field marking.new.markers.field
+        (λ m m'. StopsRecords M.id_of M.Identifier.eq (one_place A.conversion) M.Allocator.mapping M.Allocator.ids_past
+        rows_of_one TellsOne (PartlyOne (one_place A.conversion).unloaded) list.items e (stand entities.old marking.old.allocator (record { 0 = one.old }) m)
+        (stand entities.new marking.new.allocator (record { 0 = one.new }) m'))) }
 {
     load_list(alloc, &mut (one,), entities, marking, list)
 }
@@ -105,10 +110,13 @@ where
     requires clones { (m n : M) → M.is_clone m n → m ≡ n }
     requires registered { IsSome marking.old.markers.field }
     ensures gone { KeepsGone (population entities.old) (population entities.new) }
-    ensures loaded { OnOk result (LeavesIn marking.old.markers.field marking.new.markers.field (λ m m'. LoadsRecords M.id_of M.Identifier.eq (two_places A.conversion B.conversion) M.Allocator.mapping M.Allocator.ids_past
+    ensures loaded { OnOk result (LeavesIn marking.old.markers.field marking.new.markers.field
+        (λ m m'. LoadsRecords M.id_of M.Identifier.eq (two_places A.conversion B.conversion) M.Allocator.mapping M.Allocator.ids_past
         rows_of_two TellsTwo StoresInTwo given.1.items (stand entities.old marking.old.allocator (one.old, other.old) m) (stand entities.new marking.new.allocator (one.new, other.new) m'))) }
-    ensures refused { IfErr result (λ e. LeavesIn marking.old.markers.field marking.new.markers.field (λ m m'. StopsRecords M.id_of M.Identifier.eq (two_places A.conversion B.conversion) M.Allocator.mapping M.Allocator.ids_past
-        rows_of_two TellsTwo (PartlyTwo (place A.conversion).unloaded (place B.conversion).unloaded) given.1.items e (stand entities.old marking.old.allocator (one.old, other.old) m) (stand entities.new marking.new.allocator (one.new, other.new) m'))) }
+    ensures refused { IfErr result (λ e. LeavesIn marking.old.markers.field marking.new.markers.field
+        (λ m m'. StopsRecords M.id_of M.Identifier.eq (two_places A.conversion B.conversion) M.Allocator.mapping M.Allocator.ids_past
+        rows_of_two TellsTwo (PartlyTwo (place A.conversion).unloaded (place B.conversion).unloaded) given.1.items e
+        (stand entities.old marking.old.allocator (one.old, other.old) m) (stand entities.new marking.new.allocator (one.new, other.new) m'))) }
 {
     let (alloc, list) = given;
     load_list(alloc, &mut (one, other), entities, marking, list)

@@ -10,7 +10,7 @@ ghost use Rattle.saveload.specs.Saved.{DistinctIds, TellsApart};
 ghost use Rattle.saveload.specs.Stops.{PartlyOne, PartlyTwo};
 ghost use Rattle.saveload.specs.Tuples.{one_place, two_places};
 ghost use Rattle.saveload.specs.declared.error.LoadError.{LoadError as Refusal};
-ghost use Rattle.specs.specs.Gone.{KeepsGone};
+ghost use Rattle.specs.specs.Laws.Gone.{KeepsGone};
 ghost use Rattle.composed.specs.Stored.{OnBoth, IsMissing, LeavesBoth, one_of, two_of, rows_of_one, TellsOne, StoresInOne, rows_of_two, TellsTwo, StoresInTwo};
 ghost use Rattle.composed.specs.Saves.{IsSavedOf, HoldsAllOf, RefusesOf, NotSaved};
 ghost use Rattle.composed.specs.Loading.{list_in, stand, LoadsList, StopsList, NotLoaded, IsUnreadOr, IsSame};

@@ -5,7 +5,7 @@ ghost use Rattle.storages.specs.Found.{found_in};
 ghost use Rattle.storages.specs.Slot.{Slot};
 ghost use Rattle.saveload.specs.Json.{IsTextOf};
 ghost use Rattle.saveload.specs.Saved.{DistinctIds, TellsApart};
-ghost use Rattle.specs.specs.Gone.{KeepsGone};
+ghost use Rattle.specs.specs.Laws.Gone.{KeepsGone};
 ghost use Rattle.composed.specs.Stored.{OnBoth, IsMissing, LeavesBoth};
 ghost use Rattle.composed.specs.Saves.{IsSavedOf, HoldsAllOf, RefusesOf, NotSaved};
 ghost use Rattle.composed.specs.Loading.{list_in, stand, LoadsList, StopsList, NotLoaded, IsUnreadOr};
@@ -154,7 +154,10 @@ where
 
     ghost allocator = { λ w. w.parts.core.parts.storages.rest.allocator };
 
-    ghost left = { λ w e f m a. let q = w.parts in let c = q.core in record w { parts = record q { core = record c { parts = record { entities = e; storages = record { first = f; rest = record { markers = record { field = m }; allocator = a } } } } } } };
+    ghost left = { λ w e f m a. let q = w.parts in let c = q.core in record w {
+      parts =
+          record q { core = record c { parts = record { entities = e; storages = record { first = f; rest = record { markers = record { field = m }; allocator = a } } } } };
+    } };
 
     fn save_to_json<T: SavedTypes<M, F, P>, P>(
         &mut self,

@@ -64,8 +64,10 @@ pub trait TwoFields<M, N, P>: Sized {
         rest: &mut E,
         f: F,
     ) -> Option<R>
-        requires { (d : MutBor D) (e : MutBor E) (x : MutBor M) (y : MutBor N) → d.now ≡ first.old → e.now ≡ rest.old → one self.old ≡ Some x.now → other self.old ≡ Some y.now → F.pre f given d e x y }
-        ensures some { IfSome result (λ r. OnTwoWith first.old rest.old (one self.old) (other self.old) (with_two self.old) (λ d e x y d' e' x' y'. F.post f given d e x y r d' e' x' y') first.new rest.new self.new) }
+        requires { (d : MutBor D) (e : MutBor E) (x : MutBor M) (y : MutBor N) → d.now ≡ first.old → e.now ≡ rest.old → one self.old ≡ Some x.now
+            → other self.old ≡ Some y.now → F.pre f given d e x y }
+        ensures some { IfSome result (λ r. OnTwoWith first.old rest.old (one self.old) (other self.old) (with_two self.old)
+            (λ d e x y d' e' x' y'. F.post f given d e x y r d' e' x' y') first.new rest.new self.new) }
         ensures none { IfNone result ((one self.old ≡ None) ⊎ (other self.old ≡ None)) }
         ensures same { IfNone result (self.new ≡ self.old) }
         ensures beside { IfNone result ((first.new ≡ first.old) × (rest.new ≡ rest.old)) };

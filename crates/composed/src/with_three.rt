@@ -26,8 +26,10 @@ pub trait WithThree<M, N, O, P>: Sized {
         &mut self,
         f: F,
     ) -> Option<R>
-        requires { (e : Bor Census) (x : MutBor M) (y : MutBor N) (z : MutBor O) → e.now ≡ entities self.old → one self.old ≡ Some x.now → other self.old ≡ Some y.now → third self.old ≡ Some z.now → F.pre f e x y z }
-        ensures some { IfSome result (λ r. OnThreeBeside (entities self.old) (one self.old) (other self.old) (third self.old) (with_three self.old) (λ e x y z x' y' z'. F.post f e x y z r x' y' z') self.new) }
+        requires { (e : Bor Census) (x : MutBor M) (y : MutBor N) (z : MutBor O) → e.now ≡ entities self.old → one self.old ≡ Some x.now
+            → other self.old ≡ Some y.now → third self.old ≡ Some z.now → F.pre f e x y z }
+        ensures some { IfSome result (λ r. OnThreeBeside (entities self.old) (one self.old) (other self.old) (third self.old) (with_three self.old)
+            (λ e x y z x' y' z'. F.post f e x y z r x' y' z') self.new) }
         ensures none { IfNone result ((one self.old ≡ None) ⊎ (other self.old ≡ None) ⊎ (third self.old ≡ None)) }
         ensures same { IfNone result (self.new ≡ self.old) }
         ensures entities { entities self.new ≡ entities self.old };
@@ -87,7 +89,8 @@ impl<M, N, O, P, S: Held + ThreeFields<M, N, O, P>, J: Drop> WithThree<M, N, O, 
 
     ghost third = { λ w. S.third w.parts.core.parts.storages };
 
-    ghost with_three = { λ w x y z. let q = w.parts in let c = q.core in let p = c.parts in record w { parts = record q { core = record c { parts = record p { storages = S.with_three p.storages x y z } } } } };
+    ghost with_three = { λ w x y z. let q = w.parts in let c = q.core in let p =
+        c.parts in record w { parts = record q { core = record c { parts = record p { storages = S.with_three p.storages x y z } } } } };
 
     fn with_three<R, F: FnOnce(&EntitiesRes, &mut M, &mut N, &mut O) -> R>(
         &mut self,

@@ -70,7 +70,8 @@ impl<M, N, P, S: Held + TwoFields<M, N, P>, J: Drop> WithTwo<M, N, P> for World<
 
     ghost other = { λ w. S.other w.parts.core.parts.storages };
 
-    ghost with_two = { λ w x y. let q = w.parts in let c = q.core in let p = c.parts in record w { parts = record q { core = record c { parts = record p { storages = S.with_two p.storages x y } } } } };
+    ghost with_two = { λ w x y. let q = w.parts in let c = q.core in let p =
+        c.parts in record w { parts = record q { core = record c { parts = record p { storages = S.with_two p.storages x y } } } } };
 
     fn with_two<R, F: FnOnce(&EntitiesRes, &mut M, &mut N) -> R>(&mut self, f: F) -> Option<R> {
         let WorldParts { core, lazy: _ } = self.parts();

@@ -1,11 +1,11 @@
 -- What a job meets that deletes all.
 use Rattle.std.specs.Prelude.{◌⊎◌}
 use Rattle.std.proofs.Common.{inl, inr, refl}
-use Rattle.specs.specs.Evolving.{Evolves, ValuesLive}
-use Rattle.specs.specs.Living.{deletes_kept}
-use Rattle.specs.specs.People.{the_living}
-use Rattle.specs.specs.Reached.{OnlyLiving}
-use Rattle.specs.specs.State.{State, Deletes}
+use Rattle.specs.specs.Laws.Evolving.{Evolves, ValuesLive}
+use Rattle.specs.specs.Laws.Living.{deletes_kept}
+use Rattle.specs.specs.World.People.{the_living}
+use Rattle.specs.specs.Laws.Reached.{OnlyLiving}
+use Rattle.specs.specs.World.State.{State, Deletes}
 
 module _ {K V : Type 0} where
   pub ended_grows : (old new : State K V) → Deletes (the_living old.people) old new → Evolves old.people new.people

@@ -4,13 +4,13 @@ use Rattle.std.proofs.Common.{inl, inr}
 use Rattle.entities.specs.declared.entity.Entity.{Entity}
 use Rattle.specs.specs.declared.command.Command.TheVariants.{Insert}
 use Rattle.specs.specs.declared.command.Reply.TheVariants.{Value}
-use Rattle.specs.specs.Evolving.{Evolves, ValuesLive}
-use Rattle.specs.specs.Lawful.{still_grows, still_lives}
-use Rattle.specs.specs.Clones.{no_clones}
-use Rattle.specs.specs.Living.{keeps_step}
-use Rattle.specs.specs.Reached.{OnlyLiving}
-use Rattle.specs.specs.State.{State, OnTable}
-use Rattle.specs.specs.Table.{Inserts}
+use Rattle.specs.specs.Laws.Evolving.{Evolves, ValuesLive}
+use Rattle.specs.specs.Laws.Lawful.{still_grows, still_lives}
+use Rattle.specs.specs.Slots.Clones.{no_clones}
+use Rattle.specs.specs.Laws.Living.{keeps_step}
+use Rattle.specs.specs.Laws.Reached.{OnlyLiving}
+use Rattle.specs.specs.World.State.{State, OnTable}
+use Rattle.specs.specs.Slots.Table.{Inserts}
 
 module _ {K V : Type 0} where
   -- an entity gets the value, or nothing happens

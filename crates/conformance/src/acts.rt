@@ -1,6 +1,6 @@
 //! Jobs without laws of their own: what they change is there at the turn in which they run, and what they queue runs after it.
-ghost use Rattle.specs.specs.Going.{GoesOn};
-ghost use Rattle.specs.specs.State.{core_state};
+ghost use Rattle.specs.specs.Laws.Going.{GoesOn};
+ghost use Rattle.specs.specs.World.State.{core_state};
 
 use crate::asserts::{equal, holds};
 use crate::calls::{done, execute, fresh, raised};

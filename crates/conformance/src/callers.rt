@@ -1,7 +1,7 @@
 //! What an ordinary caller learns of a world, without a proof file.
 ghost use Rattle.std.specs.Prelude.{◌≡◌, true};
 ghost use Rattle.entities.specs.Population.{IsMerged};
-ghost use Rattle.specs.specs.State.{state_of};
+ghost use Rattle.specs.specs.World.State.{state_of};
 
 use specs::{Entity, Storages, World};
 use std::alloc::Global;

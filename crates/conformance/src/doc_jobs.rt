@@ -15,8 +15,8 @@ use std::test::Fail;
 struct DeleteAll;
 
 impl<S: Storages> WorldJob<S> for DeleteAll {
-    ghost use Rattle.specs.specs.People.{the_living};
-    ghost use Rattle.specs.specs.State.{Deletes};
+    ghost use Rattle.specs.specs.World.People.{the_living};
+    ghost use Rattle.specs.specs.World.State.{Deletes};
     ghost use Rattle.conformance.specs.Ends.{ended_grows, ended_lives};
 
     ghost does = { λ j old more new. Deletes (the_living old.people) old new };
@@ -50,7 +50,7 @@ struct Ask {
 }
 
 impl<S: Storages> WorldJob<Listed<S>> for Ask {
-    ghost use Rattle.specs.specs.Lawful.{DoesNothing, still_grows, still_lives, nothing_tells};
+    ghost use Rattle.specs.specs.Laws.Lawful.{DoesNothing, still_grows, still_lives, nothing_tells};
 
     ghost does = { λ j old more new. DoesNothing old more new };
 

@@ -16,7 +16,7 @@ struct Push {
 }
 
 impl<S: Storages> WorldJob<Listed<S>> for Push {
-    ghost use Rattle.specs.specs.Lawful.{DoesNothing, still_grows, still_lives, nothing_tells};
+    ghost use Rattle.specs.specs.Laws.Lawful.{DoesNothing, still_grows, still_lives, nothing_tells};
 
     ghost does = { λ j old more new. DoesNothing old more new };
 

@@ -1,6 +1,6 @@
 //! Tests of specs on lazy updates, by their names there.
 ghost use Rattle.std.specs.Prelude.{◌≡◌};
-ghost use Rattle.specs.specs.State.{core_state};
+ghost use Rattle.specs.specs.World.State.{core_state};
 ghost use Rattle.conformance.specs.Puts.{Given};
 
 use crate::asserts::{equal, holds};

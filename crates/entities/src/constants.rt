@@ -1,7 +1,7 @@
 //! The limits, by their numbers.
 ghost use Rattle.entities.specs.Limits.{IndicesEnd, GenerationsEnd, PassesEnd, DeletionIsNamed};
 
-/// The limits of entities, for callers' proofs: an index lies below 16,777,216, the last generation is 2,147,483,647, a phase has at most
+/// The limits of entities, for callers' proofs: an index lies below `INDEX_LIMIT`, the last generation is 2,147,483,647, a phase has at most
 /// 4,096 passes, and a refusal of a death or a mark names `delete`. It does nothing.
 #[inline]
 pub fn limits()

@@ -167,7 +167,7 @@ const STORIES: &[(&str, &[(Step, &str)])] = &[
         &[
             (Step::EntityAt(9), "Entity(9, Generation(1))"),
             (
-                Step::EntityAt(16_777_216),
+                Step::EntityAt(INDEX_LIMIT),
                 "Entity(16777216, Generation(1))",
             ),
             (Step::IsAlive(9, 1), "false"),
@@ -287,7 +287,10 @@ fn two_indices_below_the_limit(rt: HostRuntime) -> Result<(), Fail> {
     let mut entities = nearly_full(rt.alloc());
     assert_eq!(rt; made(&mut entities, 4), (2, 2));
     let before = shown(&entities);
-    assert_eq!(rt; (before.0, before.1, before.2), (16_777_214, 2, 0));
+    assert_eq!(rt;
+        (before.0, before.1, before.2),
+        (INDEX_LIMIT as usize - 2, 2, 0)
+    );
     assert_eq!(rt; made(&mut entities, 4), (0, 0));
     assert_eq!(rt; shown(&entities), before);
     assert_eq!(rt; entities.create(), Err(CreateError::IndexLimit));

@@ -1,38 +1,21 @@
 //! A level of entities with names that follow one another, saved as JSON and loaded into another world.
-ghost use Rattle.std.specs.Prelude.{Some};
-
 use crate::game::Follows;
 use anyhow::Result;
 use composed::{
-    Both, Builder, Component, Empty, Entity, Has, HashMapStorage, JsonFields, Link, Marking, Of2,
-    Parts, SavedText, SavesWorld, SimpleMarker, SimpleMarkerAllocator, Storages, World, slot,
+    Both, Builder, Datum, Empty, Entity, Has, HashMapStorage, Link, Marking, Of2, Parts, Plain,
+    SavedText, SavesWorld, SimpleMarker, SimpleMarkerAllocator, Storages, World, slot,
 };
-use std::alloc::{AllocError, Global};
+use std::alloc::Global;
 
 /// What an entity is called.
-#[derive(Debug, Drop)]
-pub struct Name(pub SavedText);
+pub struct Called;
 
-impl Component for Name {
-    type Storage = HashMapStorage<Self>;
+impl Plain<SavedText> for Called {
+    type Storage = HashMapStorage<Datum<Self, SavedText>>;
 }
 
-/// A name is saved as its text.
-impl JsonFields for Name {
-    type As = SavedText;
-
-    ghost fields = { λ n. n.0 };
-
-    ghost of_fields = { λ t. Some (record { 0 = t }) };
-
-    fn fields(&self, alloc: Global) -> Result<SavedText, AllocError> {
-        self.0.copy(alloc)
-    }
-
-    fn of_fields(saved: SavedText) -> Option<Name> {
-        Some(Name(saved))
-    }
-}
+/// The name of an entity.
+pub type Name = Datum<Called, SavedText>;
 
 /// What has a marker is saved.
 #[derive(Clone, Copy)]
@@ -76,7 +59,7 @@ fn add<N, L, S: Storages + Has<Name, N> + Has<Label, L>>(
     name: &str,
     alloc: Global,
 ) -> Result<Entity> {
-    let name = Name(SavedText::from_str(alloc, name)?);
+    let name: Name = Datum::new(SavedText::from_str(alloc, name)?);
     let entity = world.create_entity()?.with(name)?.build();
     world.parts().core.mark(slot::<Label, S, L>(), entity)?;
     Ok(entity)
@@ -109,7 +92,7 @@ fn show<N, F, S: Has<Name, N> + Has<Link<Follows>, F>>(
         let link = follows.storage().get(id);
         let leader = link.and_then(|link: &Link<Follows>| names.get(link.entity));
         if let (Some(one), Some(leader)) = (names.storage().get(id), leader) {
-            write!(text, " {id}:{:?}->{:?}", one.0, leader.0)?;
+            write!(text, " {id}:{:?}->{:?}", one.value, leader.value)?;
         }
     }
     writeln!(text)?;

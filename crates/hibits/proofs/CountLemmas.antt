@@ -60,7 +60,7 @@ ones_bit b lt =
       | inr n ↦ omega (arith, n)
     ]
 
-ones_below : (w n : ℕ) → count_below (λ j. bit_at w j == 1) n ≡ count_ones (w % 2 ^ n)
+pub ones_below : (w n : ℕ) → count_below (λ j. bit_at w j == 1) n ≡ count_ones (w % 2 ^ n)
 ones_below w zero = let le = ones_le_self (w % 1) in let z : w % 1 ≡ 0 = omega arith in let h : 0 ≡ count_ones (w % 1) = omega arith in h
 ones_below w (suc n) =
     let rest = ones_below w n in

@@ -4,3 +4,4 @@ pub mod MemberLemmas
 pub mod RowLemmas
 pub mod StepLemmas
 pub mod WalkLemmas
+pub mod WordLemmas

@@ -1,12 +1,15 @@
 -- What one step of a walk does, as the code goes.
-use Rattle.std.proofs.Common.{◌≡◌, ℕ, zero, suc, ◌+◌, ◌-◌, ◌*◌, ◌/◌, ◌^◌, ◌<◌, ◌≤◌, min, Bool, true, cond, get_or, w64, refl, sym, ◌∙◌, arith}
+use Rattle.std.proofs.Common.{◌≡◌, ℕ, zero, suc, ◌+◌, ◌-◌, ◌*◌, ◌/◌, ◌%◌, ◌^◌, ◌<◌, ◌≤◌, min, Bool, true, false, cond, get_or, w64, refl, sym, ◌∙◌, inl, inr, arith}
 use Rattle.std.specs.Int.{bit_at, trailing_zeros}
+use Rattle.std.proofs.lemmas.Nat.Bits.{bit_at-zero, bit_at-lt}
+use Rattle.std.proofs.lemmas.Bool.{cases_eq, true≢false}
 use Rattle.std.proofs.Math.Nat.{pow-le-pow_right}
 use Rattle.std.proofs.Common.{lit<}
 use Rattle.hibits.specs.declared.limits.TheConstants.{LAYERS, INDEX_LIMIT}
 use Rattle.hibits.specs.declared.walk.Walk.{Walk}
 use Rattle.hibits.specs.Walks.{IsLevel, IsNext}
-use Rattle.hibits.specs.WalkOf.{IsWalkOf, words_of, from_of}
+use Rattle.hibits.specs.Words.{IsNextWord}
+use Rattle.hibits.specs.WalkOf.{IsWalkOf, IsWordWalkOf, words_of, from_of}
 use Rattle.hibits.proofs.WalkLemmas.{rest_of, lowest_right, lowest_below, none_before, descend, pop_lowest, from_fits, none_left}
 
 pub end_small : (level end : ℕ) → end ≤ 64 ^ (LAYERS - 1 - level) → end ≤ 64 ^ (LAYERS - 1)
@@ -133,3 +136,65 @@ module _ (has : ℕ → ℕ → Bool) (cost : ℕ) (covers : (l i : ℕ) → has
       end1 = ok.end1;
       end2 = ok.end2;
     }
+
+  -- where something is left of the word of layer 0, and the walk was between two words before it
+  module _ (some : 0 < a.word0) (whole : a.from ≡ 64 * (a.from / 64)) where
+    here : IsLevel (has 0) a.word0 a.from (a.end0 / 64)
+    here = ok.walk.level 0 (omega arith)
+
+    -- the word's lowest index that is left lies in it, so all of the word is left
+    all_left : (0 < a.end0 / 64) × (a.from ≤ 64 * (a.end0 / 64 - 1))
+    all_left =
+        let r = lowest_right (has 0) a.word0 a.from (a.end0 / 64) here some in
+        let l = lowest_below (has 0) a.word0 a.from (a.end0 / 64) here some in
+        (r.0, omega (arith, r.0, r.1, l, whole))
+
+    bit_by : (j : ℕ) (b : Bool) → has 0 (64 * (a.end0 / 64 - 1) + j) ≡ b → j < 64 → bit_at a.word0 j ≡ cond b 1 0
+    bit_by j true is lt =
+        let all = all_left in
+        let same : (64 * (a.end0 / 64 - 1) + j) % 64 ≡ j = omega arith in
+        let u = all.0 in let f = all.1 in
+        rw same at (here.left (64 * (a.end0 / 64 - 1) + j) (omega arith) (omega arith) is).1
+    bit_by j false is lt =
+        elim (cases_eq (bit_at a.word0 j) 1) [
+          | inl one ↦ absurd (true≢false (sym (here.right j lt one).2 ∙ is))
+          | inr other ↦ let b = bit_at-lt a.word0 j in omega (arith, b, other)
+        ]
+
+    pub next_word : IsNextWord (has 0) (a.from / 64) (a.end0 / 64 - 1) a.word0
+    next_word =
+        let all = all_left in
+        let u = all.0 in let f = all.1 in
+        record {
+          from_on = omega arith;
+          is_word = record { fits = here.fits; bits = λ j lt. bit_by j _ refl lt };
+          some = some;
+          none = λ i ge lt is. let b = (here.left i (omega (arith, ge, whole)) (omega arith) is).0 in omega arith;
+        }
+
+    pub word_below : a.end0 / 64 - 1 < 64 ^ (LAYERS - 1)
+    word_below = let f = end0_fits in let e = end0_from some in omega arith
+
+    pub word_taken : IsWordWalkOf has cost (record a { word0 = 0; from = a.end0 })
+    word_taken = record {
+      walk = record {
+        walk = record { words_len = refl; from_len = refl; top = refl; level = level; reads = ok.walk.reads };
+        end0 = ok.end0;
+        end1 = ok.end1;
+        end2 = ok.end2;
+      };
+      none = refl;
+      whole = ok.end0;
+    }
+      where
+        level : (l : ℕ) → l < LAYERS → IsLevel (has l) (get_or (words_of (record a { word0 = 0; from = a.end0 })) l 0) (get_or (from_of (record a { word0 = 0; from = a.end0 })) l 0) (get_or (from_of (record a { word0 = 0; from = a.end0 })) (suc l) 0)
+        level zero h = let e = ok.end0 in record {
+          fits = omega arith;
+          below = omega (arith, e);
+          left = λ i ge lt _. absurd (omega (arith, e));
+          right = λ j _ one. absurd (let z = bit_at-zero j in omega (arith, z, one));
+        }
+        level (suc zero) h = ok.walk.level 1 h
+        level (suc (suc zero)) h = ok.walk.level 2 h
+        level (suc (suc (suc zero))) h = ok.walk.level 3 h
+        level (suc (suc (suc (suc l)))) h = absurd (omega arith)

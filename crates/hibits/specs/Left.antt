@@ -17,14 +17,14 @@ passing p a (suc n) = cond (p a) (a ∷ passing p (suc a) n) (passing p (suc a) 
 unfoldable pub left : (ℕ → Bool) → ℕ → List ℕ
 left p a = passing p a (INDEX_LIMIT - a)
 
-passing-none : (p : ℕ → Bool) (n a : ℕ) → ((k : ℕ) → a ≤ k → k < a + n → p k ≡ true → ⊥) → passing p a n ≡ []
+pub passing-none : (p : ℕ → Bool) (n a : ℕ) → ((k : ℕ) → a ≤ k → k < a + n → p k ≡ true → ⊥) → passing p a n ≡ []
 unfolding passing
 passing-none p zero a none = refl
 passing-none p (suc n) a none =
     ap (λ b. cond b (a ∷ passing p (suc a) n) (passing p (suc a) n)) (false_from_ne_true (p a) (none a (omega arith) (omega arith)))
     ∙ passing-none p n (suc a) (λ k ge lt. none k (omega arith) (omega arith))
 
-passing-next : (p : ℕ → Bool) (n a i m : ℕ) → a ≤ i → suc i + m ≡ a + n → p i ≡ true → ((k : ℕ) → a ≤ k → k < i → p k ≡ true → ⊥) → passing p a n ≡ i ∷ passing p (suc i) m
+pub passing-next : (p : ℕ → Bool) (n a i m : ℕ) → a ≤ i → suc i + m ≡ a + n → p i ≡ true → ((k : ℕ) → a ≤ k → k < i → p k ≡ true → ⊥) → passing p a n ≡ i ∷ passing p (suc i) m
 unfolding passing
 passing-next p zero a i m le len is none = absurd (omega arith)
 passing-next p (suc n) a i m le len is none =
@@ -128,3 +128,18 @@ contains-left p a i c =
     let b = passing-bounds p (INDEX_LIMIT - a) a c.0 i c.1 in
     let e = c.2 in
     (omega arith, omega arith, ap p (sym e) ∙ passing-each p (INDEX_LIMIT - a) a c.0 i c.1)
+
+passing-length : (p : ℕ → Bool) (n a : ℕ) → length (passing p a n) ≤ n
+unfolding passing
+passing-length p zero a = omega arith
+passing-length p (suc n) a =
+    let rest = passing-length p n (suc a) in
+    elim (p a) as (λ b. length (cond b (a ∷ passing p (suc a) n) (passing p (suc a) n)) ≤ suc n) [
+      | true ↦ omega arith
+      | false ↦ omega arith
+    ]
+
+-- there are no more of them than indices
+pub left-length : (p : ℕ → Bool) (a : ℕ) → length (left p a) ≤ INDEX_LIMIT
+unfolding left
+left-length p a = let h = passing-length p (INDEX_LIMIT - a) a in omega arith

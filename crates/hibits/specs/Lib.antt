@@ -8,4 +8,5 @@ pub mod Views
 pub mod Walking
 pub mod Walks
 pub mod WalkOf
+pub mod Words
 pub mod Lasting

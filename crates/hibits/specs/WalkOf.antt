@@ -30,3 +30,15 @@ words_read w = w.reads
 -- how much of the layers is still to be walked
 abbrev pub steps_left : Walk → ℕ
 steps_left w = left_in (from_of w) LAYERS
+
+-- ---- a walk that takes whole words
+
+-- the walk is between two words of layer 0
+pub record IsWordWalkOf (has : ℕ → ℕ → Bool) (cost : ℕ) (w : Walk) : Type 0 where
+  pub walk : IsWalkOf has cost w
+  pub none : w.word0 ≡ 0
+  pub whole : w.from ≡ 64 * (w.from / 64)
+
+-- the place of the first word of layer 0 that isn't walked
+abbrev pub next_place : Walk → ℕ
+next_place w = w.from / 64

@@ -241,6 +241,7 @@ impl BitSet {
     pub fn sized(&self)
         ensures { set.len self.now.members ≡ length (left (λ i. set.contains self.now.members i) 0) }
     {
+        // A look at a field tells the proof what a set keeps.
         let _row = &self.layer0;
     }
 

@@ -12,6 +12,8 @@ mod reads;
 mod rows;
 mod views;
 mod walk;
+mod word_indices;
+mod word_iter;
 
 pub use bit_iter::BitIter;
 pub use bit_set::BitSet;
@@ -22,3 +24,5 @@ pub use mask_expr::MaskExpr;
 pub use reads::Reads;
 pub use views::{BitSetAll, BitSetAnd, BitSetNot, BitSetOr, BitSetXor};
 pub use walk::Walk;
+pub use word_indices::WordIndices;
+pub use word_iter::WordIter;

@@ -3,7 +3,8 @@ ghost use Rattle.std.specs.Prelude.{◌≡◌, ℕ, ◌+◌, ◌-◌, ◌*◌, �
 ghost use Rattle.std.specs.Int.{trailing_zeros, bit_at, w64};
 ghost use Rattle.hibits.specs.Walks.{IsNext};
 ghost use Rattle.hibits.specs.Left.{left};
-ghost use Rattle.hibits.specs.WalkOf.{IsWalkOf, position, steps_left, words_read};
+ghost use Rattle.hibits.specs.WalkOf.{IsWalkOf, IsWordWalkOf, next_place, position, steps_left, words_read};
+ghost use Rattle.hibits.specs.Words.{IsNextWord};
 
 use crate::layers::Layers;
 use crate::limits::{INDEX_LIMIT, Index, LAYERS};
@@ -69,6 +70,15 @@ impl Walk {
         ensures position { position result ≡ 0 }
         ensures reads { words_read result ≡ min (M.cost mask.now) (2 ^ 64 - 1) }
     {
+        Walk::by_words(mask)
+    }
+
+    /// The same, as a walk that takes whole words.
+    pub(crate) fn by_words<M: Layers>(mask: &M) -> Self
+        ensures walk { IsWordWalkOf (M.has mask.now) (M.cost mask.now) result }
+        ensures position { position result ≡ 0 }
+        ensures reads { words_read result ≡ min (M.cost mask.now) (2 ^ 64 - 1) }
+    {
         let mut reads = Reads::new();
         let top = mask.word(LAYERS - 1, 0, &mut reads);
         Walk {
@@ -106,6 +116,27 @@ impl Walk {
         self.word0 &= self.word0 - 1;
         self.from = index + 1;
         Some(index)
+    }
+
+    /// The next word of layer 0 that is not 0, with its place before it, where the walk is between two words. It takes the whole word.
+    #[inline(always)]
+    pub(crate) fn next_word<M: Layers>(&mut self, mask: &M) -> Option<(u32, u64)>
+        requires { IsWordWalkOf (M.has mask.now) (M.cost mask.now) self.old }
+        ensures walk { IsWordWalkOf (M.has mask.now) (M.cost mask.now) self.new }
+        ensures reads { words_read self.old ≤ words_read self.new }
+        ensures next { IfSome result (λ r. IsNextWord (M.has mask.now 0) (next_place self.old) r.0 r.1) }
+        ensures after { IfSome result (λ r. position self.new ≡ 64 * (r.0 + 1)) }
+        ensures below { IfSome result (λ r. r.0 < 64 ^ (LAYERS - 1)) }
+        ensures end { IfNone result ((i : ℕ) → position self.old ≤ i → i < INDEX_LIMIT → M.has mask.now 0 i ≡ true → ⊥) }
+        ensures stays { IfNone result (position self.new ≡ position self.old) }
+    {
+        if !self.fill0(mask) {
+            return None;
+        }
+        let word = self.word0;
+        self.word0 = 0;
+        self.from = self.end0;
+        Some((self.end0 / 64 - 1, word))
     }
 
     /// Goes on to a word of layer 0 that has something left, or says that there is none.

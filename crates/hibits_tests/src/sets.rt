@@ -25,6 +25,8 @@ fn set_of(alloc: Global, members: &[Index]) -> Result<BitSet, SetError> {
 enum Story<'a> {
     /// A walk over both gives these indices, for which so many words are read.
     WordsAreRead(&'a [Index], u64),
+    /// A walk over both by words gives these, for which so many words are read.
+    Words(&'a [(u32, u64)], u64),
     CallsAreCounted,
     Views,
     Complement,
@@ -41,6 +43,7 @@ fn tell<R: Abort>(
 ) -> Result<(), AllocError> {
     match story {
         Story::WordsAreRead(both, reads) => words_are_read(rt, a & b, both, reads),
+        Story::Words(words, reads) => words_are_given(rt, a & b, words, reads),
         Story::CallsAreCounted => calls_are_counted(rt, a, b),
         Story::Views => are_shown(rt, alloc, a, b)?,
         Story::Trees => is_tree(rt, alloc, &outside(alloc, a, b)?)?,
@@ -74,11 +77,66 @@ fn words_are_read<R: Abort, M: Layers + Drop>(rt: &R, view: M, members: &[Index]
 
 #[test]
 fn walks_count_words(rt: HostRuntime) -> Result<(), Fail> {
-    let both: &[Index] = &[64, 16777215];
+    let both: &[Index] = &[64, INDEX_LIMIT - 1];
     let story = Story::WordsAreRead(both, 14);
-    told(&rt, rt.alloc(), &[1, 64, 4096, 16777215], both, story)?;
+    told(
+        &rt,
+        rt.alloc(),
+        &[1, 64, 4096, INDEX_LIMIT - 1],
+        both,
+        story,
+    )?;
     told(&rt, rt.alloc(), &[0], &[1], Story::WordsAreRead(&[], 8))?;
     told(&rt, rt.alloc(), &[], &[], Story::WordsAreRead(&[], 2))
+}
+
+/// A walk by words over a view gives these, each with its place, for which so many words are read.
+fn words_are_given<R: Abort, M: Layers + Drop>(rt: &R, view: M, words: &[(u32, u64)], reads: u64) {
+    let mut walk = WordIter::new(view);
+    for word in words {
+        equal!(rt; walk.next(), Some(*word));
+    }
+    equal!(rt; walk.next(), None);
+    equal!(rt; walk.next(), None);
+    equal!(rt; walk.reads(), reads);
+}
+
+#[test]
+fn words_are_walked_with_their_places(rt: HostRuntime) -> Result<(), Fail> {
+    let ends: &[Index] = &[0, 63, 64, 4096, 16777215];
+    let words: &[(u32, u64)] = &[
+        (0, 9223372036854775809),
+        (1, 1),
+        (64, 1),
+        (262143, 9223372036854775808),
+    ];
+    told(&rt, rt.alloc(), ends, ends, Story::Words(words, 20))?;
+    told(
+        &rt,
+        rt.alloc(),
+        &[0, 65],
+        &[1, 65],
+        Story::Words(&[(1, 2)], 10),
+    )?;
+    told(&rt, rt.alloc(), &[], &[], Story::Words(&[], 2))
+}
+
+/// A word at a place stands for these indices, so many.
+fn stands_for<R: Abort>(rt: &R, place: u32, word: u64, indices: &[Index], count: u32) {
+    let mut rest = WordIndices::new(place & 0xff, word);
+    equal!(rt; rest.count(), count);
+    for id in indices {
+        equal!(rt; rest.next(), Some(*id));
+    }
+    equal!(rt; rest.next(), None);
+    equal!(rt; rest.count(), 0);
+}
+
+#[test]
+fn words_stand_for_their_indices(rt: HostRuntime) -> Result<(), Fail> {
+    stands_for(&rt, 2, 9223372036854775813, &[128, 130, 191], 3);
+    stands_for(&rt, 0, 0, &[], 0);
+    Ok(())
 }
 
 fn add(set: &mut BitSet, id: Index) -> Result<bool, SetError> {
@@ -105,23 +163,23 @@ fn refused(alloc: Global, max: Index) -> Option<SetError> {
 }
 
 fn is_added_to<R: Abort>(rt: &R, set: &mut BitSet) {
-    equal!(rt; add(set, 16777215), Ok(false));
-    equal!(rt; add(set, 16777215), Ok(true));
-    equal!(rt; add(set, 16777216), Err(SetError::IndexLimit));
+    equal!(rt; add(set, INDEX_LIMIT - 1), Ok(false));
+    equal!(rt; add(set, INDEX_LIMIT - 1), Ok(true));
+    equal!(rt; add(set, INDEX_LIMIT), Err(SetError::IndexLimit));
     equal!(rt; set.count(), 1);
-    equal!(rt; first_from(set, 0), Some(16777215));
+    equal!(rt; first_from(set, 0), Some(INDEX_LIMIT - 1));
     equal!(rt; reserve_for(set, 7), Ok(()));
-    equal!(rt; reserve_for(set, 16777216), Err(SetError::IndexLimit));
+    equal!(rt; reserve_for(set, INDEX_LIMIT), Err(SetError::IndexLimit));
 }
 
 #[test]
 fn adds(rt: HostRuntime) -> Result<(), Fail> {
     let mut set = BitSet::new(rt.alloc());
     is_added_to(&rt, &mut set);
-    for max in [0, 1, 64, 4097, 16777215, 16777216] {
+    for max in [0, 1, 64, 4097, INDEX_LIMIT - 1, INDEX_LIMIT] {
         equal!(&rt; added_to_roomy(rt.alloc(), max, 4097), Ok(false));
     }
-    equal!(&rt; refused(rt.alloc(), 16777217), Some(SetError::IndexLimit));
+    equal!(&rt; refused(rt.alloc(), INDEX_LIMIT + 1), Some(SetError::IndexLimit));
     Ok(())
 }
 
@@ -169,18 +227,18 @@ fn calls_are_counted<R: Abort>(rt: &R, first: &BitSet, second: &BitSet) {
         set: second,
         calls: Cell::new(0),
     };
-    words_are_read(rt, BitSetAnd(&a, &b), &[64, 16777215], 14);
+    words_are_read(rt, BitSetAnd(&a, &b), &[64, INDEX_LIMIT - 1], 14);
     equal!(rt; a.calls.get(), 7);
     equal!(rt; b.calls.get(), 7);
 }
 
 #[test]
 fn every_call_is_counted(rt: HostRuntime) -> Result<(), Fail> {
-    let both: &[Index] = &[64, 16777215];
+    let both: &[Index] = &[64, INDEX_LIMIT - 1];
     told(
         &rt,
         rt.alloc(),
-        &[1, 64, 4096, 16777215],
+        &[1, 64, 4096, INDEX_LIMIT - 1],
         both,
         Story::CallsAreCounted,
     )

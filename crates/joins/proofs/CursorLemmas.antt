@@ -1,5 +1,5 @@
 -- Walks of cursors over storages.
-use Rattle.std.proofs.Common.{◌≡◌, ℕ, Bool, ◌&&◌, ◌≤◌, ◌<◌, ◌+◌, ◌-◌, ◌^◌, true, List, ◌∷◌, zero, suc, nat_eq, arith, refl, sym, ap, subst, ◌∙◌}
+use Rattle.std.proofs.Common.{◌≡◌, ℕ, Bool, ◌&&◌, ◌≤◌, ◌<◌, ◌+◌, ◌-◌, true, List, ◌∷◌, zero, suc, nat_eq, arith, refl, sym, ap, subst, ◌∙◌}
 use Rattle.std.proofs.Math.Path.{fun_ext}
 use Rattle.std.proofs.lemmas.Bool.{lt-ltb, and_parts, false≢true}
 use Rattle.std.specs.Prelude.{◌↔◌, IfNone, cond, Option, Some, None, IfSome, is_some, false, ◌||◌, Result, Ok, Err, IfErr}
@@ -98,7 +98,7 @@ and_true false = refl
 
 -- all that is below the limit
 pub left_of_all : (p : ℕ → Bool) → left (λ i. p i && everywhere 0 i) 0 ≡ left p 0
-left_of_all p = left_same _ _ 0 (λ i _ lt. let b : everywhere 0 i ≡ true = lt-ltb i (64 ^ 4) (omega (arith, lt)) in ap (λ c. p i && c) b ∙ and_true (p i))
+left_of_all p = left_same _ _ 0 (λ i _ lt. let b : everywhere 0 i ≡ true = lt-ltb i INDEX_LIMIT (omega (arith, lt)) in ap (λ c. p i && c) b ∙ and_true (p i))
 
 -- ---- the living
 pub either_lives : (a b : set.FinSet nat_cmp) (c : Census) → ((i : ℕ) → set.contains a i ≡ (population c).merged i) → ((i : ℕ) → set.contains b i ≡ (population c).pending i) → (i : ℕ) → (has_part a 0 i || has_part b 0 i) ≡ lives (population c) i

@@ -1,11 +1,11 @@
 -- Calls of a closure on components that are taken out.
-use Rattle.std.proofs.Common.{◌≡◌, ℕ, ◌++◌, List, [], ◌∷◌, Some, refl, sym, ◌∙◌, ap, subst}
+use Rattle.std.proofs.Common.{◌≡◌, ℕ, ◌++◌, List, [], ◌∷◌, refl, sym, ◌∙◌, ap, subst}
 use Rattle.std.specs.List.{Contains}
 use Rattle.std.specs.List.Sorted.{IsStrictlyIncreasing}
 use Rattle.std.specs.FinMap as map
 use Rattle.std.specs.Ordering.{nat_cmp}
 use Rattle.storages.specs.Finds.{got_left}
-use Rattle.storages.specs.Slot.{Slot, Takes, IsSame}
+use Rattle.storages.specs.Slot.{Slot, IsSame}
 use Rattle.joins.specs.Each.{each_gone}
 use Rattle.joins.specs.Taking.{TakenAt, TakenAtEach, TakingStopped}
 use Rattle.joins.proofs.CallLemmas.{contains_behind, first_once}

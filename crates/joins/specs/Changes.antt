@@ -1,7 +1,8 @@
 -- What added values make of a change set.
-use Rattle.std.specs.Prelude.{◌≡◌, ◌↔◌, ◌≤◌, ◌^◌, ℕ, Option, Some, None, List, [], ◌∷◌, ◌++◌}
+use Rattle.std.specs.Prelude.{◌≡◌, ◌↔◌, ◌≤◌, ℕ, Option, Some, None, List, [], ◌∷◌, ◌++◌}
 use Rattle.std.specs.Ordering.{nat_cmp}
 use Rattle.std.specs.FinMap as map
+use Rattle.hibits.specs.declared.limits.TheConstants.{INDEX_LIMIT}
 use Rattle.entities.specs.declared.entity.Entity.{Entity}
 use Rattle.entities.specs.Population.{index_of}
 use Rattle.joins.specs.declared.change_set.ChangeError.{ChangeError}
@@ -33,7 +34,7 @@ module _ {T : Type 0} where
   -- a value was not added to m, for this reason
   pub record IsRefused (may_refuse : T → T → Type 0) (m : map.FinMap nat_cmp T) (c : Entity × T) (e : ChangeError) : Type 0 where
     pub refused : e ≡ Refused → value_at m (index_of c.0) (λ x. may_refuse x c.1)
-    pub limit : (e ≡ IndexLimit) ↔ (2 ^ 24 ≤ index_of c.0)
+    pub limit : (e ≡ IndexLimit) ↔ (INDEX_LIMIT ≤ index_of c.0)
     pub memory : e ≡ OutOfMemory → map.get m (index_of c.0) ≡ None
 
   -- the values of a list up to one that was refused were added to m

@@ -1,5 +1,5 @@
 //! Values that were added to entities, until someone applies them.
-ghost use Rattle.std.specs.Prelude.{◌≡◌, ◌↔◌, ◌≤◌, ◌^◌, ℕ, None, Some, Err, option_copied, IsSome, IfSome, IfNone, OnOk, OnErr, IfOk, IfErr};
+ghost use Rattle.std.specs.Prelude.{◌≡◌, ◌↔◌, ◌≤◌, ℕ, None, Some, Err, option_copied, IsSome, IfSome, IfNone, OnOk, OnErr, IfOk, IfErr};
 ghost use Rattle.std.specs.Borrow.{sem};
 ghost use Rattle.std.specs.FinMap as map;
 ghost use Rattle.std.specs.FinSet as set;
@@ -12,7 +12,7 @@ use entities::Entity;
 use hibits::{BitSet, INDEX_LIMIT, Index};
 use std::alloc::{AllocError, Global};
 use std::marker::Model;
-use storages::{Component, DenseVecStorage, MaskedStorage};
+use storages::{Component, MaskedStorage, TryDefault, UnprotectedStorage, VecStorage};
 
 /// Why a value was not added. The change set is as before.
 #[derive(Clone, Copy, Debug, PartialEq, Eq, thiserror::Error)]
@@ -20,7 +20,7 @@ pub enum ChangeError {
     /// The value that is there refused to take the new one in.
     #[error("the value refuses to combine with another")]
     Refused,
-    /// The entity's index is not below the limit of 16,777,216.
+    /// The entity's index is not below `INDEX_LIMIT`.
     #[error("the index is not below the limit")]
     IndexLimit,
     /// Memory was refused for the entity's first value.
@@ -35,10 +35,14 @@ pub struct Change<T> {
 }
 
 impl<T: Drop> Component for Change<T> {
-    type Storage = DenseVecStorage<Self>;
+    type Storage = VecStorage<Self>;
 }
 
 /// For each entity's index the values that were added there, combined in the order of the calls. Only the index of an entity counts.
+///
+/// Each value lies at the place of its index, so that an addition to one that is there is one look, and a join reads them in order. It takes the
+/// room of an `Option` of a value (16 bytes for a number of 64 bits) for each index up to the greatest that had one since it was last cleared,
+/// and as it grows up to four times that.
 ///
 /// Contracts see it as a finite map from indices to values. Ports `specs::changeset::ChangeSet`.
 pub struct ChangeSet<T: Drop> {
@@ -75,8 +79,11 @@ impl<T: Combine + Drop> ChangeSet<T> {
     pub fn new(alloc: Global) -> Self
         ensures { result ≡ map.empty }
     {
+        let Ok(values) = VecStorage::try_default(alloc) else {
+            unreachable!()
+        };
         ChangeSet {
-            changes: MaskedStorage::new(alloc, DenseVecStorage::new(alloc)),
+            changes: MaskedStorage::new(alloc, values),
         }
     }
 
@@ -86,14 +93,14 @@ impl<T: Combine + Drop> ChangeSet<T> {
         ensures ok { OnOk result (self.new ≡ with_change T.combined self.old (index_of entity) value) }
         ensures err { OnErr result (self.new ≡ self.old) }
         ensures refused { (result ≡ Err ChangeError.Refused) → value_at self.old (index_of entity) (λ x. T.may_refuse x value) }
-        ensures limit { (result ≡ Err ChangeError.IndexLimit) ↔ (2 ^ 24 ≤ index_of entity) }
+        ensures limit { (result ≡ Err ChangeError.IndexLimit) ↔ (INDEX_LIMIT ≤ index_of entity) }
         ensures memory { (result ≡ Err ChangeError.OutOfMemory) → map.get self.old (index_of entity) ≡ None }
     {
         let id = entity.id();
         if id >= INDEX_LIMIT {
             return Err(ChangeError::IndexLimit);
         }
-        if self.changes.contains(id) {
+        if is_there(&self.changes, id) {
             return self.combine_at(id, value);
         }
         match self.changes.insert(id, Change { value }) {
@@ -153,7 +160,7 @@ impl<T: Combine + Drop> ChangeSet<T> {
 
     // The indices that have a value, and the values, apart.
     #[inline(always)]
-    pub(crate) fn into_parts(self) -> (BitSet, DenseVecStorage<Change<T>>)
+    pub(crate) fn into_parts(self) -> (BitSet, VecStorage<Change<T>>)
         ensures mask { (q : ℕ) → set.contains result.0.members q ≡ map.contains_key self q }
         ensures values { (q : ℕ) → value_given result.1 q ≡ map.get self q }
     {
@@ -167,10 +174,7 @@ impl<T: Combine + Drop> ChangeSet<T> {
         requires { IsSome (map.get self.now id) }
         ensures { map.get self.now id ≡ Some result.now }
     {
-        let Some(change) = self.changes.get(id) else {
-            unreachable!()
-        };
-        &change.value
+        &self.changes.unprotected_storage().get(id).value
     }
 
     /// The value of an index.
@@ -205,5 +209,16 @@ impl<T: Combine + Drop> ChangeSet<T> {
             Ok(()) => {}
             Err(_) => unreachable!(),
         }
+    }
+}
+
+// Whether there is a value at an index. Its place tells, so the mask is not asked.
+#[inline(always)]
+fn is_there<T: Drop>(changes: &MaskedStorage<Change<T>>, id: Index) -> bool
+    ensures { result ≡ map.contains_key changes.now.map id }
+{
+    match changes.as_slice().get(id as usize) {
+        Some(place) => place.is_some(),
+        None => false,
     }
 }

@@ -8,12 +8,12 @@ use crate::change_set::{Change, ChangeSet};
 use crate::combine::Combine;
 use crate::join::Join;
 use hibits::{BitSet, Index};
-use storages::{DenseVecStorage, UnprotectedStorage};
+use storages::{UnprotectedStorage, VecStorage};
 
 impl<T: Combine + Drop> Join for ChangeSet<T> {
     type Type = T;
 
-    type Value = DenseVecStorage<Change<T>>;
+    type Value = VecStorage<Change<T>>;
 
     type Mask = BitSet;
 
@@ -30,14 +30,14 @@ impl<T: Combine + Drop> Join for ChangeSet<T> {
     ghost value_gives = { λ v i r. value_given v i ≡ Some r };
 
     #[inline(always)]
-    fn open(self) -> (BitSet, DenseVecStorage<Change<T>>) {
+    fn open(self) -> (BitSet, VecStorage<Change<T>>) {
         let (mask, changes) = self.into_parts();
         mask.sized();
         (mask, changes)
     }
 
     #[inline(always)]
-    fn get(changes: &mut DenseVecStorage<Change<T>>, id: Index) -> T {
+    fn get(changes: &mut VecStorage<Change<T>>, id: Index) -> T {
         match changes.remove(id) {
             Ok(change) => change.value,
             Err(_) => unreachable!(),

@@ -56,7 +56,7 @@ pub trait Join: Sized {
         ensures again_gives { repeats ≡ true → (i : ℕ) (r : Self.Type) → value_gives value.new i r → value_gives value.old i r };
 
     /// Whether it has every index, as what may be there has. A walk over such joins alone, without one that has fewer, takes all the
-    /// indices below the limit: 16,777,216 steps.
+    /// indices: `INDEX_LIMIT` steps.
     fn is_unconstrained() -> bool
         ensures may { result ≡ unconstrained }
         ensures all { result ≡ true → (j : Self) (i : ℕ) → i < INDEX_LIMIT → has j i ≡ true };

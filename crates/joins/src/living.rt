@@ -1,8 +1,9 @@
 //! Entities, and what has no component, as joins.
-ghost use Rattle.std.specs.Prelude.{◌≡◌, ℕ, ◌<◌, true, false, not, nat_lt, ◌&&◌, ◌||◌, ◌^◌, ◌+◌, length};
+ghost use Rattle.std.specs.Prelude.{◌≡◌, ℕ, ◌<◌, true, false, not, nat_lt, ◌&&◌, ◌||◌, ◌+◌, length};
 ghost use Rattle.std.specs.Borrow.{Bor};
 ghost use Rattle.std.specs.FinSet as set;
 ghost use Rattle.hibits.specs.Left.{left};
+ghost use Rattle.hibits.specs.declared.limits.TheConstants.{INDEX_LIMIT};
 ghost use Rattle.entities.specs.Census.{Census, population};
 ghost use Rattle.entities.specs.Population.{index_of, generation_of, generation_now};
 ghost use Rattle.storages.specs.Life.{is_alive};
@@ -72,11 +73,11 @@ impl<'a> Join for AntiStorage<'a> {
 
     type Mask = BitSetNot<&'a BitSet>;
 
-    ghost has = { λ j i. nat_lt i (64 ^ 4) && not (set.contains j.0.now.members i) };
+    ghost has = { λ j i. nat_lt i INDEX_LIMIT && not (set.contains j.0.now.members i) };
 
     ghost cost = { λ _. 1 };
 
-    ghost most = { λ _. 64 ^ 4 };
+    ghost most = { λ _. INDEX_LIMIT };
 
     ghost repeats = { true };
 
@@ -100,7 +101,7 @@ impl<'a> Join for AntiStorage<'a> {
     #[inline(always)]
     fn is_unconstrained() -> bool
         ensures may { result ≡ false }
-        ensures all { result ≡ true → (j : Anti) (i : ℕ) → i < INDEX_LIMIT → (nat_lt i (64 ^ 4) && not (set.contains j.0.now.members i)) ≡ true }
+        ensures all { result ≡ true → (j : Anti) (i : ℕ) → i < INDEX_LIMIT → (nat_lt i INDEX_LIMIT && not (set.contains j.0.now.members i)) ≡ true }
     {
         false
     }

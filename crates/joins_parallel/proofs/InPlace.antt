@@ -1,15 +1,19 @@
 -- On components that are changed in their places.
-use Rattle.std.proofs.Common.{◌≡◌, ◌≢◌, ℕ, ◌+◌, ◌<◌, ◌≤◌, ◌++◌, Bool, true, false, cond, List, [], ◌∷◌, length, take, drop, Some, None, zero, suc, refl, sym, ◌∙◌, arith, inl, inr, ap, slice_get, slice_index_or, is_some}
+use Rattle.std.proofs.Common.{◌≡◌, ℕ, ◌+◌, ◌-◌, ◌*◌, ◌/◌, ◌%◌, ◌^◌, ◌<◌, ◌≤◌, ◌++◌, ◌==◌, get_or, replicate, length-append, length-take, Bool, true, false, cond, List, [], ◌∷◌, length, take, drop, Some, None, zero, suc, refl, sym, ◌∙◌, arith, inl, inr, ap, slice_get, slice_index_or, is_some}
 use Rattle.std.specs.Prelude.{Option, IsSome, ◌&&◌}
 use Rattle.std.proofs.Math.Seq.{take-length}
 use Rattle.std.specs.FinMap as map
-use Rattle.std.proofs.lemmas.Bool.{cases_lt, cases_eq, true≢false}
+use Rattle.std.proofs.lemmas.Bool.{cases_lt, true≢false}
 use Rattle.std.specs.Borrow.{MutBor}
-use Rattle.std.specs.FinSet as set
-use Rattle.std.specs.Ordering.{nat_cmp}
-use Rattle.hibits.specs.declared.limits.TheConstants.{INDEX_LIMIT}
-use Rattle.hibits.specs.Members.{IsAdded}
-use Rattle.hibits.specs.Walks.{IsNext}
+use Rattle.std.specs.Int.{bit_at}
+use Rattle.std.proofs.lemmas.Nat.Bits.{bit_at-zero}
+use Rattle.std.proofs.lemmas.List.{get_or_past, take_all, length-replicate}
+use Rattle.std.proofs.lemmas.Grind.{common_steps}
+use Rattle.hibits.specs.declared.limits.TheConstants.{LAYERS, INDEX_LIMIT}
+use Rattle.hibits.specs.Rows.{row_bit}
+use Rattle.std.specs.List.{Contains}
+use Rattle.hibits.specs.Left.{left, left-contains}
+use Rattle.hibits.specs.Words.{IsNextWord, words_from, words_none}
 use Rattle.storages.specs.Slot.{Slot}
 use Rattle.storages.specs.SliceLends.{left_as, with_slice}
 use Rattle.joins_parallel.specs.InPlace.{MayLeave, ChangedAt, OnlyChanges}
@@ -28,52 +32,91 @@ same_call gives leaves i x x' y y' e f m = record {
   left = m.left ∙ f;
 }
 
--- the members that a walk has passed are in the set, and no other
-pub record HasPassed (s : set.FinSet nat_cmp) (has : ℕ → Bool) (from : ℕ) : Type 0 where
-  pub past : (q : ℕ) → q < from → set.contains s q ≡ has q
-  pub ahead : (q : ℕ) → from ≤ q → set.contains s q ≡ false
-  pub limit : from ≤ INDEX_LIMIT
-
--- nothing is passed at the start
-pub passed_none : (s : set.FinSet nat_cmp) (has : ℕ → Bool) (from : ℕ) → from ≡ 0 → ((q : ℕ) → set.contains s q ≡ false) → HasPassed s has from
-passed_none s has from e none = record { past = λ q lt. absurd (omega (arith, lt, e)); ahead = λ q _. none q; limit = omega (arith, e) }
+-- the words that a walk has passed stand at their places, and nothing behind them
+pub record IsRow (ws : List ℕ) (has : ℕ → Bool) (from : ℕ) : Type 0 where
+  pub past : (i : ℕ) → i < 64 * from → row_bit ws i ≡ has i
+  pub short : length ws ≤ from
+  pub limit : 64 * from ≤ INDEX_LIMIT
 
 not_true : (b : Bool) → (b ≡ true → ⊥) → b ≡ false
 not_true true n = absurd (n refl)
 not_true false n = refl
 
-module _ (s : set.FinSet nat_cmp) (has : ℕ → Bool) (from : ℕ) (w : HasPassed s has from) where
-  module _ (t : set.FinSet nat_cmp) (i : ℕ) (n : IsNext has from i) (a : IsAdded s i t) where
-    between : (q : ℕ) → q ≢ i → q < i → set.contains t q ≡ has q
-    between q ne lt =
-        elim (cases_lt q from) [
-          | inl before ↦ a.others q ne ∙ w.past q before
-          | inr after ↦ a.others q ne ∙ w.ahead q after ∙ sym (not_true (has q) (n.first q after lt))
+-- past the end no bit is set
+past_end : (ws : List ℕ) (i : ℕ) → length ws ≤ i / 64 → row_bit ws i ≡ false
+past_end ws i le = ap (λ (w : ℕ). bit_at w (i % 64) == 1) (get_or_past ws (i / 64) 0 le) ∙ ap (λ (n : ℕ). n == 1) (bit_at-zero (i % 64))
+
+one_if : (b : Bool) → (cond b 1 0 == 1) ≡ b
+one_if true = refl
+one_if false = refl
+
+-- where there is no member there is no word
+pub no_words : (p : ℕ → Bool) (from : ℕ) {r : ℕ × ℕ} {rest : List (ℕ × ℕ)} → left p 0 ≡ [] → words_from p from ≡ r ∷ rest → ⊥
+no_words p from none e =
+    let nothing = words_none p from (λ i ge lt is. let held : Contains (left p 0) i = left-contains p 0 i (omega arith) lt is in let h = rw none at held in let k = h.1 in omega (arith, k)) in
+    let not : _ ∷ _ ≡ [] = sym e ∙ nothing in
+    cc
+
+pub no_row : (has : ℕ → Bool) (from : ℕ) (ws : List ℕ) → from ≡ 0 → ws ≡ [] → IsRow ws has from
+no_row has from ws e none = record { past = λ i lt. absurd (omega (arith, lt, e)); short = let l = ap length none in omega (arith, l); limit = omega (arith, e) }
+
+module _ (ws : List ℕ) (has : ℕ → Bool) (from : ℕ) (w : IsRow ws has from) where
+  pub row_all : ((i : ℕ) → 64 * from ≤ i → i < INDEX_LIMIT → has i ≡ true → ⊥) → (i : ℕ) → i < INDEX_LIMIT → row_bit ws i ≡ has i
+  row_all none i lt =
+      elim (cases_lt i (64 * from)) [
+        | inl before ↦ w.past i before
+        | inr after ↦ past_end ws i (let s = w.short in omega (arith, after, s)) ∙ sym (not_true (has i) (none i after lt))
+      ]
+
+  pub row_below : (i : ℕ) → row_bit ws i ≡ true → i < INDEX_LIMIT
+  row_below i is =
+      elim (cases_lt i (64 * from)) [
+        | inl before ↦ let l = w.limit in omega (arith, before, l)
+        | inr after ↦ absurd (true≢false (sym is ∙ past_end ws i (let s = w.short in omega (arith, after, s))))
+      ]
+
+  -- the row behind zeros up to a place, with a word there
+  module _ (place word gap : ℕ) (next : IsNextWord has from place word) (below : place < 64 ^ (LAYERS - 1)) (gap_is : gap ≡ place - length ws) where
+    abbrev pub zeros : List ℕ
+    zeros = replicate gap 0
+
+    abbrev pub row : List ℕ
+    row = (take place ws ++ zeros) ++ word ∷ []
+
+    long : length (take place ws ++ zeros) ≡ place
+    long = let l = length-append (take place ws) zeros in let t = length-take place ws in let z = length-replicate {A = ℕ} gap 0 in let g = gap_is in let s = w.short in let f = next.from_on in omega (arith, l, t, z, g, s, f)
+
+    whole : take place ws ≡ ws
+    whole = let s = w.short in let f = next.from_on in take_all place ws (omega (arith, s, f))
+
+    at_old : (k : ℕ) → k < place → get_or row k 0 ≡ get_or ws k 0
+    at_old k lt = let l = long in let e = whole in let s = w.short in let g = gap_is in grind (arith, common_steps)
+
+    at_new : get_or row place 0 ≡ word
+    at_new = let l = long in grind (arith, common_steps)
+
+    -- no member lies between the words that were passed and this one
+    up_to : (i : ℕ) → i < 64 * place → row_bit ws i ≡ has i
+    up_to i lt =
+        elim (cases_lt i (64 * from)) [
+          | inl before ↦ w.past i before
+          | inr after ↦ past_end ws i (let s = w.short in omega (arith, after, s)) ∙ sym (not_true (has i) (next.none i after lt))
         ]
 
-    pub passed_next : i < INDEX_LIMIT → HasPassed t has (i + 1)
-    passed_next lt = record {
-      past = λ q below. elim (cases_eq q i) [
-        | inl same ↦ ap (set.contains t) same ∙ a.here ∙ sym (ap has same ∙ n.member)
-        | inr other ↦ between q other (omega (arith, below, other))
-      ];
-      ahead = λ q above. let f = n.from_on in a.others q (λ e. omega (arith, above, e)) ∙ w.ahead q (omega (arith, above, f));
-      limit = omega (arith, lt);
+    pub row_more : IsRow row has (place + 1)
+    row_more = record {
+      past = λ i lt.
+          elim (cases_lt i (64 * place)) [
+            | inl before ↦ ap (λ (n : ℕ). bit_at n (i % 64) == 1) (at_old (i / 64) (omega (arith, before))) ∙ up_to i before
+            | inr here ↦
+                let same : i / 64 ≡ place = omega (arith, lt, here) in
+                let sum : 64 * place + i % 64 ≡ i = omega (arith, lt, here) in
+                ap (λ (k : ℕ). bit_at (get_or row k 0) (i % 64) == 1) same ∙ ap (λ (n : ℕ). bit_at n (i % 64) == 1) at_new
+                ∙ ap (λ (b : ℕ). b == 1) (next.is_word.bits (i % 64) (omega arith)) ∙ one_if (has (64 * place + i % 64)) ∙ ap has sum
+          ];
+      short = let l = length-append (take place ws ++ zeros) (word ∷ []) in let e = long in omega (arith, l, e);
+      limit = omega (arith, below);
     }
-
-  pub passed_all : ((i : ℕ) → from ≤ i → i < INDEX_LIMIT → has i ≡ true → ⊥) → (q : ℕ) → q < INDEX_LIMIT → set.contains s q ≡ has q
-  passed_all none q lt =
-      elim (cases_lt q from) [
-        | inl before ↦ w.past q before
-        | inr after ↦ w.ahead q after ∙ sym (not_true (has q) (none q after lt))
-      ]
-
-  pub passed_below : (q : ℕ) → set.contains s q ≡ true → q < INDEX_LIMIT
-  passed_below q is =
-      elim (cases_lt q from) [
-        | inl before ↦ let l = w.limit in omega (arith, before, l)
-        | inr after ↦ absurd (true≢false (sym is ∙ w.ahead q after))
-      ]
 
 -- what stands at a place of a slice, once what was left there is in it
 pub left_at : {T : Type 0} (xs ys : List T) (i : ℕ) (x : T) → slice_get xs i ≡ Some x → slice_get (take (length xs) (ys ++ drop (length ys) xs)) i ≡ Some (slice_index_or ys i x)

@@ -1,4 +1,6 @@
+mod Asking
 mod Cuts
 mod Each
 mod Replacing
+mod Parts
 mod InPlace

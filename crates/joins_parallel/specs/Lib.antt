@@ -1,2 +1,4 @@
 pub mod Replacing
 pub mod InPlace
+pub mod Cutting
+pub mod Sharing

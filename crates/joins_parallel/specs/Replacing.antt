@@ -1,5 +1,5 @@
 -- Replacements of components, one after another.
-use Rattle.std.specs.Prelude.{◌≡◌, ℕ, ◌+◌, List, [], ◌∷◌, Option, Some, None, is_some, Bool, ◌&&◌}
+use Rattle.std.specs.Prelude.{◌≡◌, ℕ, ◌+◌, List, [], ◌∷◌, Option, Some, None, is_some, Bool, ◌&&◌, length}
 use Rattle.std.specs.List.{AllZip}
 use Rattle.std.specs.Borrow.{Bor}
 use Rattle.hibits.specs.Left.{left}
@@ -47,6 +47,41 @@ module _ {T : Type 0} where
     pub room : (n : ℕ) → HasRoom s.room (n + somes ys) → HasRoom s'.room n
     pub needs_inner : is_some s'.inner_room ≡ is_some s.inner_room
     pub inner_room : (n : ℕ) → HasRoom s.inner_room (n + somes ys) → HasRoom s'.inner_room n
+
+module _ {T : Type 0} where
+  -- a value with its index before it
+  abbrev pub at_index : ℕ → Option T → Option (ℕ × T)
+  at_index i None = None
+  at_index i (Some x) = Some (i, x)
+
+  -- the values that there are, each with its index before it
+  abbrev pub given : List ℕ → List (Option T) → List (ℕ × T)
+  given [] ys = []
+  given (i ∷ is) [] = []
+  given (i ∷ is) (None ∷ ys) = given is ys
+  given (i ∷ is) (Some x ∷ ys) = (i, x) ∷ given is ys
+
+  -- the map after each value was put at its index, in turn
+  abbrev pub put_each : List (ℕ × T) → map.FinMap nat_cmp T → map.FinMap nat_cmp T
+  put_each [] m = m
+  put_each (p ∷ ps) m = put_each ps (map.insert m p.0 p.1)
+
+  -- the channel after a modification of each index, in turn
+  abbrev pub told_each : List (ℕ × T) → Channel → Channel
+  told_each [] c = c
+  told_each (p ∷ ps) c = told_each ps (emitted (Modified p.0) c)
+
+  -- each value became the component of its index, by one replacement after another
+  pub record PutsEach (s s' : Slot T) (ps : List (ℕ × T)) : Type 0 where
+    pub keys : (q : ℕ) → map.contains_key s'.map q ≡ map.contains_key s.map q
+    pub map : s'.map ≡ put_each ps s.map
+    pub extent : s'.extent ≡ s.extent
+    pub order : s'.order ≡ s.order
+    pub channel : s'.channel ≡ told_each ps s.channel
+    pub needs_room : is_some s'.room ≡ is_some s.room
+    pub room : (n : ℕ) → HasRoom s.room (n + length ps) → HasRoom s'.room n
+    pub needs_inner : is_some s'.inner_room ≡ is_some s.inner_room
+    pub inner_room : (n : ℕ) → HasRoom s.inner_room (n + length ps) → HasRoom s'.inner_room n
 
 -- Each component at an index of a list, and what stands there beside it, was asked for a value, and each value that there was is the
 -- component now, by one replacement after another.

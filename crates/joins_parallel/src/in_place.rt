@@ -1,17 +1,18 @@
 //! Components that threads change in their places.
-ghost use Rattle.std.specs.Prelude.{◌≡◌, ◌<◌, ℕ, Some, true, false, List, length, slice_get, slice_index_or, refl, [], IfOk, IsOk, OnOk, OnErr};
+ghost use Rattle.std.specs.Prelude.{◌≡◌, ◌<◌, ℕ, Some, true, false, List, length, slice_get, slice_index_or, slice_index, refl, [], IfOk, IsOk, OnOk, OnErr};
 ghost use Rattle.std.specs.Borrow.{MutBor};
 ghost use Rattle.std.specs.FinMap as map;
-ghost use Rattle.std.specs.FinSet as set;
 ghost use Rattle.hibits.specs.Left.{left};
+ghost use Rattle.hibits.specs.Rows.{row_bit};
 ghost use Rattle.joins_parallel.specs.InPlace.{MayLeave, ChangedAt, OnlyChanges};
 ghost use Rattle.joins_parallel.specs.Replacing.{both_have};
 
 use crate::pieces::LEAST_SHARED;
-use hibits::{BitIter, BitSet, BitSetAnd, INDEX_LIMIT, Index, Layers};
+use crate::sharing::change_shared;
+use hibits::{BitSetAnd, INDEX_LIMIT, Index, Layers, WordIter};
 use joins::{Lookup, RepeatableJoin};
 use std::alloc::{Alloc, AllocError, Global};
-use std::thread::{Threads, for_each_mut};
+use std::thread::Threads;
 use storages::{Component, DefaultVecStorage, MaskedStorage, SliceAccessMut};
 
 /// A storage that has each component at its index's place of a slice. It has no method of its own.
@@ -23,20 +24,38 @@ impl<T: Default + Drop> Placed<T> for DefaultVecStorage<T> {
     ghost by_index = { λ order xs q. refl };
 }
 
-/// The members, as a set of its own.
-fn members_of<M: Layers + Drop>(alloc: Global, mask: M) -> Result<BitSet, AllocError>
-    ensures members { IfOk result (λ b. (i : ℕ) → i < INDEX_LIMIT → set.contains b.members i ≡ M.has mask 0 i) }
-    ensures below { IfOk result (λ b. (i : ℕ) → set.contains b.members i ≡ true → i < INDEX_LIMIT) }
+/// The words of a mask, each at its place, up to the last that is not 0.
+fn row_of<M: Layers + Drop>(alloc: Global, mask: M) -> Result<Vec<u64>, AllocError>
+    ensures members { IfOk result (λ v. (i : ℕ) → i < INDEX_LIMIT → row_bit v.items i ≡ M.has mask 0 i) }
+    ensures below { IfOk result (λ v. (i : ℕ) → row_bit v.items i ≡ true → i < INDEX_LIMIT) }
     ensures idle { left (M.has mask 0) 0 ≡ [] → IsOk result }
 {
-    let mut walk = BitIter::new(mask);
-    let mut members = BitSet::new(alloc);
-    while let Some(i) = walk.next() {
-        if members.add(i).is_err() {
-            return Err(AllocError);
-        }
+    let mut walk = WordIter::new(mask);
+    let mut row: Vec<u64> = Vec::new(alloc);
+    while let Some((place, word)) = walk.next() {
+        row.resize(place as usize, 0)?;
+        row.push(word)?;
     }
-    Ok(members)
+    Ok(row)
+}
+
+/// The word at a place, which is 0 past the end.
+#[inline(always)]
+fn word_at(row: &[u64], place: usize) -> u64
+    ensures { result ≡ slice_index row.now place }
+{
+    match row.get(place) {
+        Some(word) => *word,
+        None => 0,
+    }
+}
+
+/// Whether an index is a member by a row of words.
+#[inline(always)]
+fn is_member(row: &[u64], index: usize) -> bool
+    ensures { result ≡ row_bit row.now index }
+{
+    (word_at(row, index / 64) >> (index % 64)) & 1 == 1
 }
 
 /// Calls `f` with each place of a slice whose number is a member, and with what is looked up there, in so many threads at most.
@@ -44,36 +63,35 @@ fn change_each<T: Send, I, V: Lookup<I> + Sync, F: Fn(&mut T, I) + Sync>(
     rt: &(impl Threads + Sync),
     slice: &mut [T],
     threads: usize,
-    members: &BitSet,
+    members: &[u64],
     values: &V,
     f: &F,
 )
     requires threads { 0 < threads }
-    requires called { (i : ℕ) (x : MutBor T) (z : I) → i < length slice.old → set.contains members.now.members i ≡ true → x.now ≡ slice_index_or slice.old i x.now → V.finds values.now i z → F.pre f.now x z }
-    requires ready { (i : ℕ) → set.contains members.now.members i ≡ true → V.can_look values.now i ≡ true }
-    requires below { (i : ℕ) → set.contains members.now.members i ≡ true → i < INDEX_LIMIT }
-    ensures changed { (i : ℕ) (d : T) → i < length slice.old → set.contains members.now.members i ≡ true → MayLeave (V.finds values.now) (F.post f.now) i (slice_index_or slice.old i d) (slice_index_or slice.new i d) }
-    ensures others { (i : ℕ) (d : T) → i < length slice.old → set.contains members.now.members i ≡ false → slice_index_or slice.new i d ≡ slice_index_or slice.old i d }
+    requires called { (i : ℕ) (x : MutBor T) (z : I) → i < length slice.old → row_bit members.now i ≡ true → x.now ≡ slice_index_or slice.old i x.now → V.finds values.now i z → F.pre f.now x z }
+    requires ready { (i : ℕ) → row_bit members.now i ≡ true → V.can_look values.now i ≡ true }
+    requires below { (i : ℕ) → row_bit members.now i ≡ true → i < INDEX_LIMIT }
+    ensures changed { (i : ℕ) (d : T) → i < length slice.old → row_bit members.now i ≡ true → MayLeave (V.finds values.now) (F.post f.now) i (slice_index_or slice.old i d) (slice_index_or slice.new i d) }
+    ensures others { (i : ℕ) (d : T) → i < length slice.old → row_bit members.now i ≡ false → slice_index_or slice.new i d ≡ slice_index_or slice.old i d }
 {
     let change = |place: usize, component: &mut T|
-        requires { (set.contains members.now.members place ≡ true → (x : MutBor T) (z : I) → x.now ≡ component.now → V.finds values.now place z → F.pre f.now x z) × ((i : ℕ) → set.contains members.now.members i ≡ true → V.can_look values.now i ≡ true) × ((i : ℕ) → set.contains members.now.members i ≡ true → i < INDEX_LIMIT) }
-        ensures changed { set.contains members.entry.now.members place ≡ true → MayLeave (V.finds values.entry.now) (F.post f.entry.now) place component.entry.now component.exit.now }
-        ensures others { set.contains members.entry.now.members place ≡ false → component.exit.now ≡ component.entry.now }
+        requires { (row_bit members.now place ≡ true → (x : MutBor T) (z : I) → x.now ≡ component.now → V.finds values.now place z → F.pre f.now x z) × ((i : ℕ) → row_bit members.now i ≡ true → V.can_look values.now i ≡ true) × ((i : ℕ) → row_bit members.now i ≡ true → i < INDEX_LIMIT) }
+        ensures changed { row_bit members.entry.now place ≡ true → MayLeave (V.finds values.entry.now) (F.post f.entry.now) place component.entry.now component.exit.now }
+        ensures others { row_bit members.entry.now place ≡ false → component.exit.now ≡ component.entry.now }
     {
-        if let Ok(id) = Index::try_from(place) {
-            if members.contains(id) {
-                f(component, values.at(id));
-            }
+        if is_member(members, place) {
+            f(component, values.at(place as Index));
         }
     };
-    for_each_mut(rt, slice, threads, &change);
+    change_shared(rt, slice, threads, &change);
 }
 
-/// Calls `f` with a `&mut` to each component at the indices of a storage and of a join, and with the join's item, from as many threads as there
-/// are processors, below 2,048 places in the caller's. Each component is written in its place, so no answers are kept; the indices are collected
-/// first, and `f` is called with nothing else. Threads have to be started, so for little work a loop over a cursor is faster.
+/// Calls `f` with a `&mut` to each component at the indices of a storage and of a join, and with the join's item, in as many threads at a time as
+/// there are processors, below 4,096 places in the caller's. Each component is written in its place, so no answers are kept; the words of the
+/// join's mask are listed first, and `f` is called with nothing else. A thread that has much left shares it with a new one where another has done
+/// its part. Threads have to be started, so for little work a loop over a cursor is faster.
 ///
-/// After an error nothing has changed: memory was refused for the indices. Where the two share no index it is not refused. Stands for
+/// After an error nothing has changed: memory was refused for the words. Where the two share no index it is not refused. Stands for
 /// `rayon`'s `for_each` on `specs::join::ParJoin::par_join` over a storage to write to, for storages that have each component at its
 /// index's place.
 pub fn par_for_each<T: Component + Send, J: RepeatableJoin, F: Fn(&mut T, J::Type) + Sync + Drop>(
@@ -93,7 +111,7 @@ where
     ensures idle { both_have storage.old (J.has join) ≡ [] → IsOk result }
 {
     let (mask, values) = join.open();
-    let members = members_of(rt.alloc(), BitSetAnd(storage.mask(), mask))?;
+    let members = row_of(rt.alloc(), BitSetAnd(storage.mask(), mask))?;
     let slice = storage.as_mut_slice();
     let threads = if slice.len() < LEAST_SHARED {
         1

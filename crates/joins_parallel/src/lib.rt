@@ -1,10 +1,12 @@
 //! Joins that are mapped in several threads, and storages that are updated by what threads made.
 #![tactic(auto)]
 
+mod cut;
 mod in_place;
 mod map;
 mod pieces;
 mod restricted;
+mod sharing;
 mod update;
 
 pub use in_place::{Placed, par_for_each};

@@ -1,17 +1,18 @@
 //! Components that are replaced by what threads made of the storage, paired with each index.
-ghost use Rattle.std.specs.Prelude.{◌≡◌, ◌<◌, ℕ, true, false, [], IfOk, IsOk, OnOk, OnErr, Option, flat_map};
+ghost use Rattle.std.specs.Prelude.{◌≡◌, ◌<◌, ℕ, true, false, [], List, IfOk, IsOk, IsOkAnd, OnOk, OnErr, Option, flat_map};
 ghost use Rattle.std.specs.FinMap as map;
 ghost use Rattle.std.specs.List.{AllZip, All};
 ghost use Rattle.hibits.specs.Left.{left};
 ghost use Rattle.joins.specs.Indexed.{Indexed};
-ghost use Rattle.joins_parallel.specs.Replacing.{Remakes, RemadeAt, both_have};
+ghost use Rattle.joins_parallel.specs.Replacing.{Remakes, RemadeAt, both_have, given, at_index};
+ghost use Rattle.joins_parallel.specs.Cutting.{listed, is_at_words};
 ghost use Rattle.storages.specs.Slot.{IsSame};
 
-use crate::pieces::{LEAST_SHARED, indices, side_by_side};
-use crate::update::{count_values, write_all};
+use crate::cut::{Cut, cut_of};
+use crate::pieces::{ask_each, values_count};
+use crate::update::write_all;
 use hibits::{BitSetAnd, INDEX_LIMIT, Index};
 use joins::{IndexedStorage, Lookup, RepeatableJoin};
-use rayon::prelude::*;
 use std::alloc::{Alloc, AllocError, Global};
 use std::thread::Threads;
 use storages::{Component, MaskedStorage, UnprotectedStorage};
@@ -26,59 +27,33 @@ pub trait Remake<T: Component, I> {
         ensures { makes self.now paired.now item result };
 }
 
-/// What is made of the storage paired with each index of a part of a list, and of what is looked up there.
-fn remade_piece<T: Component + Drop, I, V: Lookup<I>, F: Remake<T, I>>(
-    alloc: Global,
-    part: &[Index],
-    storage: &MaskedStorage<T>,
-    values: &V,
-    f: &F,
-) -> Result<Vec<Option<T>>, AllocError>
-    requires present { All (λ i. map.contains_key storage.now.map i ≡ true) part.now }
-    requires ready { All (λ i. V.can_look values.now i ≡ true) part.now }
-    ensures made { IfOk result (λ v. AllZip (λ i y. (x : Indexed T) × (z : I) × (x.slot ≡ storage.now) × (x.index ≡ i) × V.finds values.now i z × F.makes f.now x z y) part.now v.items) }
-    ensures idle { part.now ≡ [] → IsOk result }
-{
-    let mut made = Vec::new(alloc);
-    made.reserve(part.len())?;
-    for i in part {
-        let paired = IndexedStorage::new(storage, *i);
-        made.push(f.remake(&paired, values.at(*i)))?;
-    }
-    Ok(made)
-}
-
-/// What is made of the storage paired with each index of a list, and of what is looked up there, by a piece for each processor.
+/// What is made of the storage paired with each index, and of what is looked up there, where anything is, with its index before it.
 fn remade_of<T: Component + Drop + Send + Sync, I, V: Lookup<I> + Sync, F: Remake<T, I> + Sync>(
     rt: &(impl Threads + Sync),
     alloc: Global,
-    list: &[Index],
+    cut: &Cut,
     storage: &MaskedStorage<T>,
     values: &V,
     f: &F,
-) -> Result<Vec<Option<T>>, AllocError>
+) -> Result<Vec<Vec<(Index, T)>>, AllocError>
 where
     T::Storage: Sync,
-    requires present { All (λ i. map.contains_key storage.now.map i ≡ true) list.now }
-    requires ready { All (λ i. V.can_look values.now i ≡ true) list.now }
-    ensures made { IfOk result (λ v. AllZip (λ i y. (x : Indexed T) × (z : I) × (x.slot ≡ storage.now) × (x.index ≡ i) × V.finds values.now i z × F.makes f.now x z y) list.now v.items) }
-    ensures idle { list.now ≡ [] → IsOk result }
+    requires present { All (λ i. map.contains_key storage.now.map i ≡ true) (listed cut.now) }
+    requires ready { All (λ i. V.can_look values.now i ≡ true) (listed cut.now) }
+    ensures made { IfOk result (λ v. (ys : List (Option T)) × AllZip (λ i y. (x : Indexed T) × (z : I) × (x.slot ≡ storage.now) × (x.index ≡ i) × V.finds values.now i z × F.makes f.now x z y) (listed cut.now) ys × (flat_map (λ w. w.items) v.items ≡ given (listed cut.now) ys)) }
+    ensures idle { is_at_words cut.now ≡ false → listed cut.now ≡ [] → IsOkAnd result (λ v. v.items ≡ []) }
 {
-    if list.len() < LEAST_SHARED {
-        return remade_piece(alloc, list, storage, values, f);
-    }
-    // Rounded down, as in `map_pieces`.
-    let size = (list.len() / rayon::current_num_threads(rt)).max(1);
-    let parts: Vec<Vec<Option<T>>> = list
-        .par_chunks(size)
-        .map(
-            |part: &[Index]| -> Result<Vec<Option<T>>, AllocError>
-                requires { All (λ i. map.contains_key storage.now.map i ≡ true) part.now × All (λ i. V.can_look values.now i ≡ true) part.now }
-                ensures { IfOk result (λ v. AllZip (λ i y. (x : Indexed T) × (z : I) × (x.slot ≡ storage.entry.now) × (x.index ≡ i) × V.finds values.entry.now i z × F.makes f.entry.now x z y) part.now v.items) }
-            { remade_piece(alloc, part, storage, values, f) },
-        )
-        .collect::<Result<Vec<Vec<Option<T>>>, AllocError>>(rt, alloc)??;
-    side_by_side(alloc, list.len(), parts)
+    let remake = |id: Index| -> Option<(Index, T)>
+        requires { (map.contains_key storage.now.map id ≡ true) × (V.can_look values.now id ≡ true) }
+        ensures { (y : Option T) × (x : Indexed T) × (z : I) × (x.slot ≡ storage.entry.now) × (x.index ≡ id) × V.finds values.entry.now id z × F.makes f.entry.now x z y × (result ≡ at_index id y) }
+    {
+        let paired = IndexedStorage::new(storage, id);
+        match f.remake(&paired, values.at(id)) {
+            Some(value) => Some((id, value)),
+            None => None,
+        }
+    };
+    ask_each(rt, alloc, cut, &remake)
 }
 
 /// As `par_update`, where `f` is given the storage paired with the index, to read. After an error nothing has changed. Stands for
@@ -104,9 +79,9 @@ where
 {
     let alloc = rt.alloc();
     let (mask, values) = join.open();
-    let list = indices(alloc, BitSetAnd(storage.mask(), mask))?;
-    let made = remade_of(rt, alloc, &list, storage, &values, &f)?;
-    storage.reserve_events(count_values(&made))?;
-    write_all(storage, &list, made);
+    let cut = cut_of(alloc, BitSetAnd(storage.mask(), mask))?;
+    let made = remade_of(rt, alloc, &cut, storage, &values, &f)?;
+    storage.reserve_events(values_count(&made))?;
+    write_all(storage, made);
     Ok(())
 }

@@ -1,5 +1,5 @@
 //! Components that are replaced by what threads made of them.
-ghost use Rattle.std.specs.Prelude.{◌≡◌, ◌<◌, ℕ, Some, true, false, length, [], IfOk, IsOk, OnOk, OnErr, IsSome, Option, flat_map};
+ghost use Rattle.std.specs.Prelude.{◌≡◌, ◌<◌, ◌≤◌, ◌^◌, ℕ, Some, None, true, false, length, List, [], IfOk, IsOk, IsOkAnd, OnOk, OnErr, IsSome, Option, flat_map};
 ghost use Rattle.std.specs.Borrow.{Bor};
 ghost use Rattle.std.specs.FinMap as map;
 ghost use Rattle.std.specs.List.{AllZip, All};
@@ -8,28 +8,16 @@ ghost use Rattle.storages.specs.declared.event.ComponentEvent.TheVariants.{Modif
 ghost use Rattle.storages.specs.declared.event.ComponentEvent.{ComponentEvent};
 ghost use Rattle.storages.specs.Meaning.{HasRoom};
 ghost use Rattle.storages.specs.Slot.{IsSame, Becomes};
-ghost use Rattle.joins_parallel.specs.Replacing.{Replaces, Updates, UpdatedAt, both_have, somes};
+ghost use Rattle.joins_parallel.specs.Cutting.{listed, is_at_words};
+ghost use Rattle.joins_parallel.specs.Replacing.{Updates, UpdatedAt, both_have, given, at_index, PutsEach};
 
-use crate::pieces::{LEAST_SHARED, indices, side_by_side};
+use crate::cut::{Cut, cut_of};
+use crate::pieces::{ask_each, values_count};
 use hibits::{BitSetAnd, INDEX_LIMIT, Index};
 use joins::{Lookup, RepeatableJoin};
-use rayon::prelude::*;
 use std::alloc::{Alloc, AllocError, Global};
 use std::thread::Threads;
 use storages::{Component, MaskedStorage, UnprotectedStorage};
-
-/// How many values there are.
-pub(crate) fn count_values<T>(made: &[Option<T>]) -> usize
-    ensures { result ≡ somes made.now }
-{
-    let mut count = 0;
-    for value in made {
-        if value.is_some() {
-            count += 1;
-        }
-    }
-    count
-}
 
 /// Puts a value at an index that has a component, in room that is there for the event.
 #[inline(always)]
@@ -49,55 +37,35 @@ pub(crate) fn replace<T: Component<Storage: UnprotectedStorage<T>> + Drop>(
     }
 }
 
-/// Puts each value at its index, in turn, in room that is there for the events.
+/// Puts each value of a list at its index, in turn, in room that is there for the events.
+fn write_part<T: Component<Storage: UnprotectedStorage<T>> + Drop>(
+    storage: &mut MaskedStorage<T>,
+    part: Vec<(Index, T)>,
+)
+    requires present { All (λ p. map.contains_key storage.old.map p.0 ≡ true) part.items }
+    requires room { HasRoom storage.old.room (length part.items) }
+    ensures { PutsEach storage.old storage.new part.items }
+{
+    for (id, value) in part {
+        replace(storage, id, value);
+    }
+}
+
+/// The same with lists side by side.
 pub(crate) fn write_all<T: Component<Storage: UnprotectedStorage<T>> + Drop>(
     storage: &mut MaskedStorage<T>,
-    list: &[Index],
-    made: Vec<Option<T>>,
+    parts: Vec<Vec<(Index, T)>>,
 )
-    requires lengths { length list.now ≡ length made.items }
-    requires present { All (λ i. map.contains_key storage.old.map i ≡ true) list.now }
-    requires room { HasRoom storage.old.room (somes made.items) }
-    ensures { Replaces storage.old storage.new list.now made.items }
+    requires present { All (λ p. map.contains_key storage.old.map p.0 ≡ true) (flat_map (λ w. w.items) parts.items) }
+    requires room { HasRoom storage.old.room (length (flat_map (λ w. w.items) parts.items)) }
+    ensures { PutsEach storage.old storage.new (flat_map (λ w. w.items) parts.items) }
 {
-    let mut place = 0;
-    for value in made {
-        let id = list[place];
-        if let Some(value) = value {
-            replace(storage, id, value);
-        }
-        place += 1;
+    for part in parts {
+        write_part(storage, part);
     }
 }
 
-/// What `f` makes of the component and of what is looked up, at each index of a part of a list.
-fn made_piece<
-    T: Component<Storage: UnprotectedStorage<T>> + Drop,
-    I,
-    V: Lookup<I>,
-    F: Fn(&T, I) -> Option<T>,
->(
-    alloc: Global,
-    part: &[Index],
-    storage: &MaskedStorage<T>,
-    values: &V,
-    f: &F,
-) -> Result<Vec<Option<T>>, AllocError>
-    requires called { All (λ i. (x : Bor T) (z : I) → map.get storage.now.map i ≡ Some x.now → V.finds values.now i z → F.pre f.now x z) part.now }
-    requires present { All (λ i. map.contains_key storage.now.map i ≡ true) part.now }
-    requires ready { All (λ i. V.can_look values.now i ≡ true) part.now }
-    ensures made { IfOk result (λ v. AllZip (λ i y. (x : Bor T) × (z : I) × (map.get storage.now.map i ≡ Some x.now) × V.finds values.now i z × F.post f.now x z y) part.now v.items) }
-    ensures idle { part.now ≡ [] → IsOk result }
-{
-    let mut made = Vec::new(alloc);
-    made.reserve(part.len())?;
-    for i in part {
-        made.push(f(storage.unprotected_storage().get(*i), values.at(*i)))?;
-    }
-    Ok(made)
-}
-
-/// What `f` makes of the component and of what is looked up, at each index of a list, by a piece for each processor.
+/// What `f` makes of the component and of what is looked up, at each index, where it makes anything, with its index before it.
 fn made_of<
     T: Component<Storage: UnprotectedStorage<T>> + Drop + Send + Sync,
     I,
@@ -106,40 +74,36 @@ fn made_of<
 >(
     rt: &(impl Threads + Sync),
     alloc: Global,
-    list: &[Index],
+    cut: &Cut,
     storage: &MaskedStorage<T>,
     values: &V,
     f: &F,
-) -> Result<Vec<Option<T>>, AllocError>
+) -> Result<Vec<Vec<(Index, T)>>, AllocError>
 where
     T::Storage: Sync,
-    requires called { All (λ i. (x : Bor T) (z : I) → map.get storage.now.map i ≡ Some x.now → V.finds values.now i z → F.pre f.now x z) list.now }
-    requires present { All (λ i. map.contains_key storage.now.map i ≡ true) list.now }
-    requires ready { All (λ i. V.can_look values.now i ≡ true) list.now }
-    ensures made { IfOk result (λ v. AllZip (λ i y. (x : Bor T) × (z : I) × (map.get storage.now.map i ≡ Some x.now) × V.finds values.now i z × F.post f.now x z y) list.now v.items) }
-    ensures idle { list.now ≡ [] → IsOk result }
+    requires called { All (λ i. (x : Bor T) (z : I) → map.get storage.now.map i ≡ Some x.now → V.finds values.now i z → F.pre f.now x z) (listed cut.now) }
+    requires present { All (λ i. map.contains_key storage.now.map i ≡ true) (listed cut.now) }
+    requires ready { All (λ i. V.can_look values.now i ≡ true) (listed cut.now) }
+    ensures made { IfOk result (λ v. (ys : List (Option T)) × AllZip (λ i y. (x : Bor T) × (z : I) × (map.get storage.now.map i ≡ Some x.now) × V.finds values.now i z × F.post f.now x z y) (listed cut.now) ys × (flat_map (λ w. w.items) v.items ≡ given (listed cut.now) ys)) }
+    ensures idle { is_at_words cut.now ≡ false → listed cut.now ≡ [] → IsOkAnd result (λ v. v.items ≡ []) }
 {
-    if list.len() < LEAST_SHARED {
-        return made_piece(alloc, list, storage, values, f);
-    }
-    // Rounded down, as in `map_pieces`.
-    let size = (list.len() / rayon::current_num_threads(rt)).max(1);
-    let parts: Vec<Vec<Option<T>>> = list
-        .par_chunks(size)
-        .map(
-            |part: &[Index]| -> Result<Vec<Option<T>>, AllocError>
-                requires { All (λ i. map.contains_key storage.now.map i ≡ true) part.now × All (λ i. V.can_look values.now i ≡ true) part.now × All (λ i. (x : Bor T) (z : I) → map.get storage.now.map i ≡ Some x.now → V.finds values.now i z → F.pre f.now x z) part.now }
-                ensures { IfOk result (λ v. AllZip (λ i y. (x : Bor T) × (z : I) × (map.get storage.entry.now.map i ≡ Some x.now) × V.finds values.entry.now i z × F.post f.entry.now x z y) part.now v.items) }
-            { made_piece(alloc, part, storage, values, f) },
-        )
-        .collect::<Result<Vec<Vec<Option<T>>>, AllocError>>(rt, alloc)??;
-    side_by_side(alloc, list.len(), parts)
+    let make = |id: Index| -> Option<(Index, T)>
+        requires { (map.contains_key storage.now.map id ≡ true) × (V.can_look values.now id ≡ true) × ((x : Bor T) (z : I) → map.get storage.now.map id ≡ Some x.now → V.finds values.now id z → F.pre f.now x z) }
+        ensures { (y : Option T) × (x : Bor T) × (z : I) × (map.get storage.entry.now.map id ≡ Some x.now) × V.finds values.entry.now id z × F.post f.entry.now x z y × (result ≡ at_index id y) }
+    {
+        match f(storage.unprotected_storage().get(id), values.at(id)) {
+            Some(value) => Some((id, value)),
+            None => None,
+        }
+    };
+    ask_each(rt, alloc, cut, &make)
 }
 
 /// Each component at the indices of a storage and of a join becomes what `f` makes of it and of the join's item, where it makes anything.
-/// `f` is called with the components at these indices, and with nothing else, in as many threads as there are processors, below 2,048 indices in
-/// the caller's; the components are replaced ascending, each by one modification, after all calls. Where the calls of `f` together take less than
-/// some 0.5 ms, a loop that writes in place is faster.
+/// `f` is called with the components at these indices, and with nothing else, in as many threads as there are processors. The indices are listed
+/// first, and fewer than 4,096 of them stay in the caller's thread; where they lie in 2,048 words of 64 or more, these words are listed instead. The
+/// components are replaced ascending, each by one modification, after all calls. Where the calls of `f` together take less than some 0.5 ms, a
+/// loop that writes in place is faster.
 ///
 /// After an error nothing has changed: memory was refused for the answers, or for the events of a tracked storage. Where the two share no index
 /// it is not refused. Stands for
@@ -166,9 +130,9 @@ where
 {
     let alloc = rt.alloc();
     let (mask, values) = join.open();
-    let list = indices(alloc, BitSetAnd(storage.mask(), mask))?;
-    let made = made_of(rt, alloc, &list, storage, &values, &f)?;
-    storage.reserve_events(count_values(&made))?;
-    write_all(storage, &list, made);
+    let cut = cut_of(alloc, BitSetAnd(storage.mask(), mask))?;
+    let made = made_of(rt, alloc, &cut, storage, &values, &f)?;
+    storage.reserve_events(values_count(&made))?;
+    write_all(storage, made);
     Ok(())
 }

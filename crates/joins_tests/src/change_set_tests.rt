@@ -4,7 +4,7 @@ use crate::stories::{Story, told};
 use crate::worlds::first_at;
 use crate::yard::Yard;
 use entities::Entity;
-use hibits::{BitSet, Index};
+use hibits::{BitSet, INDEX_LIMIT, Index};
 use joins::{ChangeError, ChangeSet};
 use std::alloc::{AllocError, Global};
 use std::process::Abort;
@@ -167,7 +167,7 @@ fn stops<R: Abort>(rt: &R, alloc: Global, set: &mut ChangeSet<i32>) -> Result<()
 
 // Two lives of an index share a value, and an index past the limit has none.
 fn looks_at_indices<R: Abort>(rt: &R, set: &mut ChangeSet<i32>) -> Result<(), Fail> {
-    let (old, far) = (first_at(3)?, first_at(16777216)?);
+    let (old, far) = (first_at(3)?, first_at(INDEX_LIMIT)?);
     let new = Entity::from_parts(3, 2).ok_or("no entity")?;
     holds!(rt; adds(set, old, 1));
     holds!(rt; adds(set, new, 2));

@@ -3,6 +3,7 @@ use crate::asserts::{equal, gives_two, holds};
 use crate::stories::{Story, told};
 use crate::yard::Joined;
 use entities::Entity;
+use hibits::INDEX_LIMIT;
 use std::alloc::Global;
 use std::process::Abort;
 use std::test::Fail;
@@ -94,7 +95,7 @@ pub fn two_have_both<R: Abort, Y: Joined>(rt: &R, yard: &mut Y) -> Result<(), Fa
     gives_two!(rt; yard.both_in(0), Some((1, 0)));
     gives_two!(rt; yard.both_in(1), Some((2, 1)));
     gives_two!(rt; yard.both_in(2), None);
-    gives_two!(rt; yard.both_in(16_777_216), None);
+    gives_two!(rt; yard.both_in(INDEX_LIMIT), None);
     equal!(rt; yard.reads(), 8);
     Ok(())
 }

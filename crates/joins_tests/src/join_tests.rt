@@ -2,7 +2,7 @@
 use crate::walks::{
     beside, contradictions, given, of_lent, of_tree, one_at, ones, outside, shared, six,
 };
-use hibits::{BitSet, BitSetLike, SetError};
+use hibits::{BitSet, BitSetLike, INDEX_LIMIT, SetError};
 use joins::{BitAnd, Join, maybe};
 use std::alloc::Global;
 use std::test::Fail;
@@ -40,7 +40,7 @@ enum Story {
 // Whether a story of two sets comes true.
 fn tell(alloc: Global, story: Story, a: &BitSet, b: &BitSet) -> Result<bool, Fail> {
     match story {
-        Story::FewWordsAreRead => is_shared(alloc, a, b, [64, 16777215].as_slice(), 14),
+        Story::FewWordsAreRead => is_shared(alloc, a, b, [64, INDEX_LIMIT - 1].as_slice(), 14),
         Story::AreApart => is_shared(alloc, a, b, [].as_slice(), 8),
         Story::AreEmpty => is_shared(alloc, a, b, [].as_slice(), 2),
         Story::SixAreJoined => Ok(six(a, b) == 2 && are_combined(a, b)),
@@ -77,8 +77,8 @@ fn a_join_of_sets_reads_few_words(rt: HostRuntime) -> Result<(), Fail> {
     assert!(rt;
         comes_true(
             rt.alloc(),
-            &[1, 64, 4096, 16777215],
-            &[64, 16777215],
+            &[1, 64, 4096, INDEX_LIMIT - 1],
+            &[64, INDEX_LIMIT - 1],
             Story::FewWordsAreRead
         )?
     );
@@ -186,7 +186,7 @@ fn trees_of_sets_are_joins(rt: HostRuntime) -> Result<(), Fail> {
 
 #[test]
 fn a_set_that_is_given_up_is_a_join(rt: HostRuntime) -> Result<(), Fail> {
-    let set = set_of(rt.alloc(), &[1, 64, 16777215])?;
-    assert!(rt; given(rt.alloc(), set)?.as_slice() == [1, 64, 16777215].as_slice());
+    let set = set_of(rt.alloc(), &[1, 64, INDEX_LIMIT - 1])?;
+    assert!(rt; given(rt.alloc(), set)?.as_slice() == [1, 64, INDEX_LIMIT - 1].as_slice());
     Ok(())
 }

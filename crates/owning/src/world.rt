@@ -1,6 +1,6 @@
 //! A world over components that own memory, each of which says by its own `Clone` what a clone of it is.
-ghost use Rattle.specs.specs.Reached.{OnlyLiving};
-ghost use Rattle.specs.specs.State.{state_of};
+ghost use Rattle.specs.specs.Laws.Reached.{OnlyLiving};
+ghost use Rattle.specs.specs.World.State.{state_of};
 
 use crate::{boxes, cargos, counts, labels, names};
 use composed::{

@@ -4,6 +4,8 @@
 #[cfg(test)]
 mod components;
 #[cfg(test)]
+mod cut_tests;
+#[cfg(test)]
 mod meeting_tests;
 #[cfg(test)]
 mod meeting_update_tests;

@@ -9,9 +9,9 @@ use storages::{MaskedStorage, UnprotectedStorage};
 // How many turns the first call waits at most.
 const MOST_TURNS: u32 = 100_000_000;
 
-/// Waits for the flag in the first call, and sets it in the last.
-pub fn meet(flag: &AtomicU64, number: u64) -> bool {
-    if number == 4095 {
+/// Waits for the flag in the call with number 0, and sets it in the call with the last.
+pub fn meet(flag: &AtomicU64, number: u64, last: u64) -> bool {
+    if number == last {
         flag.store(1, Ordering::SeqCst);
     }
     if number == 0 {
@@ -30,23 +30,25 @@ fn calls<T: Valued<Value = u64> + Sync>(
     rt: &(impl Threads + Alloc<A = Global> + Sync),
     storage: &MaskedStorage<T>,
     flag: &AtomicU64,
+    last: u64,
 ) -> Result<Vec<bool>, AllocError>
 where
     T::Storage: UnprotectedStorage<T> + Sync,
 {
     mapped(rt, storage, |component: &T| -> bool {
-        meet(flag, component.value())
+        meet(flag, component.value(), last)
     })
 }
 
-// Whether the calls over 4,096 numbers meet.
+// Whether the calls over so many numbers meet.
 fn calls_meet(
     rt: &(impl Threads + Alloc<A = Global> + Sync),
     storage: &MaskedStorage<Number>,
+    count: u32,
 ) -> bool {
     let flag = AtomicU64::new(0);
-    match calls(rt, storage, &flag) {
-        Ok(met) => all_true(&met, 4096),
+    match calls(rt, storage, &flag, u64::from(count).wrapping_sub(1)) {
+        Ok(met) => all_true(&met, count as usize),
         Err(_) => false,
     }
 }
@@ -54,13 +56,20 @@ fn calls_meet(
 #[test]
 fn calls_meet_over_indices(rt: HostRuntime) -> Result<(), Fail> {
     let storage = filled::<Number>(rt.alloc(), 4096, 1)?;
-    assert!(rt; calls_meet(&rt, &storage));
+    assert!(rt; calls_meet(&rt, &storage, 4096));
     Ok(())
 }
 
 #[test]
 fn calls_meet_over_words(rt: HostRuntime) -> Result<(), Fail> {
     let storage = filled::<Number>(rt.alloc(), 4096, 64)?;
-    assert!(rt; calls_meet(&rt, &storage));
+    assert!(rt; calls_meet(&rt, &storage, 4096));
+    Ok(())
+}
+
+#[test]
+fn calls_meet_where_a_join_is_cut_at_words(rt: HostRuntime) -> Result<(), Fail> {
+    let storage = filled::<Number>(rt.alloc(), 131_072, 1)?;
+    assert!(rt; calls_meet(&rt, &storage, 131_072));
     Ok(())
 }

@@ -3,7 +3,7 @@ ghost use Rattle.entities.specs.Phase.Board.{IsPassOf};
 ghost use Rattle.entities.specs.Phase.Opened.{entities_of, board_of};
 ghost use Rattle.entities.specs.Phase.Calls.{IsOpen};
 
-use entities::{Closed, EntitiesRes, Entity, Exhausted, OpenError, Pass, Shared};
+use entities::{Closed, EntitiesRes, Entity, Exhausted, INDEX_LIMIT, OpenError, Pass, Shared};
 use phase_threads::{Turn, create_all, in_threads, in_threads_by, in_turn};
 use std::alloc::Global;
 use std::test::Fail;
@@ -259,7 +259,7 @@ fn too_many_are_refused(
     alloc: Global,
     entities: &mut EntitiesRes,
 ) -> bool {
-    all_create(rt, alloc, entities, 16_777_217, 1) == Err(OpenError::IndexLimit)
+    all_create(rt, alloc, entities, INDEX_LIMIT + 1, 1) == Err(OpenError::IndexLimit)
         && create(entities) == entity(0)
 }
 
@@ -403,7 +403,7 @@ fn refused_leave_all(
     entities: &mut EntitiesRes,
 ) -> bool {
     refusal(rt, alloc, entities, 1, 4097) == Some(OpenError::TooManyPasses)
-        && refusal(rt, alloc, entities, 16_777_217, 1) == Some(OpenError::IndexLimit)
+        && refusal(rt, alloc, entities, INDEX_LIMIT + 1, 1) == Some(OpenError::IndexLimit)
         && refusal(rt, alloc, entities, 1, 0) == None
         && create(entities) == entity(0)
 }

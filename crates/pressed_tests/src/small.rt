@@ -1,7 +1,7 @@
 //! Phases of nobody, and of one who was pending before.
 use crate::calls::{dead_of_merge, is_marked, is_merged, is_there, pressed, raised};
 use crate::turns::{Delete, Spawn, SpawnTwice};
-use entities::{Closed, EntitiesRes, Entity, OpenError};
+use entities::{Closed, EntitiesRes, Entity, INDEX_LIMIT, OpenError};
 use std::alloc::Global;
 use std::test::Fail;
 use std::thread::Threads;
@@ -47,7 +47,8 @@ pub fn nobody_is_born(
 ) -> Result<bool, Fail> {
     let empty = spawned(rt, alloc, entities, 0, 0) == nobody_born(0);
     let refused = is_refused_twice(rt, alloc, entities);
-    let many = spawned(rt, alloc, entities, 16_777_217, 4_097) == Err(OpenError::TooManyPasses);
+    let many = spawned(rt, alloc, entities, INDEX_LIMIT + 1, 4_097)
+        == Err(OpenError::TooManyPasses);
     let first = raised(entities)?;
     Ok(empty && refused && many && first.id() == 0)
 }

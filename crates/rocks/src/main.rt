@@ -1,6 +1,8 @@
-//! A game: rocks fly through space, ships that meet them win points, and the ships are saved and loaded into another space.
+//! A game: rocks fly through space, ships that meet them win points, and the ships are saved and loaded into another space. Told how many rocks and
+//! turns, as `rt run -- 10000 1000`, it plays so many and says what came of it.
 #![tactic(auto)]
 
+mod drawn;
 mod parts;
 mod turn;
 
@@ -9,12 +11,14 @@ use composed::{
     Builder, Doing, Empty, Entity, Has, Link, Pass, SavedText, Shared, Storages, World,
     in_threads_by, slot,
 };
+use drawn::Drawn;
 use parts::{Cargo, Hunts, Label, Name, Position, Score, Stores, Velocity};
 use std::alloc::{Alloc, Global};
 use std::cmp::Reverse;
+use std::env::{self, Env};
 use std::marker::PhantomData;
 use std::thread::Threads;
-use turn::{Deed, Plays, Seen, pairs, swept};
+use turn::{Deed, Plays, SIZE, Seen, pairs, swept};
 
 /// A space, and what is told of it. Its storages are any that have each type at a place: the prover is faster with them than with known ones.
 #[derive(Drop)]
@@ -39,8 +43,19 @@ where
         + Empty
         + Drop,
 {
+    /// What is told of so many rocks in so many turns, or of two ships.
+    fn told(
+        rt: &(impl Threads + Alloc<A = Global> + Sync),
+        asked: Option<(u32, u32)>,
+    ) -> Result<String> {
+        match asked {
+            Some((rocks, turns)) => Self::swarm(rt.alloc(), rocks, turns),
+            None => Self::story(rt),
+        }
+    }
+
     /// The story of two ships, and how they come into another space.
-    fn told(rt: &(impl Threads + Alloc<A = Global> + Sync)) -> Result<String> {
+    fn story(rt: &(impl Threads + Alloc<A = Global> + Sync)) -> Result<String> {
         let mut game = Self::new(rt.alloc())?;
         game.begin()?;
         game.play()?;
@@ -53,6 +68,45 @@ where
         other.ending()?;
         write!(game.text, "{saved}\n{}", other.text)?;
         Ok(game.text)
+    }
+
+    /// How many were near, how many jobs were done, how many changes of scores were told, and how many live at the end.
+    fn swarm(alloc: Global, rocks: u32, turns: u32) -> Result<String> {
+        let mut game = Self::new(alloc)?;
+        let mut scores = game.space.write_storage::<Score, _>()?;
+        let reader = scores.masked_mut().register_reader()?;
+        game.fill(rocks)?;
+        let (mut near, mut jobs, mut told) = (0usize, 0u64, 0usize);
+        for _ in 0..turns {
+            S::step(&mut game.space.parts().core)?;
+            near = near.saturating_add(game.meetings(3.0)?);
+            jobs = jobs.saturating_add(game.space.maintain(u64::MAX)?.ran);
+            let mut scores = game.space.write_storage::<Score, _>()?;
+            told = told.saturating_add(scores.masked_mut().read(&reader)?.len());
+        }
+        let living = game.space.entities().alive().count();
+        writeln!(
+            game.text,
+            "{near} near, {jobs} jobs, {told} events, {living} live"
+        )?;
+        Ok(game.text)
+    }
+
+    /// So many rocks, and a ship for each hundred of them.
+    fn fill(&mut self, rocks: u32) -> Result<()> {
+        let mut drawn = Drawn::new();
+        for _ in 0..rocks {
+            let rock = self.space.create_entity()?;
+            let rock = rock.with(Position(drawn.below(SIZE), drawn.below(SIZE)))?;
+            let way = Velocity(drawn.below(2.0) - 1.0, drawn.below(2.0) - 1.0);
+            rock.with(way)?.build();
+        }
+        for _ in 0..rocks / 100 {
+            let ship = self.ship("ship", Position(drawn.below(SIZE), drawn.below(SIZE)))?;
+            let mut velocities = self.space.write_storage::<Velocity, _>()?;
+            velocities.insert(ship, Velocity(0.5, 0.25))?;
+        }
+        Ok(())
     }
 
     /// An empty space.
@@ -104,7 +158,7 @@ where
         let reader = scores.masked_mut().register_reader()?;
         for turn in 1..=3 {
             S::step(&mut self.space.parts().core)?;
-            let met = self.meetings()?;
+            let met = self.meetings(0.75)?;
             let done = self.space.maintain(u64::MAX)?;
             writeln!(self.text, "turn {turn}: {met} near, {} jobs", done.ran)?;
             let mut scores = self.space.write_storage::<Score, _>()?;
@@ -115,11 +169,11 @@ where
         Ok(())
     }
 
-    /// Ships meet rocks that are near. It answers how many pairs were near.
-    fn meetings(&mut self) -> Result<usize> {
+    /// Ships meet rocks that are nearer than a distance. It answers how many pairs were near.
+    fn meetings(&mut self, distance: f64) -> Result<usize> {
         let positions = self.space.read_storage()?;
         let list = swept(self.space.entities(), &positions, self.alloc)?;
-        let met = pairs(&list, self.alloc, 0.75)?;
+        let met = pairs(&list, self.alloc, distance)?;
         let count = met.len();
         for (one, other) in met {
             self.meet(one, other)?;
@@ -188,6 +242,21 @@ where
     }
 }
 
+/// How many rocks and turns the program's words ask for, if there are two of them.
+fn asked(rt: &(impl Env + Alloc<A = Global>)) -> Result<Option<(u32, u32)>> {
+    let mut words = env::args(rt)?.skip(1);
+    match (words.next(), words.next()) {
+        (Some(rocks), Some(turns)) => {
+            Ok(Some((rocks.as_str().parse()?, turns.as_str().parse()?)))
+        }
+        _ => Ok(None),
+    }
+}
+
 fn main(rt: HostRuntime) -> Result<()> {
-    Ok(print!(rt; "{}", Game::<Stores, _, _, _, _, _, _, _>::told(&rt)?)?)
+    let asked = asked(&rt)?;
+    Ok(print!(rt;
+        "{}",
+        Game::<Stores, _, _, _, _, _, _, _>::told(&rt, asked)?
+    )?)
 }

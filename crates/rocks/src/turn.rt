@@ -44,7 +44,7 @@ impl<O, S: Storages + Has<Score, O>> Act<S> for Deed<O> {
 }
 
 /// How wide and how high space is.
-const SIZE: f64 = 1000.0;
+pub const SIZE: f64 = 1000.0;
 
 /// Space has no edge: who leaves it on one side comes in on the other.
 fn wrapped(x: f64) -> f64 {

@@ -4,6 +4,7 @@
 
 mod building;
 mod convert;
+mod datum;
 mod entity_data;
 mod error;
 mod json_arrays;
@@ -39,6 +40,7 @@ mod uuids;
 
 pub use building::WithMarker;
 pub use convert::ConvertSaveload;
+pub use datum::{Datum, Plain};
 pub use entity_data::EntityData;
 pub use error::{LoadError, SaveError};
 pub use json_data::{JsonData, JsonPlaces, from_json, to_json};

@@ -1,9 +1,25 @@
 //! Data of each shape: what is written of it, and which texts are no such datum.
 use saveload::{
-    EntityData, JsonData, JsonFields, LoadError, SavedText, SavedVec, from_json, to_json,
+    Datum, EntityData, JsonData, JsonFields, LoadError, Plain, SavedText, SavedVec, from_json,
+    to_json,
 };
 use std::alloc::{AllocError, Global};
 use std::test::Fail;
+use storages::{HashMapStorage, VecStorage};
+
+// What somebody is called.
+struct Called;
+
+impl Plain<SavedText> for Called {
+    type Storage = HashMapStorage<Datum<Self, SavedText>>;
+}
+
+// Where somebody is, in whole steps.
+struct At;
+
+impl Plain<(i64, i64)> for At {
+    type Storage = VecStorage<Datum<Self, (i64, i64)>>;
+}
 
 // A list of one record, with one datum.
 type One<T> = Vec<EntityData<u64, (Option<T>,)>>;
@@ -63,6 +79,19 @@ fn are_refused<T: JsonData + Drop>(alloc: Global, data: &[&str]) -> bool {
         }
     }
     true
+}
+
+#[test]
+fn a_ready_datum_is_saved_as_its_value(rt: HostRuntime) -> Result<(), Fail> {
+    let alloc = rt.alloc();
+    let name = SavedText::from_str(alloc, "Ann")?;
+    assert!(rt; is_written(alloc, Datum::<Called, _>::new(name), "\"Ann\"")?);
+    assert!(rt; is_written(alloc, Datum::<At, (i64, i64)>::new((3, -4)), "[3,-4]")?);
+    assert!(rt; are_kept::<Datum<Called, SavedText>>(alloc, &["\"\"", "\"Bea\""])?);
+    assert!(rt; are_refused::<Datum<Called, SavedText>>(alloc, &["[\"Bea\"]", "7", "null"]));
+    assert!(rt; are_kept::<Datum<At, (i64, i64)>>(alloc, &["[0,0]"])?);
+    assert!(rt; are_refused::<Datum<At, (i64, i64)>>(alloc, &["[0]", "[0,0,0]", "[0,\"0\"]"]));
+    Ok(())
 }
 
 #[test]

@@ -5,12 +5,12 @@ use Rattle.entities.specs.declared.entity.Entity.{Entity}
 use Rattle.entities.specs.Population.{born_pending}
 use Rattle.specs.specs.declared.job.Job.{Job}
 use Rattle.specs.specs.declared.job.Job.TheVariants.{Own}
-use Rattle.specs.specs.Evolving.{Evolves, ValuesLive}
-use Rattle.specs.specs.Following.{IsFollowed, Spared, Each}
-use Rattle.specs.specs.Lawful.{still_grows, still_lives, still_tells, pending_grows, pending_lives}
-use Rattle.specs.specs.People.{Births, BirthWantsMemory, IsFull}
-use Rattle.specs.specs.Reached.{OnlyLiving}
-use Rattle.specs.specs.State.{State, OnPeople}
+use Rattle.specs.specs.Laws.Evolving.{Evolves, ValuesLive}
+use Rattle.specs.specs.Reading.Following.{IsFollowed, Spared, Each}
+use Rattle.specs.specs.Laws.Lawful.{still_grows, still_lives, still_tells, pending_grows, pending_lives}
+use Rattle.specs.specs.World.People.{Births, BirthWantsMemory, IsFull}
+use Rattle.specs.specs.Laws.Reached.{OnlyLiving}
+use Rattle.specs.specs.World.State.{State, OnPeople}
 use Rattle.slots.specs.declared.script_job.ScriptJob.{ScriptJob}
 use Rattle.slots.specs.declared.script_job.ScriptJob.TheVariants.{Again, Create}
 

@@ -1,8 +1,8 @@
 //! The jobs of a script's own.
 ghost use Rattle.std.specs.Prelude.{◌≡◌, [], ◌∷◌, ◌++◌, IfErr, OnOk, OnErr};
-ghost use Rattle.specs.specs.State.{core_state};
-ghost use Rattle.specs.specs.People.{BirthWantsMemory};
-ghost use Rattle.specs.specs.Queue.{queued};
+ghost use Rattle.specs.specs.World.State.{core_state};
+ghost use Rattle.specs.specs.World.People.{BirthWantsMemory};
+ghost use Rattle.specs.specs.Job.Queue.{queued};
 ghost use Rattle.specs.specs.declared.job.Job.TheVariants.{Own};
 ghost use Rattle.slots.specs.Jobs.{MayRaise};
 ghost use Rattle.slots.specs.declared.script_job.ScriptJob.TheVariants.{Again};

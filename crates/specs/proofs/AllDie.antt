@@ -18,7 +18,7 @@ use Rattle.entities.specs.declared.entity.Entity.{Entity}
 use Rattle.entities.specs.Population.{Population, IsAlive, lives}
 use Rattle.entities.specs.Deaths.{AreDistinct, MayAllDie, IsFirstRefused, has_index, all_dead}
 use Rattle.entities.specs.Merges.{living_entity}
-use Rattle.specs.specs.People.{NobodyLives, the_living}
+use Rattle.specs.specs.World.People.{NobodyLives, the_living}
 use Rattle.specs.proofs.Counting.{none_left}
 
 entity_at : (p : Population) (xs : List ℕ) (k : ℕ) (d : Entity) → k < length xs → slice_index_or (map (living_entity p) xs) k d ≡ living_entity p (slice_index_or xs k 0)

@@ -5,14 +5,14 @@ use Rattle.entities.specs.declared.entity.Entity.{Entity}
 use Rattle.entities.specs.Population.{Population, index_of}
 use Rattle.specs.specs.declared.job.Job.{Job}
 use Rattle.specs.specs.declared.job.Job.TheVariants.{Insert, InsertAll, Remove, Mark, Own}
-use Rattle.specs.specs.Column.{Column}
-use Rattle.specs.specs.Following.{Each}
-use Rattle.specs.specs.Jobs.{InsertStep, InsertsAll, MarkStep, JobStep, JobStops, Ran, RunsJobs}
-use Rattle.specs.specs.Ids.{Ids}
-use Rattle.specs.specs.State.{State, OnTable}
-use Rattle.specs.specs.Marking.{GivesMarkerIn}
-use Rattle.specs.specs.Marks.{Markers, GetsMarker}
-use Rattle.specs.specs.Table.{Table, Inserts, Removes}
+use Rattle.specs.specs.Slots.Column.{Column}
+use Rattle.specs.specs.Reading.Following.{Each}
+use Rattle.specs.specs.Job.Jobs.{InsertStep, InsertsAll, MarkStep, JobStep, JobStops, Ran, RunsJobs}
+use Rattle.specs.specs.Slots.Ids.{Ids}
+use Rattle.specs.specs.World.State.{State, OnTable}
+use Rattle.specs.specs.World.Marking.{GivesMarkerIn}
+use Rattle.specs.specs.Slots.Marks.{Markers, GetsMarker}
+use Rattle.specs.specs.Slots.Table.{Table, Inserts, Removes}
 
 pub each_more : {X : Type 0} (Q : X → Type 0) (xs ys : List X) → Each Q xs → Each Q ys → Each Q (xs ++ ys)
 each_more Q [] ys a b = b

@@ -16,21 +16,21 @@ use Rattle.storages.specs.Slot as masked
 use Rattle.storages.specs.Tracking as tracking
 use Rattle.storages.specs.Unread.{unread_of}
 use Rattle.storages.specs.declared.event.ComponentEvent.{ComponentEvent}
-use Rattle.specs.specs.Clones.{Clones}
-use Rattle.specs.specs.Column.{Column}
-use Rattle.specs.specs.Field.{field_column, column_of}
-use Rattle.specs.specs.Following.{Advances, IsListening, IsFollowed, Follows, Tells, Throughout, given, given_by}
+use Rattle.specs.specs.Slots.Clones.{Clones}
+use Rattle.specs.specs.Slots.Column.{Column}
+use Rattle.specs.specs.Typed.Field.{field_column, column_of}
+use Rattle.specs.specs.Reading.Following.{Advances, IsListening, IsFollowed, Follows, Tells, Throughout, given, given_by}
 use Rattle.specs.specs.Indexing.{LeavesUnread, LeaveUnread, KeepsAll, Knows, Turns}
-use Rattle.specs.specs.Living.{table_only, within_becomes}
-use Rattle.specs.specs.Marks.{Markers}
-use Rattle.specs.specs.Reached.{KeepsLiving}
-use Rattle.specs.specs.Readers.{with_channel}
-use Rattle.specs.specs.Shown.{others_stay}
-use Rattle.specs.specs.Shows.{column_as}
-use Rattle.specs.specs.State.{State, OnTable}
-use Rattle.specs.specs.Steps.{WorldState, Run}
-use Rattle.specs.specs.Table.{Table, Becomes}
-use Rattle.specs.specs.Telling.{unread_emptied}
+use Rattle.specs.specs.Laws.Living.{table_only, within_becomes}
+use Rattle.specs.specs.Slots.Marks.{Markers}
+use Rattle.specs.specs.Laws.Reached.{KeepsLiving}
+use Rattle.specs.specs.Slots.Readers.{with_channel}
+use Rattle.specs.specs.Typed.Shown.{others_stay}
+use Rattle.specs.specs.Typed.Shows.{column_as}
+use Rattle.specs.specs.World.State.{State, OnTable}
+use Rattle.specs.specs.Job.Steps.{WorldState, Run}
+use Rattle.specs.specs.Slots.Table.{Table, Becomes}
+use Rattle.specs.specs.Reading.Telling.{unread_emptied}
 use Rattle.specs.specs.declared.command.Command.{Command}
 use Rattle.specs.specs.declared.command.Command.TheVariants.{Events}
 use Rattle.specs.specs.declared.command.Reply.{Reply}

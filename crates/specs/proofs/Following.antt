@@ -8,33 +8,33 @@ use Rattle.storages.specs.declared.event.ComponentEvent.{ComponentEvent}
 use Rattle.storages.specs.Channel.{Channel}
 use Rattle.storages.specs.Tracking.{without_reader, switched}
 use Rattle.storages.specs.Unread.{unread_of, dropped}
-use Rattle.specs.specs.Clones.{Clones}
+use Rattle.specs.specs.Slots.Clones.{Clones}
 use Rattle.specs.specs.declared.command.Command.{Command}
 use Rattle.specs.specs.declared.command.Command.TheVariants.{Register, Create, CreatePending, Delete, DeleteAll, MarkDead, IsAlive as AskAlive, IsLiving as AskLiving, EntityAt, Insert, Get, Remove, Clear, Count as AskCount, Select, Queue, Maintain, Reader, Events, DropReader, Emit}
 use Rattle.specs.specs.declared.command.Reply.{Reply}
 use Rattle.specs.specs.declared.command.Reply.TheVariants.{Done, Entity as Told, Bool as Yes, Value, Count, Indices, Maintained as Kept, Reader as NewReader, Events as Given, Refused, InsertRefused}
-use Rattle.specs.specs.Column.{Column}
-use Rattle.specs.specs.Table.{Table}
-use Rattle.specs.specs.Readers.{with_channel}
-use Rattle.specs.specs.People.{the_living}
-use Rattle.specs.specs.Reached.{OnlyLiving}
-use Rattle.specs.specs.State.{State, merged}
-use Rattle.specs.specs.Steps.{WorldState, CoreStep, Maintains, Step, Run}
+use Rattle.specs.specs.Slots.Column.{Column}
+use Rattle.specs.specs.Slots.Table.{Table}
+use Rattle.specs.specs.Slots.Readers.{with_channel}
+use Rattle.specs.specs.World.People.{the_living}
+use Rattle.specs.specs.Laws.Reached.{OnlyLiving}
+use Rattle.specs.specs.World.State.{State, merged}
+use Rattle.specs.specs.Job.Steps.{WorldState, CoreStep, Maintains, Step, Run}
 use Rattle.specs.specs.declared.command.Maintained.{Maintained}
 use Rattle.specs.specs.declared.job.Job.{Job}
-use Rattle.specs.specs.Evolving.{Evolves, ValuesLive}
-use Rattle.specs.specs.Jobs.{RunsJobs}
+use Rattle.specs.specs.Laws.Evolving.{Evolves, ValuesLive}
+use Rattle.specs.specs.Job.Jobs.{RunsJobs}
 use Rattle.specs.proofs.Carrying.{carried, each_more}
-use Rattle.specs.specs.Ids.{Ids}
+use Rattle.specs.specs.Slots.Ids.{Ids}
 use Rattle.specs.proofs.Lasting.{living_whatever_ids, grown, merged_kept, inserted_living, removed_living, living_step}
 use Rattle.storages.specs.Named.{index_at, is_named}
-use Rattle.specs.specs.Leading.{replay}
-use Rattle.specs.specs.Following.{unread, IsListening, IsFollowed, Follows, Replays, given_by, given, Throughout, JobSpares, AllSpare, Spared, IsWatched, IsQuiet, AreQuiet, Tells}
-use Rattle.specs.specs.Marks.{Markers}
-use Rattle.specs.specs.Leads.{replay-append, or_false}
+use Rattle.specs.specs.Reading.Leading.{replay}
+use Rattle.specs.specs.Reading.Following.{unread, IsListening, IsFollowed, Follows, Replays, given_by, given, Throughout, JobSpares, AllSpare, Spared, IsWatched, IsQuiet, AreQuiet, Tells}
+use Rattle.specs.specs.Slots.Marks.{Markers}
+use Rattle.specs.specs.Reading.Leads.{replay-append, or_false}
 use Rattle.storages.specs.Heard.{dropped_gone}
-use Rattle.specs.specs.Advancing.{Keeps, empties, registers, drops, switches, reads}
-use Rattle.specs.specs.OneSlot.{KeepsAt, same_table, one_slot, one_quiet, advances_more, dropped_keeps, inserted_keeps, registered_keeps, removed_keeps, living_below}
+use Rattle.specs.specs.Reading.Advancing.{Keeps, empties, registers, drops, switches, reads}
+use Rattle.specs.specs.Reading.OneSlot.{KeepsAt, same_table, one_slot, one_quiet, advances_more, dropped_keeps, inserted_keeps, registered_keeps, removed_keeps, living_below}
 
 module _ {K V : Type 0} (slot : K) (n : ℕ) (here : K → Bool) (tells : Tells here slot) where
   pub keeps_following : {S J : Type 0} (spares : J → K → ℕ → Type 0) (place : V → K) (clones : Clones K V) (old : State K V) (c : Command S J K V) (r : Reply V) (new : State K V) → CoreStep place clones old c r new → IsQuiet spares slot n c → IsFollowed slot n old → Keeps n (old.table slot) (new.table slot) (given_by here n c r)

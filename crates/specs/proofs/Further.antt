@@ -1,9 +1,9 @@
 -- One job more.
 use Rattle.std.proofs.Common.{◌≡◌, ℕ, zero, suc, ◌+◌, List, [], ◌∷◌, ◌++◌, refl, sym, ap, ◌∙◌, subst, arith, add-one}
-use Rattle.specs.specs.State.{State}
+use Rattle.specs.specs.World.State.{State}
 use Rattle.specs.specs.declared.job.Job.{Job}
-use Rattle.specs.specs.Jobs.{Ran, JobStep}
-use Rattle.specs.specs.Marks.{Markers}
+use Rattle.specs.specs.Job.Jobs.{Ran, JobStep}
+use Rattle.specs.specs.Slots.Marks.{Markers}
 
 module _ {S J K V : Type 0} (place : V → K) (marks : Markers K V) (does : J → State K V → List (Job S J K V) → State K V → Type 0) where
   pub ran_more : (n counted here : ℕ) (old mid new : State K V) (jobs now left more : List (Job S J K V)) (job : Job S J K V)

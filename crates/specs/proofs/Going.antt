@@ -3,15 +3,15 @@ use Rattle.std.proofs.Common.{◌≡◌, ◌∙◌, suc, Bool, Option, Some, Non
 use Rattle.std.specs.Prelude.{Result, Ok, Err, OnOk, OnErr}
 use Rattle.entities.specs.declared.entity.Entity.{Entity}
 use Rattle.entities.specs.Population.{born, born_pending}
-use Rattle.specs.specs.Dropping.{DropsComponents}
-use Rattle.specs.specs.Building.{PutsAlone, MaybePuts}
-use Rattle.specs.specs.Going.{OneStep, ComesOf, GoesOn, Lengthens}
-use Rattle.specs.specs.GoingLaws.{any_marker}
-use Rattle.specs.specs.Marking.{HasMarkerThen, GivesMarkerIn}
-use Rattle.specs.specs.Marks.{Markers}
-use Rattle.specs.specs.People.{Births, Marks}
-use Rattle.specs.specs.State.{State, OnPeople, OnTable, Deletes, InsertsAlone, RemovesAlone}
-use Rattle.specs.specs.Table.{Registers, Inserts, Clears}
+use Rattle.specs.specs.World.Dropping.{DropsComponents}
+use Rattle.specs.specs.Builder.Building.{PutsAlone, MaybePuts}
+use Rattle.specs.specs.Laws.Going.{OneStep, ComesOf, GoesOn, Lengthens}
+use Rattle.specs.specs.Laws.GoingLaws.{any_marker}
+use Rattle.specs.specs.World.Marking.{HasMarkerThen, GivesMarkerIn}
+use Rattle.specs.specs.Slots.Marks.{Markers}
+use Rattle.specs.specs.World.People.{Births, Marks}
+use Rattle.specs.specs.World.State.{State, OnPeople, OnTable, Deletes, InsertsAlone, RemovesAlone}
+use Rattle.specs.specs.Slots.Table.{Registers, Inserts, Clears}
 
 module _ {K V : Type 0} where
   pub begins : (s : State K V) → ComesOf s s

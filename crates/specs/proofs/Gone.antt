@@ -10,16 +10,16 @@ use Rattle.entities.specs.declared.entity.Entity.{Entity}
 use Rattle.entities.specs.Population.{Population, IsAlive, index_of, lives, born, born_pending, mark}
 use Rattle.entities.specs.Deaths.{has_index, all_dead}
 use Rattle.entities.specs.Merges.{merge, the_marked, living_entity}
-use Rattle.specs.specs.Clones.{Clones}
+use Rattle.specs.specs.Slots.Clones.{Clones}
 use Rattle.specs.specs.declared.command.Command.{Command}
 use Rattle.specs.specs.declared.command.Command.TheVariants.{Register, Create, CreatePending, Delete, DeleteAll, MarkDead, IsAlive as AskAlive, IsLiving as AskLiving, EntityAt, Insert, Get, Remove, Clear, Count as AskCount, Select, Reader, Events, DropReader, Emit}
 use Rattle.specs.specs.declared.command.Reply.{Reply}
 use Rattle.specs.specs.declared.command.Reply.TheVariants.{Done, Entity as Told, Bool as Yes, Value, Count, Indices, Reader as NewReader, Events as Given, Refused, InsertRefused}
-use Rattle.specs.specs.Evolving.{OnePeopleStep, PeopleSteps}
-use Rattle.specs.specs.Gone.{WasGiven, IsGone}
-use Rattle.specs.specs.People.{Deaths, the_living}
-use Rattle.specs.specs.State.{State}
-use Rattle.specs.specs.Steps.{CoreStep}
+use Rattle.specs.specs.Laws.Evolving.{OnePeopleStep, PeopleSteps}
+use Rattle.specs.specs.Laws.Gone.{WasGiven, IsGone}
+use Rattle.specs.specs.World.People.{Deaths, the_living}
+use Rattle.specs.specs.World.State.{State}
+use Rattle.specs.specs.Job.Steps.{CoreStep}
 
 -- at each index there was a birth, or nobody lives who did not
 abbrev pub Grows : Population → Population → Type 0

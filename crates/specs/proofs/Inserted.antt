@@ -1,8 +1,8 @@
 -- One insertion more.
 use Rattle.std.proofs.Common.{◌≡◌, ℕ, ◌+◌, Bool, List, [], ◌∷◌, ◌++◌, refl, sym, ap, ◌∙◌, subst, arith, append_assoc}
 use Rattle.entities.specs.declared.entity.Entity.{Entity}
-use Rattle.specs.specs.State.{State}
-use Rattle.specs.specs.Jobs.{InsertStep, InsertsAll, KeepsRest, FirstWantsRoom, InsertWantsRoom, count_of}
+use Rattle.specs.specs.World.State.{State}
+use Rattle.specs.specs.Job.Jobs.{InsertStep, InsertsAll, KeepsRest, FirstWantsRoom, InsertWantsRoom, count_of}
 
 pub inserts_more : {K V : Type 0} (place : V → K) (old mid new : State K V) (done : List (Entity × V)) (n : ℕ) (e : Entity) (value : V) (counted : Bool)
     → InsertsAll place old done n mid → InsertStep place mid e value counted new → InsertsAll place old (done ++ (e, value) ∷ []) (n + count_of counted) new

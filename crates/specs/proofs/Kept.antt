@@ -5,21 +5,21 @@ use Rattle.std.proofs.lemmas.Bool.{false≢true, cases_Bool, both_ways}
 use Rattle.entities.specs.declared.entity.Entity.{Entity}
 use Rattle.entities.specs.Population.{Population, MarkedIfAlive, index_of, lives, born, born_pending}
 use Rattle.storages.specs.Life.{is_alive}
-use Rattle.specs.specs.Building.{MarksOne}
-use Rattle.specs.specs.Column.{Column}
-use Rattle.specs.specs.Dropping.{DropsComponents}
-use Rattle.specs.specs.Evolving.{OnePeopleStep}
-use Rattle.specs.specs.GoingLaws.{any_marker, dropped_lives, labels_lives}
-use Rattle.specs.specs.Gone.{IsGone, KeepsGone}
-use Rattle.specs.specs.Living.{birth_kept, deletes_kept, lives_born, lives_born_pending, mark_kept, put_within, removes_within, still_lives, still_lives_pending, table_only, unchanged, within_becomes, within_register}
-use Rattle.specs.specs.Maps.{no_value}
-use Rattle.specs.specs.Marking.{HasMarkerThen, GivesMarkerIn}
-use Rattle.specs.specs.Marks.{Markers}
-use Rattle.specs.specs.People.{Births, Marks}
-use Rattle.specs.specs.Reached.{OnlyLiving, KeepsLiving}
-use Rattle.specs.specs.Registering.{RegistersAs}
-use Rattle.specs.specs.State.{State, OnPeople, OnTable, Deletes, merged}
-use Rattle.specs.specs.Table.{Table, Becomes, Inserts, Removes, Registers, Clears}
+use Rattle.specs.specs.Builder.Building.{MarksOne}
+use Rattle.specs.specs.Slots.Column.{Column}
+use Rattle.specs.specs.World.Dropping.{DropsComponents}
+use Rattle.specs.specs.Laws.Evolving.{OnePeopleStep}
+use Rattle.specs.specs.Laws.GoingLaws.{any_marker, dropped_lives, labels_lives}
+use Rattle.specs.specs.Laws.Gone.{IsGone, KeepsGone}
+use Rattle.specs.specs.Laws.Living.{birth_kept, deletes_kept, lives_born, lives_born_pending, mark_kept, put_within, removes_within, still_lives, still_lives_pending, table_only, unchanged, within_becomes, within_register}
+use Rattle.specs.specs.Slots.Maps.{no_value}
+use Rattle.specs.specs.World.Marking.{HasMarkerThen, GivesMarkerIn}
+use Rattle.specs.specs.Slots.Marks.{Markers}
+use Rattle.specs.specs.World.People.{Births, Marks}
+use Rattle.specs.specs.Laws.Reached.{OnlyLiving, KeepsLiving}
+use Rattle.specs.specs.Slots.Registering.{RegistersAs}
+use Rattle.specs.specs.World.State.{State, OnPeople, OnTable, Deletes, merged}
+use Rattle.specs.specs.Slots.Table.{Table, Becomes, Inserts, Removes, Registers, Clears}
 use Rattle.specs.proofs.Going.{on_marked, on_same}
 use Rattle.specs.proofs.Gone.{gone_evolved, gone_after_merge}
 use Rattle.specs.proofs.Lasting.{merged_kept}

@@ -3,25 +3,25 @@ use Rattle.std.proofs.Common.{ℕ, zero, suc, Bool, inl, inr, List, [], ◌∷�
 use Rattle.std.proofs.lemmas.Option.{none-some}
 use Rattle.entities.specs.declared.entity.Entity.{Entity}
 use Rattle.entities.specs.Population.{Population}
-use Rattle.specs.specs.Clones.{Clones, no_clones}
+use Rattle.specs.specs.Slots.Clones.{Clones, no_clones}
 use Rattle.specs.specs.declared.command.Command.{Command}
 use Rattle.specs.specs.declared.command.Command.TheVariants.{Create, CreatePending, MarkDead, Insert as AskInsert, Remove as AskRemove, Queue, Maintain}
 use Rattle.specs.specs.declared.command.Maintained.{Maintained}
 use Rattle.specs.specs.declared.command.Reply.{Reply}
 use Rattle.specs.specs.declared.command.Reply.TheVariants.{Done, Entity as Told, Value, Maintained as Kept}
 use Rattle.specs.specs.declared.job.Job.{Job}
-use Rattle.specs.specs.Evolving.{OnePeopleStep, PeopleSteps, Evolves, ValuesLive}
-use Rattle.specs.specs.Gone.{IsGone}
-use Rattle.specs.specs.Ids.{Ids}
-use Rattle.specs.specs.Reached.{OnlyLiving}
-use Rattle.specs.specs.State.{State, OnTable, merged}
-use Rattle.specs.specs.Steps.{WorldState, CoreStep, Maintains, Step, Run}
-use Rattle.specs.specs.Table.{Inserts, Removes}
-use Rattle.specs.specs.Jobs.{RunsJobs}
+use Rattle.specs.specs.Laws.Evolving.{OnePeopleStep, PeopleSteps, Evolves, ValuesLive}
+use Rattle.specs.specs.Laws.Gone.{IsGone}
+use Rattle.specs.specs.Slots.Ids.{Ids}
+use Rattle.specs.specs.Laws.Reached.{OnlyLiving}
+use Rattle.specs.specs.World.State.{State, OnTable, merged}
+use Rattle.specs.specs.Job.Steps.{WorldState, CoreStep, Maintains, Step, Run}
+use Rattle.specs.specs.Slots.Table.{Inserts, Removes}
+use Rattle.specs.specs.Job.Jobs.{RunsJobs}
 use Rattle.specs.proofs.Carrying.{carried, each_unit}
 use Rattle.specs.proofs.Gone.{gone_evolved, gone_after_merge, keeps_step as keeps_gone}
-use Rattle.specs.specs.Living.{keeps_step, deletes_kept, maintains_kept}
-use Rattle.specs.specs.Marks.{Markers}
+use Rattle.specs.specs.Laws.Living.{keeps_step, deletes_kept, maintains_kept}
+use Rattle.specs.specs.Slots.Marks.{Markers}
 
 -- the population alone, over no storage
 abbrev bare : Population → State ℕ ℕ

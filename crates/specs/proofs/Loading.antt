@@ -10,10 +10,10 @@ use Rattle.saveload.specs.Naming.{Naming, Makes, MakesMarked, Names, NamesNone, 
 use Rattle.saveload.specs.Stops.{Partial, RefusesRecord, Stops, StopsNaming}
 use Rattle.saveload.specs.declared.entity_data.EntityData.{EntityData}
 use Rattle.saveload.specs.declared.error.LoadError.{LoadError}
-use Rattle.specs.specs.Evolving.{Evolves, PeopleSteps}
-use Rattle.specs.specs.Gone.{KeepsGone}
-use Rattle.specs.specs.Keeping.{LoadsAtTheLiving}
-use Rattle.specs.specs.Living.{still_lives_pending}
+use Rattle.specs.specs.Laws.Evolving.{Evolves, PeopleSteps}
+use Rattle.specs.specs.Laws.Gone.{KeepsGone}
+use Rattle.specs.specs.Laws.Keeping.{LoadsAtTheLiving}
+use Rattle.specs.specs.Laws.Living.{still_lives_pending}
 use Rattle.specs.proofs.Gone.{gone_evolved}
 
 -- the population comes of the other, and who lived lives

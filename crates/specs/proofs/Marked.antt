@@ -15,10 +15,10 @@ use Rattle.storages.specs.declared.event.ComponentEvent.TheVariants.{Inserted, M
 use Rattle.saveload.specs.declared.mark_error.MarkError.{MarkError}
 use Rattle.saveload.specs.declared.mark_error.MarkError.TheVariants as failure
 use Rattle.saveload.specs.Marking.{MarksNew, IsOfIds, TakesOne}
-use Rattle.specs.specs.Field.{column_of}
-use Rattle.specs.specs.Column.{Column, column_is}
-use Rattle.specs.specs.Ids.{LeftAfter}
-use Rattle.specs.specs.Marks.{IsGiven, FieldGivesMarker, FieldMarkerIsRefused, LacksMarker}
+use Rattle.specs.specs.Typed.Field.{column_of}
+use Rattle.specs.specs.Slots.Column.{Column, column_is}
+use Rattle.specs.specs.Slots.Ids.{LeftAfter}
+use Rattle.specs.specs.Slots.Marks.{IsGiven, FieldGivesMarker, FieldMarkerIsRefused, LacksMarker}
 use Rattle.specs.proofs.Values.{alive_fact, values-insert}
 
 none_by : {V : Type 0} (o : Option V) → is_some o ≡ false → o ≡ None

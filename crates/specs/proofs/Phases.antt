@@ -11,9 +11,9 @@ use Rattle.entities.specs.Population.{Population, index_of}
 use Rattle.entities.specs.Phase.Calls.{IsClosed}
 use Rattle.entities.specs.Phase.Reserve.{IsReserve, with_births, with_marks}
 use Rattle.entities.specs.Phase.Trace.{Phase, in_marks, run, start}
-use Rattle.specs.specs.Gone.{KeepsGone}
-use Rattle.specs.specs.Reached.{KeepsLiving}
-use Rattle.specs.specs.State.{State}
+use Rattle.specs.specs.Laws.Gone.{KeepsGone}
+use Rattle.specs.specs.Laws.Reached.{KeepsLiving}
+use Rattle.specs.specs.World.State.{State}
 use Rattle.specs.proofs.Gone.{Grows, grown_to}
 
 -- an index of the first of a list is below the limit, as each of the list is

@@ -3,13 +3,13 @@ use Rattle.std.proofs.Common.{◌≡◌, List, [], ◌∷◌, ◌++◌, refl, ap
 use Rattle.std.specs.Iterator.{Yields}
 use Rattle.std.specs.Vec.Iter.{into_iter_items, into_iter_steps}
 use Rattle.std.specs.declared.vec.IntoIter.{IntoIter}
-use Rattle.specs.specs.Clones.{Clones}
+use Rattle.specs.specs.Slots.Clones.{Clones}
 use Rattle.specs.specs.declared.command.Command.{Command}
 use Rattle.specs.specs.declared.command.Reply.{Reply}
 use Rattle.specs.specs.declared.job.Job.{Job}
-use Rattle.specs.specs.State.{State}
-use Rattle.specs.specs.Steps.{WorldState, Step, Run}
-use Rattle.specs.specs.Marks.{Markers}
+use Rattle.specs.specs.World.State.{State}
+use Rattle.specs.specs.Job.Steps.{WorldState, Step, Run}
+use Rattle.specs.specs.Slots.Marks.{Markers}
 
 module _ {S J K V : Type 0} (place : V → K) (clones : Clones K V) (marks : Markers K V) (does : J → State K V → List (Job S J K V) → State K V → Type 0) (wants : J → State K V → Type 0) where
   pub run_more : (a b d : WorldState S J K V) (cs : List (Command S J K V)) (rs : List (Reply V)) (c : Command S J K V) (r : Reply V) → Run place clones marks does wants a cs rs b → Step place clones marks does wants b c r d → Run place clones marks does wants a (cs ++ c ∷ []) (rs ++ r ∷ []) d

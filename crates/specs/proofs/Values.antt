@@ -16,21 +16,21 @@ use Rattle.storages.specs.Removals.{Loses}
 use Rattle.storages.specs.Tracking.{Turns, after_read, without_reader}
 use Rattle.storages.specs.Unread.{unread_of, emptied, dropped}
 use Rattle.storages.specs.declared.event.ComponentEvent.{ComponentEvent}
-use Rattle.specs.specs.Readers.{with_channel}
+use Rattle.specs.specs.Slots.Readers.{with_channel}
 use Rattle.storages.specs.declared.event.ComponentEvent.TheVariants.{Inserted, Modified, Removed}
 use Rattle.storages.specs.Slot as masked
 use Rattle.storages.specs.declared.masked.NotLent.{NotLent}
 use Rattle.storages.specs.declared.masked.NotLent.TheVariants.{Absent, OutOfMemory as NoMemory}
 use Rattle.storages.specs.Life.{is_alive}
 use Rattle.storages.specs.Found.{found_in}
-use Rattle.specs.specs.Maps.{Map, put, without_one, no_value}
-use Rattle.specs.specs.Column.{Column, IsFresh, wants_memory, without_value, without_values, column_is}
+use Rattle.specs.specs.Slots.Maps.{Map, put, without_one, no_value}
+use Rattle.specs.specs.Slots.Column.{Column, IsFresh, wants_memory, without_value, without_values, column_is}
 use Rattle.std.specs.List.{Contains}
 use Rattle.std.proofs.lemmas.List.Elements.{All-contains_itself}
 use Rattle.hibits.specs.Left.{left, contains-left}
-use Rattle.specs.specs.Field.{values_of, column_of, field_column, FieldInserts, FieldGets, FieldRemoves, FieldClears, FieldRechannels, Holds, field_room}
+use Rattle.specs.specs.Typed.Field.{values_of, column_of, field_column, FieldInserts, FieldGets, FieldRemoves, FieldClears, FieldRechannels, Holds, field_room}
 use Rattle.std.proofs.lemmas.Option.{same_Some}
-use Rattle.specs.specs.Table.{RemovalWantsMemory}
+use Rattle.specs.specs.Slots.Table.{RemovalWantsMemory}
 
 turned : (a b : ℕ) → (a == b) ≡ (b == a)
 turned a b = grind (arith, nat_tests)

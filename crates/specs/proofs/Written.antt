@@ -2,15 +2,15 @@
 use Rattle.std.proofs.Common.{◌≡◌, ℕ, refl, sym, ap, ◌∙◌, subst, Option, Some, None}
 use Rattle.std.specs.Prelude.{option_map, is_some, ◌⊎◌}
 use Rattle.entities.specs.Population.{Population, lives}
-use Rattle.specs.specs.Column.{Column}
-use Rattle.specs.specs.Field.{column_of, field_column, values_of}
-use Rattle.specs.specs.Ids.{Ids}
-use Rattle.specs.specs.Living.{table_only, within_becomes}
-use Rattle.specs.specs.Reached.{KeepsLiving}
-use Rattle.specs.specs.Shows.{column_as}
-use Rattle.specs.specs.State.{State}
-use Rattle.specs.specs.Table.{Table}
-use Rattle.specs.specs.Shown.{others_stay}
+use Rattle.specs.specs.Slots.Column.{Column}
+use Rattle.specs.specs.Typed.Field.{column_of, field_column, values_of}
+use Rattle.specs.specs.Slots.Ids.{Ids}
+use Rattle.specs.specs.Laws.Living.{table_only, within_becomes}
+use Rattle.specs.specs.Laws.Reached.{KeepsLiving}
+use Rattle.specs.specs.Typed.Shows.{column_as}
+use Rattle.specs.specs.World.State.{State}
+use Rattle.specs.specs.Slots.Table.{Table}
+use Rattle.specs.specs.Typed.Shown.{others_stay}
 use Rattle.storages.specs.Slot.{Slot, SameKeys}
 
 has_as : {V W : Type 0} (f : V → W) (o : Option V) → is_some (option_map f o) ≡ is_some o

@@ -7,20 +7,20 @@ use Rattle.key_index.specs.declared.key_index.KeyIndex.{KeyIndex}
 use Rattle.storages.specs.Channel.{Channel}
 use Rattle.storages.specs.Slot as masked
 use Rattle.storages.specs.Tracking.{after_read}
-use Rattle.specs.specs.Clones.{Clones}
-use Rattle.specs.specs.Ids.{Ids}
-use Rattle.specs.specs.Marks.{Markers}
-use Rattle.specs.specs.State.{State, OnTable}
+use Rattle.specs.specs.Slots.Clones.{Clones}
+use Rattle.specs.specs.Slots.Ids.{Ids}
+use Rattle.specs.specs.Slots.Marks.{Markers}
+use Rattle.specs.specs.World.State.{State, OnTable}
 use Rattle.specs.specs.declared.command.Reply.{Reply}
 use Rattle.specs.specs.declared.job.Job.{Job}
 use Rattle.specs.specs.declared.world.World.{World}
 use Rattle.specs.specs.declared.command.Command.{Command}
 use Rattle.specs.specs.declared.command.Command.TheVariants.{Events}
-use Rattle.specs.specs.Following.{AreQuiet, IsWatched}
-use Rattle.specs.specs.Reached.{OnlyLiving}
-use Rattle.specs.specs.Readers.{with_channel}
-use Rattle.specs.specs.Steps.{WorldState, world_state, Run}
-use Rattle.specs.specs.Table.{Table, Becomes}
+use Rattle.specs.specs.Reading.Following.{AreQuiet, IsWatched}
+use Rattle.specs.specs.Laws.Reached.{OnlyLiving}
+use Rattle.specs.specs.Slots.Readers.{with_channel}
+use Rattle.specs.specs.Job.Steps.{WorldState, world_state, Run}
+use Rattle.specs.specs.Slots.Table.{Table, Becomes}
 
 module _ {S J K V : Type 0} where
   -- the command does not read the reader's events
@@ -76,7 +76,9 @@ module _ {S J K V : Type 0} (spares : J → K → ℕ → Type 0) (slot : K) (ta
   IfFollowing part key n x commands w C = LeaveAloneIn n commands w → Knows key x (part (stored w)) → C
 
 -- a run, and then one reader of a slot reads its events
-pub record RunsAndReads {S J K V : Type 0} (place : V → K) (clones : Clones K V) (marks : Markers K V) (does : J → State K V → List (Job S J K V) → State K V → Type 0) (wants : J → State K V → Type 0) (slot : K) (n : ℕ) (old : WorldState S J K V) (commands : List (Command S J K V)) (replies : List (Reply V)) (new : WorldState S J K V) : Type 0 where
+pub record RunsAndReads {S J K V : Type 0} (place : V → K) (clones : Clones K V) (marks : Markers K V)
+    (does : J → State K V → List (Job S J K V) → State K V → Type 0) (wants : J → State K V → Type 0) (slot : K) (n : ℕ) (old : WorldState S J K V)
+    (commands : List (Command S J K V)) (replies : List (Reply V)) (new : WorldState S J K V) : Type 0 where
   pub between : WorldState S J K V
   pub run : Run place clones marks does wants old commands replies between
   pub read : OnTable (λ t t'. Turns t slot (after_read n) t') between.core new.core

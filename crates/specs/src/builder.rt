@@ -1,19 +1,25 @@
 //! A builder of one entity of a core.
 ghost use Rattle.std.specs.Prelude.{◌≡◌, Some, IfOk, IfErr};
 ghost use Rattle.std.specs.Borrow.{sem};
-ghost use Rattle.specs.specs.Building.{lent_to, built, shown, RestsMarked, MaybePuts, PutsAlone};
-ghost use Rattle.specs.specs.Field.{FieldInsertIsRefused, field_column};
-ghost use Rattle.specs.specs.Going.{GoesOn};
-ghost use Rattle.specs.specs.Gone.{KeepsGone};
-ghost use Rattle.specs.specs.Marking.{HasMarkerThen, GetsNoMarker};
-ghost use Rattle.specs.specs.Reached.{KeepsLiving};
+ghost use Rattle.specs.specs.Builder.Building.{lent_to, built, shown, RestsMarked, MaybePuts, PutsAlone};
+ghost use Rattle.specs.specs.Typed.Field.{FieldInsertIsRefused, field_column};
+ghost use Rattle.specs.specs.Laws.Going.{GoesOn};
+ghost use Rattle.specs.specs.Laws.Gone.{KeepsGone};
+ghost use Rattle.specs.specs.World.Marking.{HasMarkerThen, GetsNoMarker};
+ghost use Rattle.specs.specs.Laws.Reached.{KeepsLiving};
 
-use crate::building::mark_if_alive;
+mod building;
+mod create_iter;
+mod lazy_builder;
+
 use crate::command::Refusal;
-use crate::core_parts::Core;
-use crate::has::{Field, Has};
 use crate::slots::{Held, Storages};
+use crate::typed::{Field, Has};
+use crate::world::Core;
+use building::mark_if_alive;
+pub use create_iter::CreateIter;
 use entities::Entity;
+pub use lazy_builder::LazyBuilder;
 use saveload::MarkError;
 use std::fmt::Debug;
 use std::{error, fmt};
@@ -73,8 +79,8 @@ pub struct EntityBuilder<'a, S: Held> {
 }
 
 impl<S: Held> Drop for EntityBuilder<'_, S> {
-    ghost use Rattle.specs.specs.Building.{lent_to, built, IsDropped, MarksOne};
-    ghost use Rattle.specs.specs.State.{core_state};
+    ghost use Rattle.specs.specs.Builder.Building.{lent_to, built, IsDropped, MarksOne};
+    ghost use Rattle.specs.specs.World.State.{core_state};
 
     fn drop(self)
         ensures dropped { IsDropped (lent_to self.entry).now (built self.entry) self.exit.0.now }
@@ -107,7 +113,8 @@ impl<'a, S: Held> Builder<S> for EntityBuilder<'a, S> {
         ensures living { IfOk result (λ b. KeepsLiving (shown S.table S.ids self.entry) (shown S.table S.ids b)) }
         ensures goes_on { IfOk result (λ b. GoesOn (shown S.table S.ids self.entry) (shown S.table S.ids b)) }
         ensures gone { IfOk result (λ b. KeepsGone (shown S.table S.ids self.entry).people (shown S.table S.ids b).people) }
-        ensures refused { IfErr result (λ r. FieldInsertIsRefused (shown S.table S.ids self.entry).people (field_column (S.part (lent_to self.entry).now.parts.storages)) (built self.entry) r.refusal) }
+        ensures refused { IfErr result (λ r. FieldInsertIsRefused (shown S.table S.ids self.entry).people
+            (field_column (S.part (lent_to self.entry).now.parts.storages)) (built self.entry) r.refusal) }
         ensures back { IfErr result (λ r. r.component ≡ component) }
     {
         let EntityBuilder { core, entity } = self;
@@ -125,7 +132,8 @@ impl<'a, S: Held> Builder<S> for EntityBuilder<'a, S> {
         ensures living { IfOk result (λ b. KeepsLiving (shown S.table S.ids self.entry) (shown S.table S.ids b)) }
         ensures goes_on { IfOk result (λ b. GoesOn (shown S.table S.ids self.entry) (shown S.table S.ids b)) }
         ensures gone { IfOk result (λ b. KeepsGone (shown S.table S.ids self.entry).people (shown S.table S.ids b).people) }
-        ensures refused { IfErr result (λ r. FieldInsertIsRefused (shown S.table S.ids self.entry).people (field_column (S.part (lent_to self.entry).now.parts.storages)) (built self.entry) r.refusal) }
+        ensures refused { IfErr result (λ r. FieldInsertIsRefused (shown S.table S.ids self.entry).people
+            (field_column (S.part (lent_to self.entry).now.parts.storages)) (built self.entry) r.refusal) }
         ensures back { IfErr result (λ r. component ≡ Some r.component) }
     {
         let EntityBuilder { core, entity } = self;

@@ -1,7 +1,10 @@
 //! Commands and their replies.
-use crate::job::Job;
-use crate::no_job::NoJob;
+mod apply;
+mod channel_call;
+
+use crate::job::{Job, NoJob};
 use crate::slots::Held;
+pub use channel_call::{ChannelCall, ChannelReply};
 use entities::{Entity, Index, WrongGeneration};
 use storages::{ComponentEvent, ReaderId};
 use thiserror::Error;

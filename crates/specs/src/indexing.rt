@@ -5,15 +5,17 @@ ghost use Rattle.storages.specs.Slot.{IsSame};
 ghost use Rattle.storages.specs.Tracking as tracking;
 ghost use Rattle.storages.specs.Tracking.{with_reader, after_read};
 ghost use Rattle.storages.specs.Unread.{unread_of};
-ghost use Rattle.specs.specs.Following.{IsFollowed, IsListening};
-ghost use Rattle.specs.specs.Gone.{KeepsGone};
+ghost use Rattle.specs.specs.Reading.Following.{IsFollowed, IsListening};
+ghost use Rattle.specs.specs.Laws.Gone.{KeepsGone};
 ghost use Rattle.specs.specs.Indexing.{Turns, IsEmitting, KeepsAll, Knows, IsUpToDate};
-ghost use Rattle.specs.specs.Reached.{KeepsLiving};
-ghost use Rattle.specs.specs.State.{core_state, OnTable};
+ghost use Rattle.specs.specs.Laws.Reached.{KeepsLiving};
+ghost use Rattle.specs.specs.World.State.{core_state, OnTable};
 
-use crate::core_parts::{Core, Parts};
-use crate::has::{Field, Has};
+mod indexed_runs;
+
 use crate::slots::Held;
+use crate::typed::{Field, Has};
+use crate::world::{Core, Parts};
 use entities::EntitiesRes;
 use key_index::{IndexError, KeyIndex, KeyOf};
 use std::alloc::{AllocError, Global};

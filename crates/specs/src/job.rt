@@ -1,15 +1,23 @@
 //! Jobs, and lists of them.
 ghost use Rattle.std.specs.Prelude.{◌≡◌, List, [], ◌∷◌, ◌++◌, ◌<◌, ◌^◌, length, IfOk, IsOk, IfErr, OnOk, OnErr, IfSome, IfNone};
 ghost use Rattle.std.specs.VecDeque.{deque_len, deque_capacity};
-ghost use Rattle.specs.specs.Going.{Lengthens};
-ghost use Rattle.specs.specs.Queue.{queued, listed};
+ghost use Rattle.specs.specs.Laws.Going.{Lengthens};
+ghost use Rattle.specs.specs.Job.Queue.{queued, listed};
 ghost use Rattle.specs.specs.declared.job.Job.TheVariants.{Insert, InsertAll, Remove, Mark, Own};
 
-use crate::no_job::NoJob;
+mod act;
+mod no_job;
+mod running;
+mod world_job;
+
 use crate::slots::Held;
+pub use act::{Act, Doing};
 use entities::Entity;
+pub use no_job::NoJob;
+pub(crate) use running::run_jobs;
 use std::alloc::{AllocError, AllocFailed, Global};
 use std::collections::VecDeque;
+pub use world_job::WorldJob;
 
 // From so many jobs on, a full queue gets room for twice as many and no longer for four times as many.
 const MANY: usize = 1 << 20;

@@ -1,10 +1,10 @@
 //! Laws over all runs.
-ghost use Rattle.specs.specs.Following.{Follows, Replays};
-ghost use Rattle.specs.specs.Keeping.{EvolvingKeepsGone, EvolvingKeepsLiving, LoadsKeep, PhasesKeepGone, PhasesKeepLiving, StopsKeep};
-ghost use Rattle.specs.specs.Laws.{KeepsOnlyLiving, ReachesOnlyLiving, StaysGone, TellsWatched, StaysWatched};
+ghost use Rattle.specs.specs.Reading.Following.{Follows, Replays};
+ghost use Rattle.specs.specs.Laws.Keeping.{EvolvingKeepsGone, EvolvingKeepsLiving, LoadsKeep, PhasesKeepGone, PhasesKeepLiving, StopsKeep};
+ghost use Rattle.specs.specs.Laws.Runs.{KeepsOnlyLiving, ReachesOnlyLiving, StaysGone, TellsWatched, StaysWatched};
 
+use crate::job::WorldJob;
 use crate::slots::{CloneStorages, Held};
-use crate::world_job::WorldJob;
 use saveload::{DeserializeComponents, Marker};
 
 /// From a state where each index with a value lives, every run leads to such a state, with whatever jobs. A new world is in such a state, so

@@ -1,56 +1,27 @@
 //! A world of entities and component storages, for any struct of storages: a port of the crate `specs`.
 #![tactic(auto)]
 
-mod act;
-mod apply;
 mod builder;
-mod building;
-pub mod by_type;
-mod channel_call;
 mod command;
-mod core_parts;
-mod create_iter;
-mod deferred;
-mod dropping;
-mod everyone;
-pub mod field;
-pub mod field_marks;
-mod has;
-mod indexed_runs;
 mod indexing;
 mod job;
 mod laws;
-mod lazy_builder;
-mod no_job;
-mod running;
-mod selection;
 mod slots;
 mod typed;
-mod view_reads;
 mod world;
-mod world_deref;
-mod world_job;
-mod writing;
 
-pub use act::{Act, Doing};
-pub use builder::{BuildError, Builder, EntityBuilder, MarkedBuilder};
-pub use channel_call::{ChannelCall, ChannelReply};
-pub use command::{Command, Maintained, Refusal, Reply, SetExpr};
-pub use core_parts::{Core, DeleteError, Parts};
-pub use create_iter::CreateIter;
-pub use has::{Field, Has, component, slot, value};
+pub use builder::{BuildError, Builder, CreateIter, EntityBuilder, LazyBuilder, MarkedBuilder};
+pub use command::{ChannelCall, ChannelReply, Command, Maintained, Refusal, Reply, SetExpr};
 pub use indexing::WorldIndexError;
-pub use job::{Job, JobList, LazyUpdate};
+pub use job::{Act, Doing, Job, JobList, LazyUpdate, NoJob, WorldJob};
 pub use laws::{
     events_lead, evolving_keeps, loads_keep, only_living, phases_keep, quiet_runs, stays_dead,
 };
-pub use lazy_builder::LazyBuilder;
-pub use no_job::NoJob;
 pub use slots::{CloneStorages, Held, Storages};
-pub use typed::Unregistered;
-pub use world::{World, WorldParts};
-pub use world_job::WorldJob;
-pub use writing::Writing;
+pub use typed::{
+    Field, Has, Unregistered, Writing, by_type, component, field, field_marks, slot, value,
+};
+pub use world::{Core, DeleteError, Parts, World, WorldParts};
 
 // Of the crates below, so that one import has all that a user of a world takes.
 pub use entities::Allocator;
@@ -131,6 +102,7 @@ pub use phase_threads::Turn;
 pub use phase_threads::in_threads;
 pub use phase_threads::in_threads_by;
 pub use saveload::ConvertSaveload;
+pub use saveload::Datum;
 pub use saveload::DeserializeComponents;
 pub use saveload::EntityData;
 pub use saveload::JsonData;
@@ -142,6 +114,7 @@ pub use saveload::LoadError;
 pub use saveload::MarkError;
 pub use saveload::Marker;
 pub use saveload::MarkerAllocator;
+pub use saveload::Plain;
 pub use saveload::Relation;
 pub use saveload::SaveError;
 pub use saveload::SavedText;
@@ -180,14 +153,17 @@ pub use storages::InsertError;
 pub use storages::Kind;
 pub use storages::MaskedStorage;
 pub use storages::MaybeTracked;
+pub use storages::NoReaders;
 pub use storages::NotLent;
 pub use storages::NullComponent;
 pub use storages::NullStorage;
 pub use storages::Numbered;
 pub use storages::OccupiedEntry;
 pub use storages::ReadStorage;
+pub use storages::ReaderCalls;
 pub use storages::ReaderId;
 pub use storages::Replaced;
+pub use storages::Silent;
 pub use storages::SliceAccess;
 pub use storages::SliceAccessMut;
 pub use storages::StorageEntry;
@@ -198,4 +174,5 @@ pub use storages::UnprotectedStorage;
 pub use storages::VacantEntry;
 pub use storages::VecStorage;
 pub use storages::WithComponent;
+pub use storages::WithReaders;
 pub use storages::WriteStorage;

@@ -2,23 +2,29 @@
 ghost use Rattle.std.specs.Prelude.{◌≡◌, ℕ, true, Some, None, IsSome, IfSome, IfOk, IsOk, OnOk, OnErr};
 ghost use Rattle.std.specs.Borrow.{sem};
 ghost use Rattle.storages.specs.ReadView as reading;
-ghost use Rattle.specs.specs.Going.{GoesOn};
-ghost use Rattle.specs.specs.Gone.{KeepsGone};
-ghost use Rattle.specs.specs.Reached.{KeepsLiving};
-ghost use Rattle.specs.specs.Registering.{RegistersAs, column_with};
-ghost use Rattle.specs.specs.State.{core_state, OnTable};
-ghost use Rattle.specs.specs.Table.{Registers};
-ghost use Rattle.specs.specs.Writing.{lent, RestsUnregistered};
+ghost use Rattle.specs.specs.Laws.Going.{GoesOn};
+ghost use Rattle.specs.specs.Laws.Gone.{KeepsGone};
+ghost use Rattle.specs.specs.Laws.Reached.{KeepsLiving};
+ghost use Rattle.specs.specs.Slots.Registering.{RegistersAs, column_with};
+ghost use Rattle.specs.specs.World.State.{core_state, OnTable};
+ghost use Rattle.specs.specs.Slots.Table.{Registers};
+ghost use Rattle.specs.specs.Typed.Writing.{lent, RestsUnregistered};
 
-use crate::by_type;
-use crate::core_parts::Core;
-use crate::has::{Field, Has};
+pub mod by_type;
+pub mod field;
+pub mod field_marks;
+mod has;
+mod view_reads;
+mod writing;
+
 use crate::slots::Held;
-use crate::writing::Writing;
+use crate::world::Core;
+pub use has::{Field, Has, component, slot, value};
 use std::alloc::AllocError;
 use std::marker::PhantomData;
 use storages::{Component, ReadStorage, UnprotectedStorage};
 use thiserror::Error;
+pub use writing::Writing;
 
 /// No storage is registered for the component type. Nothing changed.
 #[derive(Clone, Copy, Debug, PartialEq, Eq, Error)]
@@ -54,7 +60,8 @@ impl<S: Held> Core<S> {
         ensures registers { OnTable (λ t t'. RegistersAs t S.the_slot (column_with (T.Storage.meaning storage)) t') (core_state S.table S.ids self.old) (core_state S.table S.ids self.new) }
         ensures living { KeepsLiving (core_state S.table S.ids self.old) (core_state S.table S.ids self.new) }
         ensures gone { KeepsGone (core_state S.table S.ids self.old).people (core_state S.table S.ids self.new).people }
-        ensures slice { S.part self.old.parts.storages ≡ None → IfSome (S.part self.new.parts.storages) (λ w. (w.extent ≡ (T.Storage.meaning storage).extent) × (w.order ≡ (T.Storage.meaning storage).order)) }
+        ensures slice { S.part self.old.parts.storages ≡ None
+            → IfSome (S.part self.new.parts.storages) (λ w. (w.extent ≡ (T.Storage.meaning storage).extent) × (w.order ≡ (T.Storage.meaning storage).order)) }
     {
         by_type::register_with(&mut self.parts.storages, self.alloc, storage);
     }

@@ -3,21 +3,25 @@ ghost use Rattle.std.specs.Prelude.{◌≡◌, ℕ, [], ◌++◌, IfOk, IsOk, On
 ghost use Rattle.std.specs.Borrow.{sem};
 ghost use Rattle.std.specs.List.{All};
 ghost use Rattle.entities.specs.Population.{no_one};
-ghost use Rattle.specs.specs.Gone.{IsGone, KeepsGone};
-ghost use Rattle.specs.specs.Laws.{FollowsQuietly};
-ghost use Rattle.specs.specs.Lending.{LendsWorldParts};
-ghost use Rattle.specs.specs.People.{NoneMarked};
-ghost use Rattle.specs.specs.Reached.{HasNoValue, IsNew, KeepsLiving, OnlyLiving};
-ghost use Rattle.specs.specs.State.{state_of};
-ghost use Rattle.specs.specs.Steps.{world_state, Maintains, Run};
+ghost use Rattle.specs.specs.Laws.Gone.{IsGone, KeepsGone};
+ghost use Rattle.specs.specs.Laws.Runs.{FollowsQuietly};
+ghost use Rattle.specs.specs.World.Lending.{LendsWorldParts};
+ghost use Rattle.specs.specs.World.People.{NoneMarked};
+ghost use Rattle.specs.specs.Laws.Reached.{HasNoValue, IsNew, KeepsLiving, OnlyLiving};
+ghost use Rattle.specs.specs.World.State.{state_of};
+ghost use Rattle.specs.specs.Job.Steps.{world_state, Maintains, Run};
+
+mod core_parts;
+mod deferred;
+mod deref;
+mod dropping;
+mod everyone;
+mod selection;
 
 use crate::command::{Command, Maintained, Reply};
-use crate::core_parts::Core;
-use crate::job::{Job, LazyUpdate};
-use crate::no_job::NoJob;
-use crate::running::run_jobs;
+use crate::job::{Job, LazyUpdate, NoJob, WorldJob, run_jobs};
 use crate::slots::{CloneStorages, Held, Storages};
-use crate::world_job::WorldJob;
+pub use core_parts::{Core, DeleteError, Parts};
 use std::alloc::{AllocError, Global};
 
 /// What a world lends: its entities with their components, and its queue of jobs.

@@ -1,15 +1,16 @@
 //! The lines of a script that have to do with labels.
 use crate::parse::Saving;
 use crate::printed::write_entity;
-use composed::{Both, Sole};
-use saveload::{
-    LoadError, SaveError, deserialize, from_json, serialize_recursive, serialize_to_json, to_json,
-};
-use slots::{Label, SavedSlots};
+use composed::{Both, LoadWorldError, SaveWorldError, SavedTypes, Sole, TwoFields};
+use saveload::{LoadError, SaveError, serialize_recursive, to_json};
+use slots::{Label, Labels, Link, Position, SavedPlaces, SavedSlots};
 use specs::{CloneStorages, EntitiesRes, Entity, MarkError, Refusal};
 use std::alloc::{AllocError, Global};
 use std::fmt;
-use storages::{ReadStorage, WriteStorage};
+use storages::{MaskedStorage, ReadStorage, WriteStorage};
+
+/// The component types that are saved.
+type SavedComponents = (Position, Link);
 
 /// What is printed for a line that has to do with labels.
 #[derive(Drop)]
@@ -53,6 +54,7 @@ impl From<MarkError> for SavingError {
     fn from(error: MarkError) -> Self {
         match error {
             MarkError::Unregistered | MarkError::NoMarker => SavingError::Unregistered,
+            // Ids are numbers, of which none that is new is taken.
             MarkError::IdsExhausted | MarkError::IdTaken => SavingError::IdsExhausted,
             MarkError::OutOfMemory => SavingError::OutOfMemory,
         }
@@ -73,6 +75,7 @@ impl From<SaveError> for SavingError {
         match error {
             SaveError::Unmarked(e) => SavingError::Unmarked(e),
             SaveError::IdsExhausted | SaveError::IdTaken => SavingError::IdsExhausted,
+            // No saved component has a cause of its own.
             SaveError::Custom(_) | SaveError::OutOfMemory => SavingError::OutOfMemory,
         }
     }
@@ -83,7 +86,26 @@ impl From<LoadError> for SavingError {
         match error {
             LoadError::NotTheForm => SavingError::NotTheForm,
             LoadError::IndexLimit => SavingError::IndexLimit,
+            // No saved component has a cause of its own.
             LoadError::Custom(_) | LoadError::OutOfMemory => SavingError::OutOfMemory,
+        }
+    }
+}
+
+impl From<SaveWorldError> for SavingError {
+    fn from(error: SaveWorldError) -> Self {
+        match error {
+            SaveWorldError::Unregistered => SavingError::Unregistered,
+            SaveWorldError::Refused(error) => SavingError::from(error),
+        }
+    }
+}
+
+impl From<LoadWorldError> for SavingError {
+    fn from(error: LoadWorldError) -> Self {
+        match error {
+            LoadWorldError::Unregistered => SavingError::Unregistered,
+            LoadWorldError::Refused(error) => SavingError::from(error),
         }
     }
 }
@@ -124,14 +146,21 @@ pub trait Saves {
 
 impl<A> Saves for Both<A, SavedSlots> {
     fn said(&mut self, alloc: Global, entities: &mut EntitiesRes, line: Saving<'_>) -> Said {
-        let saved = &mut self.rest;
+        let Both {
+            first: places,
+            rest: labels,
+        } = &mut self.rest;
         let done = match line {
             Saving::Label(e) => {
-                label(&mut saved.rest, entities, Sole::Sole, e).map(|label| Said::Label(label))
+                label(labels, entities, Sole::Sole, e).map(|label| Said::Label(label))
             }
-            Saving::Save => save(alloc, entities, saved).map(|text| Said::Text(text)),
-            Saving::SaveAll => save_all(alloc, entities, saved).map(|text| Said::Text(text)),
-            Saving::Load(text) => load(alloc, entities, saved, text).map(|()| Said::Done),
+            Saving::Save => save(alloc, entities, places, labels).map(|text| Said::Text(text)),
+            Saving::SaveAll => {
+                save_all(alloc, entities, places, labels).map(|text| Said::Text(text))
+            }
+            Saving::Load(text) => {
+                load(alloc, entities, places, labels, text).map(|()| Said::Done)
+            }
         };
         match done {
             Ok(said) => said,
@@ -156,45 +185,32 @@ fn label<S: CloneStorages>(
 }
 
 /// The text of the entities that have labels.
-fn save(alloc: Global, entities: &EntitiesRes, saved: &SavedSlots) -> Result<String, SavingError> {
-    let Some(positions) = &saved.first.first.field else {
-        return Err(SavingError::Unregistered);
-    };
-    let Some(links) = &saved.first.rest.field else {
-        return Err(SavingError::Unregistered);
-    };
-    let Some(labels) = &saved.rest.markers.field else {
-        return Err(SavingError::Unregistered);
-    };
-    let places = (
-        ReadStorage::new(entities, positions),
-        ReadStorage::new(entities, links),
-    );
-    let markers = ReadStorage::new(entities, labels);
-    Ok(serialize_to_json(alloc, &places, &markers)?)
+fn save(
+    alloc: Global,
+    entities: &EntitiesRes,
+    places: &SavedPlaces,
+    labels: &Labels,
+) -> Result<String, SavingError> {
+    Ok(SavedComponents::save(alloc, places, entities, labels)?)
 }
 
 /// The text of the entities that have labels, and of those that they lead to, which get labels.
 fn save_all(
     alloc: Global,
     entities: &EntitiesRes,
-    saved: &mut SavedSlots,
+    places: &SavedPlaces,
+    labels: &mut Labels,
 ) -> Result<String, SavingError> {
-    let Some(positions) = &saved.first.first.field else {
+    let storages: Option<(&MaskedStorage<Position>, &MaskedStorage<Link>)> = places.two();
+    let (Some((positions, links)), Some(markers)) = (storages, &mut labels.markers.field) else {
         return Err(SavingError::Unregistered);
     };
-    let Some(links) = &saved.first.rest.field else {
-        return Err(SavingError::Unregistered);
-    };
-    let Some(labels) = &mut saved.rest.markers.field else {
-        return Err(SavingError::Unregistered);
-    };
-    let places = (
+    let saved = (
         ReadStorage::new(entities, positions),
         ReadStorage::new(entities, links),
     );
-    let mut markers = WriteStorage::new(entities, labels);
-    let list = serialize_recursive(alloc, &places, &mut saved.rest.allocator, &mut markers)?;
+    let mut markers = WriteStorage::new(entities, markers);
+    let list = serialize_recursive(alloc, &saved, &mut labels.allocator, &mut markers)?;
     Ok(to_json(alloc, &list)?)
 }
 
@@ -202,26 +218,10 @@ fn save_all(
 fn load(
     alloc: Global,
     entities: &mut EntitiesRes,
-    saved: &mut SavedSlots,
+    places: &mut SavedPlaces,
+    labels: &mut Labels,
     text: &str,
 ) -> Result<(), SavingError> {
-    let Some(positions) = &mut saved.first.first.field else {
-        return Err(SavingError::Unregistered);
-    };
-    let Some(links) = &mut saved.first.rest.field else {
-        return Err(SavingError::Unregistered);
-    };
-    let Some(labels) = &mut saved.rest.markers.field else {
-        return Err(SavingError::Unregistered);
-    };
-    let list = from_json(alloc, text)?;
-    deserialize(
-        alloc,
-        &mut (positions, links),
-        entities,
-        labels,
-        &mut saved.rest.allocator,
-        list,
-    )?;
+    SavedComponents::load(alloc, places, entities, labels, text)?;
     Ok(())
 }

@@ -20,7 +20,15 @@ module _ {T : Type 0} where
   value_of values ids places q = value_there values ids q (slice_get places q)
 
   abbrev pub meaning_of : List T → List ℕ → List ℕ → Meaning T
-  meaning_of values ids places = record { at = value_of values ids places; is_free = λ q. is_none (value_of values ids places q); extent = None; order = ids; channel = silent; room = None; inner_room = None }
+  meaning_of values ids places = record {
+    at = value_of values ids places;
+    is_free = λ q. is_none (value_of values ids places q);
+    extent = None;
+    order = ids;
+    channel = silent;
+    room = None;
+    inner_room = None;
+  }
 
 -- each value has an id, and the place of that id is the value's
 pub record IsConsistent (n : ℕ) (ids places : List ℕ) : Type 0 where
@@ -32,4 +40,13 @@ pub record ArePaged (len : ℕ) (ids : List ℕ) (places : Paged ℕ) : Type 0 w
   pub paged : (k i : ℕ) → slice_get ids k ≡ Some i → HasPage len places i
 
 pub new_of_empty : {T : Type 0} (values : List T) (ids places : List ℕ) → places ≡ [] → IsNew (meaning_of values ids places)
-new_of_empty values ids places e = record { free = λ q. ap (λ (ps : List ℕ). is_none (value_of values ids ps q)) e; extent = refl; registered = refl; readers = refl; emission = refl; room = refl; inner_room = refl }
+new_of_empty values ids places e = record {
+  free = λ q. ap (λ (ps : List ℕ). is_none (value_of values ids ps q)) e;
+  extent = refl;
+  registered = refl;
+  readers =
+      refl;
+  emission = refl;
+  room = refl;
+  inner_room = refl;
+}

@@ -109,7 +109,8 @@ tells_then c d c' es fs e a b = record {
   off = λ off n. b.off (e ∙ off) n ∙ a.off off n;
 }
 
-emits : (b : Bool) (es : List ComponentEvent) (n : ℕ) (ws rs : List (ℕ × List ComponentEvent)) → unread_of n ws ≡ with_events es (unread_of n rs) → b ≡ true → unread_of n (cond b ws rs) ≡ with_events es (unread_of n rs)
+emits : (b : Bool) (es : List ComponentEvent) (n : ℕ) (ws rs : List (ℕ × List ComponentEvent)) → unread_of n ws ≡ with_events es (unread_of n rs) → b ≡ true
+    → unread_of n (cond b ws rs) ≡ with_events es (unread_of n rs)
 emits true es n ws rs e on = e
 emits false es n ws rs e on = absurd (false≢true on)
 

@@ -7,6 +7,7 @@ pub mod ChannelState
 pub mod Readers
 pub mod Flagged
 pub mod Vec
+pub mod VecValues
 pub mod Dense
 pub mod DenseValues
 pub mod DefaultVec

@@ -16,4 +16,12 @@ module _ {T : Type 0} where
   meaning_of_tree m = meaning_by (tree.get nat_cmp m)
 
   pub new_of_no_tree : (m : tree.BTreeMap ℕ T) → tree.IsEmpty m → IsNew (meaning_of_tree m)
-  new_of_no_tree m e = record { free = λ q. ap (λ (es : List (ℕ × T)). is_none (lookup (tree.is_at (nat_cmp q)) es)) e; extent = refl; registered = refl; readers = refl; emission = refl; room = refl; inner_room = refl }
+  new_of_no_tree m e = record {
+    free = λ q. ap (λ (es : List (ℕ × T)). is_none (lookup (tree.is_at (nat_cmp q)) es)) e;
+    extent = refl;
+    registered = refl;
+    readers = refl;
+    emission = refl;
+    room = refl;
+    inner_room = refl;
+  }

@@ -140,7 +140,8 @@ pub trait GenericWriteStorage {
         ensures ok { OnOk result (Puts (sight self.old).slot (sight self.new).slot (index_of entity) component (is_some (found_in (sight self.old).entities (sight self.old).slot entity))) }
         ensures err { OnErr result (IsSame (sight self.old).slot (sight self.new).slot) }
         ensures succeeds { IsSome (found_in (sight self.old).entities (sight self.old).slot entity) → HasRoom (sight self.old).slot.room 1 → IsOk result }
-        ensures refused { IfErr result (λ e. IsInsertError e entity component INSERT.now (is_alive (population (sight self.old).entities) entity) (generation_now (population (sight self.old).entities) (index_of entity))) };
+        ensures refused { IfErr result (λ e. IsInsertError e entity component INSERT.now (is_alive (population (sight self.old).entities) entity)
+            (generation_now (population (sight self.old).entities) (index_of entity))) };
 
     /// Takes the component of an entity that is alive out, if there is one, and lets it go. After an error nothing has
     /// changed.

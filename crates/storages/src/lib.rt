@@ -35,7 +35,7 @@ pub use kinds::{
     VecStorage,
 };
 pub use masked::{MaskedStorage, NotLent, Replaced};
-pub use maybe_tracked::MaybeTracked;
+pub use maybe_tracked::{MaybeTracked, NoReaders, ReaderCalls, Silent, WithReaders};
 pub use read_storage::ReadStorage;
 pub use reader_id::{ReaderId, UnknownReader};
 pub use slices::{SliceAccess, SliceAccessMut};

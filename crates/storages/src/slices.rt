@@ -113,7 +113,8 @@ where
         ensures* writes_back { sem 𝓛 (lends_slice T.row T.Storage.row T.Storage.meaning T.Storage.item_at self.entry result) }
         ensures value { T.Storage.IsSlice (map.get (slot self.old).map) (slot self.old).extent (slot self.old).order result.now }
         ensures places { (q : ℕ) → IsSome (map.get (slot self.old).map q) → T.Storage.item_at (slot self.old).order result.now q ≡ map.get (slot self.old).map q }
-        ensures each { (xs : List T) (q : ℕ) → map.get (with_slice T.Storage.item_at (slot self.old) xs).map q ≡ cond (map.contains_key (slot self.old).map q) (T.Storage.item_at (slot self.old).order xs q) None }
+        ensures each { (xs : List T) (q : ℕ) → map.get (with_slice T.Storage.item_at (slot self.old) xs).map q ≡ cond (map.contains_key (slot self.old).map q)
+            (T.Storage.item_at (slot self.old).order xs q) None }
     {
         self.masked_mut().as_mut_slice()
     }

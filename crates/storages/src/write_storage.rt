@@ -227,7 +227,8 @@ where
         ensures ok { OnOk result (Puts (slot self.old) (slot self.new) (index_of entity) value (is_some (found self.old entity))) }
         ensures err { OnErr result (IsSame (slot self.old) (slot self.new)) }
         ensures succeeds { IsSome (found self.old entity) → HasRoom (slot self.old).room 1 → IsOk result }
-        ensures refused { IfErr result (λ e. IsInsertError e entity value INSERT.now (is_alive (population (entities_of self.old)) entity) (generation_now (population (entities_of self.old)) (index_of entity))) }
+        ensures refused { IfErr result (λ e. IsInsertError e entity value INSERT.now (is_alive (population (entities_of self.old)) entity)
+            (generation_now (population (entities_of self.old)) (index_of entity))) }
     {
         if !is_living(self.entities, entity) {
             let error = WrongGeneration {

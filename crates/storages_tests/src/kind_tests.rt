@@ -9,6 +9,7 @@ use crate::stories::{
 };
 use crate::world::{World, new_world};
 use entities::Entity;
+use hibits::INDEX_LIMIT;
 use std::alloc::Global;
 use std::process::Abort;
 use std::test::Fail;
@@ -91,7 +92,11 @@ fn the_last_is_moved<R: Abort, S: Sliced>(rt: &R, shelf: &mut S) {
 
 // The values of indices that are far apart have no gaps, and each has a page, which goes as all do.
 fn far_indices_lie_close<R: Abort, S: Doubled>(rt: &R, shelf: &mut S) {
-    put_all(rt, shelf, &[(0, 1), (4095, 2), (4096, 3), (16_777_215, 4)]);
+    put_all(
+        rt,
+        shelf,
+        &[(0, 1), (4095, 2), (4096, 3), (INDEX_LIMIT - 1, 4)],
+    );
     equal!(rt; shelf.pages(), 4);
     gives!(rt; shelf.take_out(4095), Some(2));
     holds!(rt; shelf.has_slice(&[1, 4, 3]));

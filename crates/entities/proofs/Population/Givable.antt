@@ -4,6 +4,7 @@ use Rattle.std.specs.List.{count_by}
 use Rattle.std.proofs.lemmas.Bool.{cases_eq, ne_eqb, eq-eqb}
 use Rattle.std.proofs.lemmas.List.Sums.{sum_by-cons}
 use Rattle.hibits.specs.Counts.{count_below}
+use Rattle.hibits.specs.declared.limits.TheConstants.{INDEX_LIMIT}
 use Rattle.entities.specs.Census.{Census, population, births_of}
 use Rattle.entities.specs.Population.{is_free}
 use Rattle.entities.specs.Kept.{IsStacked, free_at}
@@ -72,6 +73,6 @@ past c (suc m) s =
 up_to : (c : Census) (n : ℕ) → IsStacked c.generations c.free → length c.generations ≤ n → count_below (can_be c) n ≡ length c.free + (n - length c.generations)
 up_to c n s le = ap (count_below (can_be c)) (let e : n ≡ length c.generations + (n - length c.generations) = omega arith in e) ∙ past c (n - length c.generations) s
 
-pub givable_is : (c : Census) → IsStacked c.generations c.free → length c.generations ≤ 16777216 → givable (population c) ≡ length c.free + (16777216 - length c.generations)
+pub givable_is : (c : Census) → IsStacked c.generations c.free → length c.generations ≤ INDEX_LIMIT → givable (population c) ≡ length c.free + (INDEX_LIMIT - length c.generations)
 unfolding givable can_be
-givable_is c s le = up_to c 16777216 s le
+givable_is c s le = up_to c INDEX_LIMIT s le

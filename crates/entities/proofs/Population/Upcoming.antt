@@ -9,6 +9,7 @@ use Rattle.std.proofs.lemmas.List.{length-take-le, take_more, same_from_push, le
 use Rattle.std.proofs.lemmas.List.Sums.{sum_by-cons}
 use Rattle.std.proofs.lemmas.List.Folds.{list_any-append}
 use Rattle.std.proofs.lemmas.Option.{slice_get-get_or, slice_get_past}
+use Rattle.hibits.specs.declared.limits.TheConstants.{INDEX_LIMIT}
 use Rattle.entities.specs.declared.entity.Entity.{Entity}
 use Rattle.entities.specs.Census.{Census, population, births_of, living_of}
 use Rattle.entities.specs.Population.{Population, MayBeBorn, NoneFree, IsLeastUnused, is_free, born_pending}
@@ -207,13 +208,13 @@ least_left c t s le = (none, lower)
           λ z. omega (arith, rw h at z)
     ]
 
-pub may_be_born : (c : Census) (n t : ℕ) → IsStacked c.generations c.free → length c.generations + (n - length c.free) ≤ 16777216 → t < n → MayBeBorn (with_births (upcoming c t) (population c)) (next_index c t)
+pub may_be_born : (c : Census) (n t : ℕ) → IsStacked c.generations c.free → length c.generations + (n - length c.free) ≤ INDEX_LIMIT → t < n → MayBeBorn (with_births (upcoming c t) (population c)) (next_index c t)
 may_be_born c n t s few lt = elim (cases_lt t (length c.free)) [
   | inl low ↦ inl (still_free (population c) (upcoming c t) (next_index c t) (fresh_next c t s) ∙ free_is c (next_index c t) ∙ ap (λ (i : ℕ). free_at (get_or c.generations i (pos 0))) (next_low c t low) ∙ stack_free c.generations c.free (length c.free - 1 - t) s (omega arith))
   | inr high ↦ inr (none_left c t s high, least_left c t s high, omega (arith, next_high c t high))
 ]
 
-pub reserve_is : (c : Census) (n : ℕ) → IsStacked c.generations c.free → length c.generations + (n - length c.free) ≤ 16777216 → IsReserve (population c) (upcoming c n)
+pub reserve_is : (c : Census) (n : ℕ) → IsStacked c.generations c.free → length c.generations + (n - length c.free) ≤ INDEX_LIMIT → IsReserve (population c) (upcoming c n)
 reserve_is c n s few = record {
   may = λ t e is. let at = upcoming_is c n t e is in
       subst (λ (x : Entity). MayBeBorn (with_births (take t (upcoming c n)) (population c)) x.0) (sym at.1)

@@ -19,6 +19,7 @@ impl Allocator {
         ensures limit { result ≤ INDEX_LIMIT }
         ensures left { givable (population self.now) ≡ length self.now.free + (INDEX_LIMIT - length self.now.generations) }
     {
+        // A look at a field tells the proof what an allocator keeps.
         let _ = &self.room;
         self.generations.len()
     }
@@ -52,6 +53,7 @@ impl Allocator {
         ensures reserve { IfOk result (λ v. IsReserve (population self.now) v.items) }
         ensures revived { IfOk result (λ v. (k : ℕ) (e : Entity) → slice_get v.items k ≡ Some e → k < length self.now.free → index_of e < length self.now.generations) }
     {
+        // A look at a field tells the proof what an allocator keeps.
         let _ = &self.room;
         let mut entities = Vec::with_capacity(alloc, count)?;
         for earlier in 0..count {
@@ -66,6 +68,7 @@ impl Allocator {
         ensures born { population self.new ≡ with_births (upcoming self.old count) (population self.old) }
         ensures room { self.new.room ≡ self.old.room }
     {
+        // A look at a field tells the proof what an allocator keeps.
         let _ = &self.room;
         for earlier in 0..count {
             match self.revive(true) {

@@ -99,6 +99,7 @@ impl<T: Component> ForEach<T> for MaskedStorage<T> {
     {
         let mut cursor = self.join_mut(join);
         let done = cursor.for_each(f);
+        // A cursor that is taken apart tells the proof what the storage is now; one that is dropped does not.
         let _storage = cursor.into_storage();
         match done {
             Ok(()) => Ok(()),
@@ -117,6 +118,7 @@ impl<T: Component> ForEach<T> for MaskedStorage<T> {
     {
         let mut cursor = self.join_mut(join);
         let done = cursor.update_each(f);
+        // A cursor that is taken apart tells the proof what the storage is now; one that is dropped does not.
         let _storage = cursor.into_storage();
         match done {
             Ok(()) => Ok(()),
@@ -135,6 +137,7 @@ impl<T: Component> ForEach<T> for MaskedStorage<T> {
     {
         let mut cursor = self.join_mut(join);
         let done = cursor.try_for_each(f);
+        // A cursor that is taken apart tells the proof what the storage is now; one that is dropped does not.
         let _storage = cursor.into_storage();
         match done {
             Ok(()) => Ok(()),

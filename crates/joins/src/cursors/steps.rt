@@ -25,6 +25,7 @@ impl<M: Layers> Layers for Uncounted<M> {
 
     #[inline(always)]
     fn word(&self, level: usize, place: u32, reads: &mut Reads) -> u64 {
+        // That the count stays is a fact of `u64`, which a proof has once the count is read.
         let _ = reads.count();
         self.0.word(level, place, &mut Reads::new())
     }

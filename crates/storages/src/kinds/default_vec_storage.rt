@@ -146,10 +146,7 @@ fn extend_to<T: Default>(items: &mut Vec<T>, len: usize) -> Result<(), AllocErro
     let start = items.len();
     make_room(items, len)?;
     for _i in start..len {
-        match items.push(T::default()) {
-            Ok(()) => {}
-            Err(_) => unreachable!(),
-        }
+        items.push_reserved(T::default());
     }
     Ok(())
 }

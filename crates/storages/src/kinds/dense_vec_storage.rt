@@ -118,14 +118,8 @@ impl<T: Drop> UnprotectedStorage<T> for DenseVecStorage<T> {
             Err(e) => return Err((e, value)),
         }
         self.places.set(id, place);
-        match self.ids.push(id) {
-            Ok(()) => {}
-            Err(_) => unreachable!(),
-        }
-        match self.values.push(value) {
-            Ok(()) => {}
-            Err(_) => unreachable!(),
-        }
+        self.ids.push_reserved(id);
+        self.values.push_reserved(value);
         Ok(())
     }
 

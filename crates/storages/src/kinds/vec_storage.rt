@@ -129,10 +129,7 @@ fn extend_to<T>(items: &mut Vec<Option<T>>, len: usize) -> Result<(), AllocError
     let start = items.len();
     make_room(items, len)?;
     for _i in start..len {
-        match items.push(None) {
-            Ok(()) => {}
-            Err(_) => unreachable!(),
-        }
+        items.push_reserved(None);
     }
     Ok(())
 }

@@ -4,10 +4,10 @@ use Rattle.std.specs.Option.{option_map}
 use Rattle.std.proofs.lemmas.Bool.{false≢true, eq-eqb}
 use Rattle.entities.specs.declared.entity.Entity.{Entity}
 use Rattle.entities.specs.Population.{Population, index_of}
-use Rattle.specs.specs.Column.{Column}
-use Rattle.specs.specs.Maps.{put}
-use Rattle.specs.specs.Marks.{GivesMarker}
-use Rattle.specs.specs.Table.{Table}
+use Rattle.specs.specs.Slots.Column.{Column}
+use Rattle.specs.specs.Slots.Maps.{put}
+use Rattle.specs.specs.Slots.Marks.{GivesMarker}
+use Rattle.specs.specs.Slots.Table.{Table}
 use Rattle.entities.specs.Census.{population}
 use Rattle.callers.proofs.labels.is_labelled_anew.Goals as goal
 

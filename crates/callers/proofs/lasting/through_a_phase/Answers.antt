@@ -6,9 +6,9 @@ use Rattle.entities.specs.Phase.Calls.{IsClosed}
 use Rattle.entities.specs.Phase.Opened.{phase_opened}
 use Rattle.entities.specs.Phase.Reserve.{IsReserve}
 use Rattle.entities.specs.Phase.Trace.{Phase}
-use Rattle.specs.specs.Gone.{KeepsGone}
-use Rattle.specs.specs.Reached.{KeepsLiving}
-use Rattle.specs.specs.State.{State, core_state}
+use Rattle.specs.specs.Laws.Gone.{KeepsGone}
+use Rattle.specs.specs.Laws.Reached.{KeepsLiving}
+use Rattle.specs.specs.World.State.{State, core_state}
 use Rattle.callers.proofs.lasting.through_a_phase.Goals as goal
 
 -- the population at the opening, by another name

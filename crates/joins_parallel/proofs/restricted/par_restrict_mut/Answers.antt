@@ -1,4 +1,4 @@
-use Rattle.std.proofs.Common.{rules, ◌≡◌, length, ap, sym, ◌∙◌, slice_index_or}
+use Rattle.std.proofs.Common.{rules, ◌≡◌, true, slice_index_or, length, nat_le, ap, ◌∙◌, flat_map}
 use Rattle.std.specs.Prelude.{◌&&◌, IsOk}
 use Rattle.std.specs.FinMap as map
 use Rattle.joins.specs.Indexed.{Indexed}
@@ -6,38 +6,48 @@ use Rattle.std.specs.Ordering.{nat_cmp}
 use Rattle.rayon.proofs.ListFacts.{AllZip-weaken}
 use Rattle.hibits.specs.Left.{left}
 use Rattle.hibits.specs.Sets.{has_part_zero}
+use Rattle.hibits.specs.Words.{words-empty}
+use Rattle.joins_parallel.specs.declared.cut.TheConstants.{LEAST_WORDS}
+use Rattle.joins_parallel.specs.Cutting.{listed}
 use Rattle.joins_parallel.proofs.Each.{remake_each, remake_others}
-use Rattle.joins_parallel.proofs.Replacing.{each_left, each_right, zip_lengths, after_room, room_for_none}
+use Rattle.joins_parallel.proofs.Replacing.{each_left, each_right, given_each, few_given, none_given, zip_lengths, after_room, room_for_none, puts_given}
 use Rattle.joins_parallel.proofs.restricted.par_restrict_mut.Goals as goal
 
 pub remade_of-requires-clause-present : goal.remade_of-requires-clause-present
 remade_of-requires-clause-present g c κs within =
-    each_left (λ i. map.contains_key c.args.storage.now.map i) (g.J.Join.has c.args.join) c.deref.result.now (c.deref.ensures.value ∙ c.in_ok-list.ensures.items ∙ ap (λ p. left p 0) (λ t i. (has_part_zero c.mask.result.now.members i ∙ c.mask.ensures i) t && c.open-mask.ensures.mask i t))
+    let e = c.in_ok-cut.ensures.indices ∙ ap (λ p. left p 0) (λ t i. (has_part_zero c.mask.result.now.members i ∙ c.mask.ensures i) t && c.open-mask.ensures.mask i t) in
+    each_left (λ i. map.contains_key c.args.storage.now.map i) (g.J.Join.has c.args.join) _ e
 
 pub remade_of-requires-clause-ready : goal.remade_of-requires-clause-ready
 remade_of-requires-clause-ready g c κs within k d lt =
-    g.met.J.RepeatableJoin.ready _ _ (c.open-mask.ensures.ready _ (each_right (λ i. map.contains_key c.args.storage.now.map i) (g.J.Join.has c.args.join) c.deref.result.now (c.deref.ensures.value ∙ c.in_ok-list.ensures.items ∙ ap (λ p. left p 0) (λ t i. (has_part_zero c.mask.result.now.members i ∙ c.mask.ensures i) t && c.open-mask.ensures.mask i t)) k d lt))
+    let e = c.in_ok-cut.ensures.indices ∙ ap (λ p. left p 0) (λ t i. (has_part_zero c.mask.result.now.members i ∙ c.mask.ensures i) t && c.open-mask.ensures.mask i t) in
+    g.met.J.RepeatableJoin.ready _ _ (c.open-mask.ensures.ready _ (each_right (λ i. map.contains_key c.args.storage.now.map i) (g.J.Join.has c.args.join) _ e k d lt))
 
-pub write_all-requires-clause-lengths : goal.write_all-requires-clause-lengths
-write_all-requires-clause-lengths g c = ap length (c.deref-3.ensures.value ∙ sym c.deref.ensures.value) ∙ zip_lengths _ _ _ c.in_ok-made.ensures.made
+pub values_count-requires : goal.values_count-requires
+values_count-requires g c =
+    let made = c.in_ok-made.ensures.made in
+    few_given _ (listed c.in_ok-cut.cut) made.0 _ (ap (flat_map (λ w. w.items)) c.deref.ensures.value ∙ made.2) c.in_ok-cut.ensures.indices
 
 pub write_all-requires-clause-present : goal.write_all-requires-clause-present
-write_all-requires-clause-present g c k d lt =
-    ap (λ (m : map.FinMap nat_cmp g.row.T.Denot). map.contains_key m (slice_index_or c.deref-3.result.now k d)) c.reserve_events.ensures.same.map
-    ∙ each_left (λ i. map.contains_key c.args.storage.now.map i) (g.J.Join.has c.args.join) c.deref-3.result.now (c.deref-3.ensures.value ∙ c.in_ok-list.ensures.items ∙ ap (λ p. left p 0) (λ t i. (has_part_zero c.mask.result.now.members i ∙ c.mask.ensures i) t && c.open-mask.ensures.mask i t)) k d lt
+write_all-requires-clause-present g c =
+    let e = c.in_ok-cut.ensures.indices ∙ ap (λ p. left p 0) (λ t i. (has_part_zero c.mask.result.now.members i ∙ c.mask.ensures i) t && c.open-mask.ensures.mask i t) in
+    let made = c.in_ok-made.ensures.made in
+    rw made.2
+    (given_each (λ i. map.contains_key c.reserve_events.new.self.map i ≡ true) (listed c.in_ok-cut.cut) made.0 (λ k d lt.
+    ap (λ (m : map.FinMap nat_cmp g.row.T.Denot). map.contains_key m (slice_index_or (listed c.in_ok-cut.cut) k d)) c.reserve_events.ensures.same.map
+    ∙ each_left (λ i. map.contains_key c.args.storage.now.map i) (g.J.Join.has c.args.join) (listed c.in_ok-cut.cut) e k d lt))
 
 pub returns-clause-ok : goal.returns-clause-ok
 returns-clause-ok g c =
-    let tail = ap (λ p. left p 0) (λ t i. (has_part_zero c.mask.result.now.members i ∙ c.mask.ensures i) t && c.open-mask.ensures.mask i t) in
-    let e = c.deref.ensures.value ∙ c.in_ok-list.ensures.items ∙ tail in
-    let f = c.deref-3.ensures.value ∙ c.in_ok-list.ensures.items ∙ tail in
+    let e = c.in_ok-cut.ensures.indices ∙ ap (λ p. left p 0) (λ t i. (has_part_zero c.mask.result.now.members i ∙ c.mask.ensures i) t && c.open-mask.ensures.mask i t) in
+    let made = c.in_ok-made.ensures.made in
     record {
-      values = c.in_ok-made.made.items;
+      values = made.0;
       asked = rw e at (AllZip-weaken
           (λ i y. (x : Indexed g.row.T.Denot) × (z : g.row.J-Type.Denot) × (x.slot ≡ c.args.storage.now) × (x.index ≡ i) × g.J.Value.Lookup.finds c.open-mask.result.1 i z × g.F.Remake.makes c.args.f x z y)
           (λ i y. (x : Indexed g.row.T.Denot) × (z : g.row.J-Type.Denot) × (x.slot ≡ c.args.storage.now) × (x.index ≡ i) × g.J.Join.gives c.args.join i z × g.F.Remake.makes c.args.f x z y)
-          (λ i y w. (w.0, w.1, w.2, w.3, c.open-mask.ensures.gives i w.1 (g.met.J.RepeatableJoin.same _ i w.1 w.4), w.5)) _ _ c.in_ok-made.ensures.made);
-      replaces = rw f at (after_room _ _ _ _ _ c.reserve_events.ensures.same c.write_all.ensures);
+          (λ i y w. (w.0, w.1, w.2, w.3, c.open-mask.ensures.gives i w.1 (g.met.J.RepeatableJoin.same _ i w.1 w.4), w.5)) _ _ made.1);
+      replaces = rw e at (after_room _ _ _ _ _ c.reserve_events.ensures.same (puts_given _ _ (listed c.in_ok-cut.cut) made.0 (zip_lengths _ _ _ made.1) (rw made.2 at c.write_all.ensures)));
     }
 
 pub returns-clause-each : goal.returns-clause-each
@@ -46,21 +56,23 @@ returns-clause-each g c = remake_each _ _ _ _ _ (returns-clause-ok g c)
 pub returns-clause-others : goal.returns-clause-others
 returns-clause-others g c = remake_others _ _ _ _ _ (returns-clause-ok g c)
 
-pub returns-in_err-list-clause-idle : goal.returns-in_err-list-clause-idle
-returns-in_err-list-clause-idle g c none =
+pub returns-in_err-cut-clause-idle : goal.returns-in_err-cut-clause-idle
+returns-in_err-cut-clause-idle g c none =
     let tail = ap (λ p. left p 0) (λ t i. (has_part_zero c.mask.result.now.members i ∙ c.mask.ensures i) t && c.open-mask.ensures.mask i t) in
-    let idle : IsOk c.indices.result = c.indices.ensures.idle (tail ∙ none) in
+    let idle : IsOk c.cut_of.result = c.cut_of.ensures.idle (tail ∙ none) in
     search rules
 
 pub returns-in_err-made-clause-idle : goal.returns-in_err-made-clause-idle
 returns-in_err-made-clause-idle g c none =
     let tail = ap (λ p. left p 0) (λ t i. (has_part_zero c.mask.result.now.members i ∙ c.mask.ensures i) t && c.open-mask.ensures.mask i t) in
-    let idle : IsOk c.remade_of.result = c.remade_of.ensures.idle (c.deref.ensures.value ∙ c.in_ok-list.ensures.items ∙ tail ∙ none) in
+    let by_indices = c.in_ok-cut.ensures.at_words ∙ ap (λ ws. nat_le LEAST_WORDS (length ws)) (words-empty _ 0 (tail ∙ none)) in
+    let idle = c.remade_of.ensures.idle by_indices (c.in_ok-cut.ensures.indices ∙ tail ∙ none) in
     search rules
 
 pub returns-in_err-reserve_events-clause-idle : goal.returns-in_err-reserve_events-clause-idle
 returns-in_err-reserve_events-clause-idle g c none =
     let tail = ap (λ p. left p 0) (λ t i. (has_part_zero c.mask.result.now.members i ∙ c.mask.ensures i) t && c.open-mask.ensures.mask i t) in
-    let empty = ap length c.deref-2.ensures.value ∙ sym (zip_lengths _ _ _ c.in_ok-made.ensures.made) ∙ ap length (c.deref.ensures.value ∙ c.in_ok-list.ensures.items ∙ tail ∙ none) in
-    let idle : IsOk c.reserve_events.result = c.reserve_events.ensures.succeeds (rw c.count_values.ensures (room_for_none _ _ empty)) in
+    let made = c.in_ok-made.ensures.made in
+    let empty = c.values_count.ensures ∙ ap (λ ws. length (flat_map (λ w. w.items) ws)) c.deref.ensures.value ∙ ap length made.2 ∙ none_given (listed c.in_ok-cut.cut) made.0 (c.in_ok-cut.ensures.indices ∙ tail ∙ none) in
+    let idle : IsOk c.reserve_events.result = c.reserve_events.ensures.succeeds (room_for_none _ _ empty) in
     search rules

@@ -1,28 +1,18 @@
-use Rattle.std.proofs.Common.{◌≡◌, ℕ, true, ap, ◌∙◌, arith, max, Option, Some}
-use Rattle.std.specs.Prelude.{IfOk}
+use Rattle.std.proofs.Common.{◌≡◌, ℕ, Some, ◌∙◌}
+use Rattle.std.specs.Prelude.{Option}
 use Rattle.std.specs.FinMap as map
 use Rattle.std.specs.Borrow.{Bor}
-use Rattle.rayon.specs.Lists.{chunks_of, chunks_size, chunks_slice}
-use Rattle.rayon.proofs.ListFacts.{IfOk-then}
-use Rattle.rayon.proofs.ToStd.{slice-AllZip}
 use Rattle.std.specs.List.{AllZip}
-use Rattle.joins_parallel.proofs.Cuts.{chunks_of-each, answers_zip}
+use Rattle.rayon.proofs.ListFacts.{IfOk-then, AllZip-weaken}
+use Rattle.joins_parallel.specs.Cutting.{listed}
+use Rattle.joins_parallel.specs.Replacing.{at_index}
+use Rattle.joins_parallel.proofs.Replacing.{asked_given}
 use Rattle.joins_parallel.proofs.update.made_of.Goals as goal
-
-pub collect-requires-clause-ready : goal.collect-requires-clause-ready
-collect-requires-clause-ready g c κs within =
-    let here = chunks_of-each (λ i. map.contains_key c.args.storage.now.map i ≡ true) (max c.max-size.result 1) c.args.list.now c.requires.present in
-    let each = chunks_of-each (λ i. g.V.Lookup.can_look c.args.values.now i ≡ true) (max c.max-size.result 1) c.args.list.now c.requires.ready in
-    let called = chunks_of-each (λ i. (x : Bor g.row.T.Denot) (z : g.row.I.Denot) → map.get c.args.storage.now.map i ≡ Some x.now → g.V.Lookup.finds c.args.values.now i z → goal.F-pre g c.args.f.now x z) (max c.max-size.result 1) c.args.list.now c.requires.called in
-    rw (c.map.ensures.base, c.map.ensures.f, c.par_chunks.ensures.slice, c.par_chunks.ensures.size) (λ k d lt x e. ((rw e (here k d lt), rw e (each k d lt), rw e (called k d lt)), λ y p. tt))
 
 pub returns-clause-made : goal.returns-clause-made
 returns-clause-made g c =
     let P : ℕ → Option g.row.T.Denot → Type 0 = λ i y. (x : Bor g.row.T.Denot) × (z : g.row.I.Denot) × (map.get c.args.storage.now.map i ≡ Some x.now) × g.V.Lookup.finds c.args.values.now i z × goal.F-post g c.args.f.now x z y in
-    let made = c.in_ok-collect.ensures in
-    let got = rw c.in_ok-parts.was at made.2 in
-    let chain = rw c.map.ensures.f at made.1 in
-    let cut = chain.1 ∙ ap (λ it. chunks_of (max (chunks_size it) 1) (chunks_slice it)) c.map.ensures.base ∙ ap (chunks_of (max (chunks_size c.par_chunks.result) 1)) c.par_chunks.ensures.slice in
-    let zipped = slice-AllZip chain.0 (chunks_of (max (chunks_size c.par_chunks.result) 1) c.args.list.now) cut (λ part r. IfOk r (λ v. AllZip P part v.items)) made.0 chain.2 in
-    IfOk-then c.side_by_side.result _ _ c.side_by_side.ensures (λ v h.
-    rw h (answers_zip P (λ w. w.items) (max (chunks_size c.par_chunks.result) 1) c.args.list.now made.0 got.0 c.in_ok-parts.parts.items (omega arith) got.1 got.2 zipped))
+    IfOk-then c.ask_each.result _ _ c.ask_each.ensures.asked (λ v a.
+    let each : AllZip (λ i o. (y : Option g.row.T.Denot) × P i y × (o ≡ at_index i y)) (listed c.args.cut.now) a.options = AllZip-weaken _ _ (λ i o w. (w.0, (w.1, w.2, w.3, w.4, w.5), w.6)) _ _ a.each in
+    let all = asked_given P (listed c.args.cut.now) a.options each in
+    (all.0, all.1, a.values ∙ all.2))

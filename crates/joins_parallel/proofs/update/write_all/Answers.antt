@@ -1,17 +1,24 @@
-use Rattle.std.proofs.Common.{sym, subst, drop, ◌+◌}
-use Rattle.storages.specs.Slot.{Slot}
+use Rattle.std.proofs.Common.{subst, arith, flat_map}
 use Rattle.std.specs.Vec.Iter.{into_iter_items}
-use Rattle.joins_parallel.proofs.Replacing.{IsOnTheWay, some_step, none_step}
+use Rattle.std.proofs.lemmas.List.{nil_from_length}
+use Rattle.joins_parallel.proofs.Replacing.{IsPutting, all_put, part_room, part_present, put_part, put_all_of}
 use Rattle.joins_parallel.proofs.update.write_all.Goals as goal
-use Rattle.joins_parallel.proofs.update.write_all.Goals.{in-Some-value, in_default}
 
-pub loop-value-preserved : goal.loop-value-preserved
-loop-value-preserved g c =
-    elim c.match-value.branch [
-      | in-Some-value w ↦
-          let step = some_step c.loop-value.storage c.args.storage.now c.args.list.now c.loop-value.place 0 (into_iter_items c.loop-value.value-iterator) c.in-Some.value (into_iter_items c.next.new.self) c.args.made.items c.in-Some.ensures.steps.0 c.loop-value.invariant.3 w.in-Some-value.value w.replace.new.storage w.in-Some-value.is w.replace.ensures.becomes w.replace.ensures.keys in
-          (tt, tt, step.0, subst (λ (t : Slot _). IsOnTheWay t c.args.storage.now (drop (c.loop-value.place + 1) c.args.list.now) (into_iter_items c.next.new.self) c.args.list.now c.args.made.items) (sym w.storage-is) step.1)
-      | in_default w ↦
-          let step = none_step c.loop-value.storage c.args.storage.now c.args.list.now c.loop-value.place 0 (into_iter_items c.loop-value.value-iterator) c.in-Some.value (into_iter_items c.next.new.self) c.args.made.items c.in-Some.ensures.steps.0 c.loop-value.invariant.3 w.in_default.is in
-          (tt, tt, step.0, subst (λ (t : Slot _). IsOnTheWay t c.args.storage.now (drop (c.loop-value.place + 1) c.args.list.now) (into_iter_items c.next.new.self) c.args.list.now c.args.made.items) (sym w.storage-is) step.1)
-    ]
+pub loop-part-init : goal.loop-part-init
+loop-part-init g c = (tt, tt, rw c.into_iter-part-iterator.ensures.into_iter_gives.0 (all_put c.args.storage.now _ c.requires.present c.requires.room))
+
+pub write_part-requires-clause-present : goal.write_part-requires-clause-present
+write_part-requires-clause-present g c =
+    part_present _ c.args.storage.now _ _ c.in-Some.part.items (subst (λ ws. IsPutting c.loop-part.storage c.args.storage.now (flat_map (λ w. w.items) ws) (flat_map (λ w. w.items) c.args.parts.items)) c.in-Some.ensures.steps.0 c.loop-part.invariant.2)
+
+pub write_part-requires-clause-room : goal.write_part-requires-clause-room
+write_part-requires-clause-room g c =
+    part_room _ c.args.storage.now _ _ c.in-Some.part.items (subst (λ ws. IsPutting c.loop-part.storage c.args.storage.now (flat_map (λ w. w.items) ws) (flat_map (λ w. w.items) c.args.parts.items)) c.in-Some.ensures.steps.0 c.loop-part.invariant.2)
+
+pub loop-part-preserved : goal.loop-part-preserved
+loop-part-preserved g c =
+    let w = subst (λ ws. IsPutting c.loop-part.storage c.args.storage.now (flat_map (λ w. w.items) ws) (flat_map (λ w. w.items) c.args.parts.items)) c.in-Some.ensures.steps.0 c.loop-part.invariant.2 in
+    (tt, tt, put_part _ c.write_part.new.storage c.args.storage.now _ _ c.in-Some.part.items w c.write_part.ensures)
+
+pub returns : goal.returns
+returns g c = put_all_of _ _ _ (subst (λ ws. IsPutting c.loop-part.storage c.args.storage.now (flat_map (λ w. w.items) ws) (flat_map (λ w. w.items) c.args.parts.items)) (nil_from_length (into_iter_items c.loop-part.part-iterator) (omega (arith, c.in-None.ensures.steps.0))) c.loop-part.invariant.2)

@@ -1,11 +1,10 @@
-use Rattle.std.proofs.Common.{◌≤◌, length, drop}
+use Rattle.std.proofs.Common.{flat_map}
 use Rattle.std.specs.Vec.Iter.{into_iter_items}
-use Rattle.joins_parallel.proofs.Replacing.{IsOnTheWay}
+use Rattle.joins_parallel.proofs.Replacing.{IsPutting}
 use Rattle.joins_parallel.proofs.update.write_all.Given as goal
 
-abbrev pub invariant-loop-value : goal.invariant-loop-value
-invariant-loop-value g l =
-    (goal.iterator-loop-value g).can_next l.value-iterator ×
-    (goal.iterator-loop-value g).is_finite l.value-iterator ×
-    (l.place ≤ length l.list) ×
-    IsOnTheWay l.storage l.initial.storage (drop l.place l.list) (into_iter_items l.value-iterator) l.list l.fn.made.items
+abbrev pub invariant-loop-part : goal.invariant-loop-part
+invariant-loop-part g l =
+    (goal.iterator-loop-part g).can_next l.part-iterator ×
+    (goal.iterator-loop-part g).is_finite l.part-iterator ×
+    IsPutting l.storage l.initial.storage (flat_map (λ w. w.items) (into_iter_items l.part-iterator)) (flat_map (λ w. w.items) l.fn.parts.items)

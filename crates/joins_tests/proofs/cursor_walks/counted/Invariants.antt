@@ -1,8 +1,9 @@
-use Rattle.std.proofs.Common.{◌≡◌, ◌-◌, ◌^◌}
+use Rattle.std.proofs.Common.{◌≡◌}
+use Rattle.entities.specs.Limits.{indices_ahead}
 use Rattle.joins_tests.proofs.cursor_walks.counted.Given as goal
 
 abbrev pub invariant-loop-item : goal.invariant-loop-item
 invariant-loop-item g l = l.iter.keys.mask ≡ l.initial.iter.keys.mask
 
 abbrev pub decreases-loop-item : goal.decreases-loop-item
-decreases-loop-item g l = 64 ^ 4 - l.iter.keys.position
+decreases-loop-item g l = indices_ahead l.iter.keys.position

@@ -1,8 +1,9 @@
-use Rattle.std.proofs.Common.{◌≡◌, ◌-◌, ◌^◌}
+use Rattle.std.proofs.Common.{◌≡◌}
+use Rattle.entities.specs.Limits.{indices_ahead}
 use Rattle.joins_tests.proofs.walks.given.Given as goal
 
 abbrev pub invariant-loop-index : goal.invariant-loop-index
 invariant-loop-index g l = l.iter.keys.mask ≡ l.initial.iter.keys.mask
 
 abbrev pub decreases-loop-index : goal.decreases-loop-index
-decreases-loop-index g l = 64 ^ 4 - l.iter.keys.position
+decreases-loop-index g l = indices_ahead l.iter.keys.position

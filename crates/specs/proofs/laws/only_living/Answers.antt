@@ -1,5 +1,5 @@
 use Rattle.specs.proofs.Lasting.{living_run}
-use Rattle.specs.specs.Living.{begins}
+use Rattle.specs.specs.Laws.Living.{begins}
 use Rattle.specs.proofs.laws.only_living.Goals as goal
 
 pub returns-clause-kept : goal.returns-clause-kept

@@ -1,5 +1,5 @@
 use Rattle.composed.proofs.Sides.{in_first, in_rest}
-use Rattle.specs.specs.Shown.{shown_gets_clone}
+use Rattle.specs.specs.Typed.Shown.{shown_gets_clone}
 use Rattle.composed.proofs.both.BothCloneStorages.get.Goals as goal
 
 pub returns-in_ok-get-in-First-clause-ok : goal.returns-in_ok-get-in-First-clause-ok

@@ -1,5 +1,5 @@
 use Rattle.composed.proofs.Sides.{in_first, in_rest}
-use Rattle.specs.specs.Shown.{if_ok, if_err, shown_rechannels, shown_call_refused}
+use Rattle.specs.specs.Typed.Shown.{if_ok, if_err, shown_rechannels, shown_call_refused}
 use Rattle.composed.proofs.both.BothStorages.call_channel.Goals as goal
 
 pub returns-in-First-clause-ok : goal.returns-in-First-clause-ok

@@ -1,5 +1,5 @@
 use Rattle.composed.proofs.Sides.{in_first, in_rest}
-use Rattle.specs.specs.Shown.{on_ok, if_err, shown_clears, shown_clear_refused}
+use Rattle.specs.specs.Typed.Shown.{on_ok, if_err, shown_clears, shown_clear_refused}
 use Rattle.composed.proofs.both.BothStorages.clear.Goals as goal
 
 pub returns-in-First-clause-ok : goal.returns-in-First-clause-ok

@@ -1,6 +1,6 @@
 use Rattle.std.proofs.Common.{refl}
 use Rattle.composed.proofs.Sides.{in_first, in_rest}
-use Rattle.specs.specs.Shown.{shown_inserts}
+use Rattle.specs.specs.Typed.Shown.{shown_inserts}
 use Rattle.composed.proofs.both.BothStorages.insert.Goals as goal
 
 pub returns-in-Ok-clause-ok : goal.returns-in-Ok-clause-ok

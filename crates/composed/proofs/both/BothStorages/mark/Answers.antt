@@ -1,6 +1,6 @@
 use Rattle.entities.specs.Census.{population}
 use Rattle.composed.proofs.Sides.{in_first, in_rest, ids_in_first, ids_in_rest}
-use Rattle.specs.specs.Shown.{if_ok, if_err, shown_gives, shown_marker_refused}
+use Rattle.specs.specs.Typed.Shown.{if_ok, if_err, shown_gives, shown_marker_refused}
 use Rattle.composed.proofs.both.BothStorages.mark.Goals as goal
 
 pub returns-in-First-clause-ok : goal.returns-in-First-clause-ok

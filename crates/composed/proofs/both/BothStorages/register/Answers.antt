@@ -1,5 +1,5 @@
 use Rattle.composed.proofs.Sides.{in_first, in_rest}
-use Rattle.specs.specs.Shown.{on_ok, shown_registers}
+use Rattle.specs.specs.Typed.Shown.{on_ok, shown_registers}
 use Rattle.composed.proofs.both.BothStorages.register.Goals as goal
 
 pub returns-in-First-clause-ok : goal.returns-in-First-clause-ok

@@ -1,5 +1,5 @@
 use Rattle.composed.proofs.Sides.{in_first, in_rest}
-use Rattle.specs.specs.Shown.{shown_removes}
+use Rattle.specs.specs.Typed.Shown.{shown_removes}
 use Rattle.composed.proofs.both.BothStorages.remove.Goals as goal
 
 pub returns-in_ok-remove-in-First-clause-ok : goal.returns-in_ok-remove-in-First-clause-ok

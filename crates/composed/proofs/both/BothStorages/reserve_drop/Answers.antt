@@ -1,6 +1,6 @@
 use Rattle.std.proofs.lemmas.Bool.{false≢true}
 use Rattle.composed.specs.declared.either.Either.TheVariants.{First, Rest}
-use Rattle.specs.specs.Shown.{wants_none_as}
+use Rattle.specs.specs.Typed.Shown.{wants_none_as}
 use Rattle.composed.proofs.both.BothStorages.reserve_drop.Goals as goal
 
 pub returns-in_err-reserve_drop-clause-unheard : goal.returns-in_err-reserve_drop-clause-unheard

@@ -1,6 +1,6 @@
 use Rattle.entities.specs.Census.{population}
 use Rattle.composed.proofs.Sides.{gives_sole}
-use Rattle.specs.specs.Shown.{if_ok}
+use Rattle.specs.specs.Typed.Shown.{if_ok}
 use Rattle.composed.proofs.marking.MarkingStorages.mark.Goals as goal
 
 pub returns-clause-ok : goal.returns-clause-ok

@@ -3,6 +3,7 @@ use Rattle.std.proofs.lemmas.Bool.{both_ways}
 use Rattle.std.proofs.lemmas.List.{append-nil}
 use Rattle.hibits.specs.Left.{left}
 use Rattle.hibits.specs.Sets.{has_part_zero}
+use Rattle.hibits.specs.declared.limits.TheConstants.{INDEX_LIMIT}
 use Rattle.entities.specs.Census.{Census, population, has, living_of}
 use Rattle.entities.specs.Merges.{living_entity}
 use Rattle.entities.proofs.Population.Merging.{entity_is, layer_is, marked_below}
@@ -57,5 +58,5 @@ returns-clause-dead c =
 
 pub returns-clause-below : goal.returns-clause-below
 returns-clause-below c i m =
-    let few : length c.self.inside.generations.items ≤ 16777216 = omega (arith, c.self.invariant.roomy.born_within, c.self.invariant.roomy.few) in
-    marked_below c.args.self.now i (subst (λ (x : Census). length x.generations ≤ 16777216) c.self.view_is few) m
+    let few : length c.self.inside.generations.items ≤ INDEX_LIMIT = omega (arith, c.self.invariant.roomy.born_within, c.self.invariant.roomy.few) in
+    marked_below c.args.self.now i (subst (λ (x : Census). length x.generations ≤ INDEX_LIMIT) c.self.view_is few) m

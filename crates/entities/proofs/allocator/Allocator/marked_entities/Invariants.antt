@@ -1,10 +1,10 @@
-use Rattle.std.proofs.Common.{◌≡◌, ◌-◌, ◌++◌, map}
-use Rattle.hibits.specs.declared.limits.TheConstants.{INDEX_LIMIT}
+use Rattle.std.proofs.Common.{◌≡◌, ◌++◌, map}
 use Rattle.hibits.specs.Left.{left}
 use Rattle.hibits.specs.Sets.{has_part}
 use Rattle.hibits.specs.WalkOf.{IsWalkOf, position}
 use Rattle.entities.specs.Census.{population}
 use Rattle.entities.specs.Merges.{living_entity}
+use Rattle.entities.specs.Limits.{indices_ahead}
 use Rattle.entities.proofs.allocator.Allocator.marked_entities.Given as goal
 
 abbrev pub invariant-loop-id : goal.invariant-loop-id
@@ -14,4 +14,4 @@ invariant-loop-id l = record {
 }
 
 abbrev pub decreases-loop-id : goal.decreases-loop-id
-decreases-loop-id l = INDEX_LIMIT - position l.walk
+decreases-loop-id l = indices_ahead (position l.walk)

@@ -1,8 +1,8 @@
-use Rattle.std.proofs.Common.{◌≡◌, ◌⊎◌, ◌-◌, ◌<◌, ℕ, true}
-use Rattle.hibits.specs.declared.limits.TheConstants.{INDEX_LIMIT}
+use Rattle.std.proofs.Common.{◌≡◌, ◌⊎◌, ◌<◌, ℕ, true}
 use Rattle.hibits.specs.Sets.{has_part, HasRoom}
 use Rattle.hibits.specs.WalkOf.{IsWalkOf, position}
 use Rattle.entities.specs.Census.{has}
+use Rattle.entities.specs.Limits.{indices_ahead}
 use Rattle.entities.proofs.allocator.merging.add_all.Given as goal
 
 abbrev pub invariant-loop-i : goal.invariant-loop-i
@@ -15,4 +15,4 @@ invariant-loop-i l = record {
 }
 
 abbrev pub decreases-loop-i : goal.decreases-loop-i
-decreases-loop-i l = INDEX_LIMIT - position l.walk
+decreases-loop-i l = indices_ahead (position l.walk)

@@ -1,4 +1,4 @@
-use Rattle.specs.specs.Clones.{no_clones}
+use Rattle.specs.specs.Slots.Clones.{no_clones}
 use Rattle.specs.proofs.Lasting.{gone_jobs, living_jobs}
 use Rattle.specs.proofs.world.World.maintain.Goals as goal
 

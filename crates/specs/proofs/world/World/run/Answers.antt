@@ -3,7 +3,7 @@ use Rattle.std.proofs.lemmas.Bool.{false≢true}
 use Rattle.std.proofs.lemmas.List.{length_push, nil_from_length}
 use Rattle.std.specs.Vec.{vec_len, vec_capacity}
 use Rattle.std.specs.Vec.Iter.{into_iter_items}
-use Rattle.specs.specs.Steps.{world_state}
+use Rattle.specs.specs.Job.Steps.{world_state}
 use Rattle.specs.proofs.Following.{follows_run, followed_run}
 use Rattle.specs.proofs.Lasting.{gone_run, living_run}
 use Rattle.specs.proofs.Runs.{run_more, taken_front}

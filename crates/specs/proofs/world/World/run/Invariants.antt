@@ -1,6 +1,6 @@
 use Rattle.std.proofs.Common.{◌≡◌, ◌≤◌, length}
 use Rattle.std.specs.Vec.{vec_capacity}
-use Rattle.specs.specs.Steps.{world_state, Run}
+use Rattle.specs.specs.Job.Steps.{world_state, Run}
 use Rattle.specs.proofs.world.World.run.Given as goal
 
 abbrev pub invariant-loop-command : goal.invariant-loop-command

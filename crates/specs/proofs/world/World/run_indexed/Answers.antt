@@ -1,6 +1,6 @@
 use Rattle.std.proofs.Common.{refl}
 use Rattle.specs.specs.Indexing.{stored}
-use Rattle.specs.specs.Steps.{world_state}
+use Rattle.specs.specs.Job.Steps.{world_state}
 use Rattle.specs.proofs.Covering.{followed_known, followed_there, knows_after}
 use Rattle.specs.proofs.world.World.run_indexed.Goals as goal
 

@@ -1,9 +1,9 @@
-use Rattle.std.proofs.Common.{rules, refl, sym, ◌∙◌, ap, subst, ◌≡◌, ℕ, [], length, ◌+◌, List, ◌∷◌, ◌++◌, Some}
+use Rattle.std.proofs.Common.{rules, sym, ◌∙◌, ap, subst, ◌≡◌, ℕ, [], length, ◌+◌, List, ◌∷◌, ◌++◌, Some}
 use Rattle.std.specs.List.{Contains}
 use Rattle.std.specs.FinMap as map
 use Rattle.hibits.specs.Left.{left-ascends}
 use Rattle.storages.specs.Meaning.{HasRoom}
-use Rattle.storages.specs.Slot.{Slot, Takes}
+use Rattle.storages.specs.Slot.{Takes}
 use Rattle.joins.specs.Draining.{slot, here, rest, gives}
 use Rattle.joins.specs.Taking.{TakenAt}
 use Rattle.joins.proofs.CallLemmas.{at_some, moved_over, one_longer}

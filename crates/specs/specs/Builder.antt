@@ -1,0 +1,4 @@
+-- Builders of entities.
+pub mod Building
+pub mod LazyBuilding
+pub mod Creating

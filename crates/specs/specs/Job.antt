@@ -1,0 +1,4 @@
+-- The queue of jobs, and the steps of a world.
+pub mod Queue
+pub mod Jobs
+pub mod Steps
