@@ -16,7 +16,7 @@ use Rattle.hibits.specs.Sets.{has_part, has_part_zero, part_member, member_part,
 use Rattle.hibits.specs.Walks.{IsNext}
 use Rattle.hibits.specs.Rows.{row_bit, members_of, IsSound}
 use Rattle.hibits.proofs.WalkLemmas.{one_is_set}
-use Rattle.hibits.proofs.RowLemmas.{no_bit, top_zero, room_below, member_has_room}
+use Rattle.hibits.proofs.RowLemmas.{no_bit, top_zero, member_below}
 
 -- bits of a word that is shifted down
 shifted : (w k j : ℕ) → bit_at (w / 2 ^ k) j ≡ bit_at w (k + j)
@@ -160,7 +160,7 @@ part_limit x l i le lt at =
 pub part_within_limit : (w0 w1 w2 w3 : List ℕ) → IsSound w0 w1 w2 w3 → (l : ℕ) → l ≤ LAYERS → (i : ℕ) → has_part (members_of w0) l i ≡ true → i < 64 ^ (LAYERS - l)
 part_within_limit w0 w1 w2 w3 ok l le i e =
     let m = part_member (members_of w0) l i e in
-    part_limit m.0 l i le (room_below w0 w1 w2 w3 ok m.0 (member_has_room w0 w1 w2 w3 ok m.0 m.1)) m.2
+    part_limit m.0 l i le (member_below w0 w1 w2 w3 ok m.0 m.1) m.2
 
 pub layer_small : (level i : ℕ) → i < 64 ^ (LAYERS - level) → i < 64 ^ LAYERS
 layer_small level i lt =

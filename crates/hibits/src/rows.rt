@@ -30,34 +30,9 @@ fn word_of(words: &[u64], place: usize) -> u64
     }
 }
 
-/// A word of a row that has it.
-#[inline(always)]
-pub(crate) fn word_within(words: &Vec<u64>, place: u32) -> u64
-    requires { place < length words.now.items }
-    ensures { result ≡ slice_index words.now.items place }
-{
-    words[place as usize]
-}
-
-/// How many words a row has.
-#[inline(always)]
-pub(crate) fn row_len(words: &Vec<u64>) -> usize
-    ensures { result ≡ length words.now.items }
-{
-    words.len()
-}
-
-/// Whether a bit of a row is set.
-#[inline(always)]
-pub(crate) fn bit_of_row(words: &Vec<u64>, i: u32) -> bool
-    ensures { result ≡ row_bit words.now.items i }
-{
-    (word_at(words, i / 64) >> (i % 64)) & 1 == 1
-}
-
 /// Puts a bit of a word.
 #[inline(always)]
-fn with_bit(word: u64, i: u32, value: bool) -> u64
+pub(crate) fn with_bit(word: u64, i: u32, value: bool) -> u64
     requires { i < 64 }
     ensures { result ≡ (if value then bit_or word (1 * 2 ^ i % 2 ^ 64) else bit_and word (bit_not w64 (1 * 2 ^ i % 2 ^ 64))) }
 {
@@ -70,7 +45,7 @@ fn with_bit(word: u64, i: u32, value: bool) -> u64
 
 /// Puts a bit of a row, and says whether its word is not 0 then.
 #[inline(always)]
-pub(crate) fn put_bit(words: &mut Vec<u64>, i: u32, value: bool) -> bool
+fn put_bit(words: &mut Vec<u64>, i: u32, value: bool) -> bool
     requires { i / 64 < length words.old.items }
     ensures put { IsPut words.old.items words.new.items i value }
     ensures some { result ≡ not (slice_index words.new.items (i / 64) == 0) }
