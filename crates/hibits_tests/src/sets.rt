@@ -287,3 +287,69 @@ fn is_tree<R: Abort>(rt: &R, alloc: Global, expr: &MaskExpr<&BitSet>) -> Result<
 fn trees(rt: HostRuntime) -> Result<(), Fail> {
     told(&rt, rt.alloc(), &[1, 2], &[2, 3], Story::Trees)
 }
+
+/// A set with each multiple of `step` below the limit.
+fn scattered(alloc: Global, step: usize) -> Result<BitSet, SetError> {
+    let mut set = BitSet::new(alloc);
+    for id in (0..INDEX_LIMIT).step_by(step) {
+        set.add(id)?;
+    }
+    Ok(set)
+}
+
+fn remove(set: &mut BitSet, id: Index) -> bool {
+    set.remove(id)
+}
+
+/// The first index and the last take a page each, which are kept when they go.
+fn keeps_its_pages<R: Abort>(rt: &R, set: &mut BitSet) {
+    equal!(rt; set.page_count(), 2);
+    holds!(rt; remove(set, 0));
+    holds!(rt; remove(set, 16777215));
+    equal!(rt; set.count(), 0);
+    equal!(rt; set.page_count(), 2);
+    equal!(rt; add(set, 4095), Ok(false));
+    equal!(rt; set.page_count(), 2);
+    equal!(rt; add(set, 4096), Ok(false));
+    equal!(rt; set.page_count(), 3);
+    set.clear();
+    equal!(rt; set.page_count(), 3);
+}
+
+#[test]
+fn pages_are_made_for_members_and_kept(rt: HostRuntime) -> Result<(), Fail> {
+    let mut set = set_of(rt.alloc(), &[0, 16777215])?;
+    keeps_its_pages(&rt, &mut set);
+    Ok(())
+}
+
+/// What is told of a set by its members and its pages.
+fn has_members_and_pages<R: Abort>(rt: &R, set: &BitSet, members: usize, pages: usize) {
+    equal!(rt; set.count(), members);
+    equal!(rt; set.page_count(), pages);
+}
+
+#[test]
+fn scattered_members_take_a_page_each(rt: HostRuntime) -> Result<(), Fail> {
+    has_members_and_pages(&rt, &scattered(rt.alloc(), 16384)?, 1024, 1024);
+    has_members_and_pages(&rt, &scattered(rt.alloc(), 2048)?, 8192, 4096);
+    has_members_and_pages(&rt, &BitSet::with_capacity(rt.alloc(), 4097)?, 0, 2);
+    Ok(())
+}
+
+/// A set covers another where a block that it has not has no member there.
+fn covers<R: Abort>(rt: &R, small: &BitSet, large: &BitSet) {
+    holds!(rt; large.contains_set(small));
+    holds!(rt; !small.contains_set(large));
+    holds!(rt; !large.contains(8192));
+    equal!(rt; large.first_from(8192), Some(12288));
+}
+
+#[test]
+fn blocks_that_are_missing_have_no_member(rt: HostRuntime) -> Result<(), Fail> {
+    let small = set_of(rt.alloc(), &[12288])?;
+    let mut large = set_of(rt.alloc(), &[4096, 12288])?;
+    reserve_for(&mut large, 500000)?;
+    covers(&rt, &small, &large);
+    Ok(())
+}
