@@ -16,7 +16,7 @@ use Rattle.hibits.proofs.RowLemmas.{contains-members_of, past_row, no_bit, sound
 pub page_is : (i : ℕ) → i / 64 / 64 ≡ i / 4096
 page_is i = omega arith
 
-module _ (w0 : List ℕ) (pages : set.FinSet nat_cmp) (w1 w2 w3 : List ℕ) (ok : IsKept w0 pages w1 w2 w3) where
+module _ (w0 : List ℕ) (pages : set.FinSet nat_cmp) (w1 w2 w3 w4 : List ℕ) (ok : IsKept w0 pages w1 w2 w3 w4) where
   pub room_word : (i : ℕ) → set.contains pages (i / 4096) ≡ true → i / 64 < length w0
   room_word i e = let w = ok.paged.within (i / 4096) e in omega arith
 
@@ -27,6 +27,7 @@ module _ (w0 : List ℕ) (pages : set.FinSet nat_cmp) (w1 w2 w3 : List ℕ) (ok 
       let b = ok.rows.size1 in
       let c = ok.rows.size2 in
       let d = ok.rows.size3 in
+      let f = ok.rows.size4 in
       omega arith
 
   pub member_has_room : (i : ℕ) → set.contains (members_of w0) i ≡ true → set.contains pages (i / 4096) ≡ true
@@ -91,7 +92,7 @@ module _ (ws vs : List ℕ) (pages : set.FinSet nat_cmp) (ok : IsPaged ws pages)
   pub paged_zeros : length vs ≡ length ws → ((k : ℕ) → get_or vs k 0 ≡ 0) → IsPaged vs pages
   paged_zeros len zeros = record { within = λ k e. let w = ok.within k e in omega arith; missing = λ k _. zeros k }
 
-pub kept_empty : IsKept [] set.empty [] [] (0 ∷ [])
+pub kept_empty : IsKept [] set.empty [] [] [] (0 ∷ [])
 kept_empty = record {
   rows = sound_empty;
   paged = record {

@@ -22,18 +22,21 @@ pub record AreWords (ws : List ℕ) : Type 0 where
   pub fits : (k : ℕ) → slice_index ws k < 2 ^ 64
 
 -- the layers of one set, each long enough for the one below it
-pub record IsSound (w0 w1 w2 w3 : List ℕ) : Type 0 where
+pub record IsSound (w0 w1 w2 w3 w4 : List ℕ) : Type 0 where
   pub size0 : length w0 ≤ 64 * length w1
   pub size1 : length w1 ≤ 64 * length w2
   pub size2 : length w2 ≤ 64 * length w3
-  pub size3 : length w3 ≤ 1
+  pub size3 : length w3 ≤ 64 * length w4
+  pub size4 : length w4 ≤ 1
   pub words0 : AreWords w0
   pub words1 : AreWords w1
   pub words2 : AreWords w2
   pub words3 : AreWords w3
+  pub words4 : AreWords w4
   pub tied1 : IsTied (members_of w0) 1 w1
   pub tied2 : IsTied (members_of w0) 2 w2
   pub tied3 : IsTied (members_of w0) 3 w3
+  pub tied4 : IsTied (members_of w0) 4 w4
 
 -- the row reaches each page that is there, a page having 64 words, and each word of another page is 0
 pub record IsPaged (ws : List ℕ) (pages : set.FinSet nat_cmp) : Type 0 where
@@ -41,8 +44,8 @@ pub record IsPaged (ws : List ℕ) (pages : set.FinSet nat_cmp) : Type 0 where
   pub missing : (k : ℕ) → set.contains pages (k / 64) ≡ false → slice_index ws k ≡ 0
 
 -- the layers of one set, whose lowest is kept in pages
-pub record IsKept (w0 : List ℕ) (pages : set.FinSet nat_cmp) (w1 w2 w3 : List ℕ) : Type 0 where
-  pub rows : IsSound w0 w1 w2 w3
+pub record IsKept (w0 : List ℕ) (pages : set.FinSet nat_cmp) (w1 w2 w3 w4 : List ℕ) : Type 0 where
+  pub rows : IsSound w0 w1 w2 w3 w4
   pub paged : IsPaged w0 pages
 
 -- up' is up, but for bit i, which is v

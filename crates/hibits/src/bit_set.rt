@@ -19,7 +19,7 @@ use pages::Pages;
 use std::alloc::Global;
 use std::marker::Model;
 
-/// A set of indices below `INDEX_LIMIT`, in four layers of words. Ports `hibitset::BitSet`.
+/// A set of indices below `INDEX_LIMIT`, in five layers of words. Ports `hibitset::BitSet`.
 ///
 /// Room comes in blocks of 4096 indices, and memory for the words of a block is taken with its room. An index with room is added without memory,
 /// and room stays.
@@ -27,6 +27,7 @@ pub struct BitSet {
     layer0: Lowest,
     layer1: Vec<u64>,
     layer2: Vec<u64>,
+    layer3: Vec<u64>,
     top: u64,
 }
 
@@ -36,6 +37,7 @@ impl Drop for BitSet {
             layer0: _layer0,
             layer1: _layer1,
             layer2: _layer2,
+            layer3: _layer3,
             top: _top,
         } = self;
     }
@@ -53,7 +55,7 @@ impl Model for BitSet {
 
     ghost view = { λ a. record { members = members_of a.layer0.items; room = a.layer0.pages } };
 
-    ghost invariant = { λ a. IsKept a.layer0.items a.layer0.pages a.layer1.items a.layer2.items (a.top ∷ []) };
+    ghost invariant = { λ a. IsKept a.layer0.items a.layer0.pages a.layer1.items a.layer2.items a.layer3.items (a.top ∷ []) };
 }
 
 impl BitSet {
@@ -67,6 +69,7 @@ impl BitSet {
             layer0: Pages::new(alloc),
             layer1: Vec::new(alloc),
             layer2: Vec::new(alloc),
+            layer3: Vec::new(alloc),
             top: 0,
         }
     }
@@ -129,6 +132,7 @@ impl BitSet {
         ensures room { (i : ℕ) → HasRoom self.old i → HasRoom self.new i }
         ensures no_further { (i : ℕ) → id / 4096 < i / 4096 → HasRoom self.new i → HasRoom self.old i }
     {
+        grow(&mut self.layer3, (id / 16_777_216) as usize + 1)?;
         grow(&mut self.layer2, (id / 262144) as usize + 1)?;
         grow(&mut self.layer1, (id / 4096) as usize + 1)?;
         make_page(&mut self.layer0, id)?;
@@ -182,7 +186,14 @@ impl BitSet {
         let was = (word >> (id % 64)) & 1 == 1;
         let some = put_lowest(&mut self.layer0, id, value);
         if some != (word != 0) {
-            update_above(&mut self.layer1, &mut self.layer2, &mut self.top, id, some);
+            update_above(
+                &mut self.layer1,
+                &mut self.layer2,
+                &mut self.layer3,
+                &mut self.top,
+                id,
+                some,
+            );
         }
         was
     }
@@ -213,6 +224,7 @@ impl BitSet {
         self.layer0.fill();
         wipe(&mut self.layer1);
         wipe(&mut self.layer2);
+        wipe(&mut self.layer3);
         self.top = 0;
     }
 
@@ -287,6 +299,7 @@ impl BitSet {
             0 => self.layer0.get(place),
             1 => word_at(&self.layer1, place),
             2 => word_at(&self.layer2, place),
+            3 => word_at(&self.layer3, place),
             _ => if place == 0 { self.top } else { 0 },
         }
     }

@@ -62,23 +62,28 @@ fn put_bit(words: &mut Vec<u64>, i: u32, value: bool) -> bool
 pub(crate) fn update_above(
     layer1: &mut Vec<u64>,
     layer2: &mut Vec<u64>,
+    layer3: &mut Vec<u64>,
     top: &mut u64,
     id: Index,
     some: bool,
 )
     requires layer1 { id / 4096 < length layer1.old.items }
     requires layer2 { id / 262144 < length layer2.old.items }
-    requires top { id / 262144 < 64 }
+    requires layer3 { id / 64 ^ 4 < length layer3.old.items }
+    requires top { id / 64 ^ 4 < 64 }
     ensures layer1 { IsPut layer1.old.items layer1.new.items (id / 64) some }
     ensures layer2 { IsPut layer2.old.items layer2.new.items (id / 4096) (not (slice_index layer1.new.items (id / 4096) == 0)) }
+    ensures layer3 { IsPut layer3.old.items layer3.new.items (id / 262144) (not (slice_index layer2.new.items (id / 262144) == 0)) }
     ensures words1 { AreWords layer1.new.items }
     ensures words2 { AreWords layer2.new.items }
-    ensures words3 { AreWords (top.new ∷ []) }
-    ensures top { IsPut (top.old ∷ []) (top.new ∷ []) (id / 262144) (not (slice_index layer2.new.items (id / 262144) == 0)) }
+    ensures words3 { AreWords layer3.new.items }
+    ensures words4 { AreWords (top.new ∷ []) }
+    ensures top { IsPut (top.old ∷ []) (top.new ∷ []) (id / 64 ^ 4) (not (slice_index layer3.new.items (id / 64 ^ 4) == 0)) }
 {
     let some = put_bit(layer1, id / 64, some);
     let some = put_bit(layer2, id / 4096, some);
-    *top = with_bit(*top, id / 262144, some);
+    let some = put_bit(layer3, id / 262144, some);
+    *top = with_bit(*top, id / 16_777_216, some);
 }
 
 /// Makes a row longer by words that are 0. A row that is long enough stays.

@@ -78,7 +78,7 @@ fn words_are_read<R: Abort, M: Layers + Drop>(rt: &R, view: M, members: &[Index]
 #[test]
 fn walks_count_words(rt: HostRuntime) -> Result<(), Fail> {
     let both: &[Index] = &[64, INDEX_LIMIT - 1];
-    let story = Story::WordsAreRead(both, 14);
+    let story = Story::WordsAreRead(both, 18);
     told(
         &rt,
         rt.alloc(),
@@ -86,7 +86,10 @@ fn walks_count_words(rt: HostRuntime) -> Result<(), Fail> {
         both,
         story,
     )?;
-    told(&rt, rt.alloc(), &[0], &[1], Story::WordsAreRead(&[], 8))?;
+    let both: &[Index] = &[64, 16_777_215];
+    let story = Story::WordsAreRead(both, 16);
+    told(&rt, rt.alloc(), &[1, 64, 4096, 16_777_215], both, story)?;
+    told(&rt, rt.alloc(), &[0], &[1], Story::WordsAreRead(&[], 10))?;
     told(&rt, rt.alloc(), &[], &[], Story::WordsAreRead(&[], 2))
 }
 
@@ -103,14 +106,14 @@ fn words_are_given<R: Abort, M: Layers + Drop>(rt: &R, view: M, words: &[(u32, u
 
 #[test]
 fn words_are_walked_with_their_places(rt: HostRuntime) -> Result<(), Fail> {
-    let ends: &[Index] = &[0, 63, 64, 4096, 16777215];
+    let ends: &[Index] = &[0, 63, 64, 4096, INDEX_LIMIT - 1];
     let words: &[(u32, u64)] = &[
         (0, 9223372036854775809),
         (1, 1),
         (64, 1),
-        (262143, 9223372036854775808),
+        (INDEX_LIMIT / 64 - 1, 9223372036854775808),
     ];
-    told(&rt, rt.alloc(), ends, ends, Story::Words(words, 20))?;
+    told(&rt, rt.alloc(), ends, ends, Story::Words(words, 24))?;
     told(
         &rt,
         rt.alloc(),
@@ -163,6 +166,8 @@ fn refused(alloc: Global, max: Index) -> Option<SetError> {
 }
 
 fn is_added_to<R: Abort>(rt: &R, set: &mut BitSet) {
+    equal!(rt; add(set, 16_777_216), Ok(false));
+    holds!(rt; remove(set, 16_777_216));
     equal!(rt; add(set, INDEX_LIMIT - 1), Ok(false));
     equal!(rt; add(set, INDEX_LIMIT - 1), Ok(true));
     equal!(rt; add(set, INDEX_LIMIT), Err(SetError::IndexLimit));
@@ -217,7 +222,7 @@ impl<'a> BitSetLike for Counting<'a> {
     }
 }
 
-/// Both sets are asked seven times for each.
+/// Both sets are asked nine times.
 fn calls_are_counted<R: Abort>(rt: &R, first: &BitSet, second: &BitSet) {
     let a = Counting {
         set: first,
@@ -227,9 +232,9 @@ fn calls_are_counted<R: Abort>(rt: &R, first: &BitSet, second: &BitSet) {
         set: second,
         calls: Cell::new(0),
     };
-    words_are_read(rt, BitSetAnd(&a, &b), &[64, INDEX_LIMIT - 1], 14);
-    equal!(rt; a.calls.get(), 7);
-    equal!(rt; b.calls.get(), 7);
+    words_are_read(rt, BitSetAnd(&a, &b), &[64, INDEX_LIMIT - 1], 18);
+    equal!(rt; a.calls.get(), 9);
+    equal!(rt; b.calls.get(), 9);
 }
 
 #[test]
@@ -288,10 +293,10 @@ fn trees(rt: HostRuntime) -> Result<(), Fail> {
     told(&rt, rt.alloc(), &[1, 2], &[2, 3], Story::Trees)
 }
 
-/// A set with each multiple of `step` below the limit.
+/// A set with each multiple of `step` below 64 to the power of 4.
 fn scattered(alloc: Global, step: usize) -> Result<BitSet, SetError> {
     let mut set = BitSet::new(alloc);
-    for id in (0..INDEX_LIMIT).step_by(step) {
+    for id in (0..INDEX_LIMIT / 64).step_by(step) {
         set.add(id)?;
     }
     Ok(set)
@@ -305,7 +310,7 @@ fn remove(set: &mut BitSet, id: Index) -> bool {
 fn keeps_its_pages<R: Abort>(rt: &R, set: &mut BitSet) {
     equal!(rt; set.page_count(), 2);
     holds!(rt; remove(set, 0));
-    holds!(rt; remove(set, 16777215));
+    holds!(rt; remove(set, INDEX_LIMIT - 1));
     equal!(rt; set.count(), 0);
     equal!(rt; set.page_count(), 2);
     equal!(rt; add(set, 4095), Ok(false));
@@ -318,7 +323,7 @@ fn keeps_its_pages<R: Abort>(rt: &R, set: &mut BitSet) {
 
 #[test]
 fn pages_are_made_for_members_and_kept(rt: HostRuntime) -> Result<(), Fail> {
-    let mut set = set_of(rt.alloc(), &[0, 16777215])?;
+    let mut set = set_of(rt.alloc(), &[0, INDEX_LIMIT - 1])?;
     keeps_its_pages(&rt, &mut set);
     Ok(())
 }

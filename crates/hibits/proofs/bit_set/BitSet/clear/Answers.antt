@@ -9,7 +9,7 @@ invariant_of-self c =
     let i = c.self.invariant.rows in
     let n = zeros_len _ _ c.fill.ensures.items in
     record {
-      rows = sound_zeros _ _ _ (omega (arith, n, c.wipe.ensures.len, i.size0)) (omega (arith, c.wipe.ensures.len, c.wipe-2.ensures.len, i.size1)) (omega (arith, c.wipe-2.ensures.len, i.size2)) (zeros _ _ c.fill.ensures.items) c.wipe.ensures.zero c.wipe-2.ensures.zero;
+      rows = sound_zeros _ _ _ _ (omega (arith, n, c.wipe.ensures.len, i.size0)) (omega (arith, c.wipe.ensures.len, c.wipe-2.ensures.len, i.size1)) (omega (arith, c.wipe-2.ensures.len, c.wipe-3.ensures.len, i.size2)) (omega (arith, c.wipe-3.ensures.len, i.size3, i.size4)) (zeros _ _ c.fill.ensures.items) c.wipe.ensures.zero c.wipe-2.ensures.zero c.wipe-3.ensures.zero;
       paged = rw c.fill.ensures.pages (paged_zeros _ _ _ c.self.invariant.paged n (zeros _ _ c.fill.ensures.items));
     }
 

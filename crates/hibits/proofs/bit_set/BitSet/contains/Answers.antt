@@ -9,7 +9,7 @@ returns-clause-value c = c.bit_of_lowest.ensures ∙ sym (contains-members_of c.
 
 pub returns-clause-members_have_room : goal.returns-clause-members_have_room
 returns-clause-members_have_room c i e =
-    sym (ap (λ s. set.contains s.room (i / 4096)) c.self.view_is) ∙ member_has_room _ _ _ _ _ c.self.invariant i (ap (λ s. set.contains s.members i) c.self.view_is ∙ e)
+    sym (ap (λ s. set.contains s.room (i / 4096)) c.self.view_is) ∙ member_has_room _ _ _ _ _ _ c.self.invariant i (ap (λ s. set.contains s.members i) c.self.view_is ∙ e)
 
 pub returns-clause-room_is_limited : goal.returns-clause-room_is_limited
-returns-clause-room_is_limited c i e = room_below _ _ _ _ _ c.self.invariant i (ap (λ s. set.contains s.room (i / 4096)) c.self.view_is ∙ e)
+returns-clause-room_is_limited c i e = room_below _ _ _ _ _ _ c.self.invariant i (ap (λ s. set.contains s.room (i / 4096)) c.self.view_is ∙ e)

@@ -5,7 +5,7 @@ use Rattle.hibits.proofs.RowLemmas.{contains-members_of}
 use Rattle.hibits.proofs.bit_set.BitSet.contains_set.Goals as goal
 
 pub covers_lowest-requires : goal.covers_lowest-requires
-covers_lowest-requires c = let i = c.other.invariant.rows in omega (arith, i.size0, i.size1, i.size2, i.size3)
+covers_lowest-requires c = let i = c.other.invariant.rows in omega (arith, i.size0, i.size1, i.size2, i.size3, i.size4)
 
 pub returns : goal.returns
 returns c =

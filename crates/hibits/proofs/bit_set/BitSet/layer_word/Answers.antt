@@ -11,4 +11,4 @@ returns-in-0-clause-bits c j lt =
 
 pub returns-in-0-clause-within : goal.returns-in-0-clause-within
 returns-in-0-clause-within c i e =
-    part_within_limit _ _ _ _ c.self.invariant.rows c.args.level (omega (arith, c.requires)) i (ap (λ s. has_part s.members c.args.level i) c.self.view_is ∙ e)
+    part_within_limit _ _ _ _ _ c.self.invariant.rows c.args.level (omega (arith, c.requires)) i (ap (λ s. has_part s.members c.args.level i) c.self.view_is ∙ e)

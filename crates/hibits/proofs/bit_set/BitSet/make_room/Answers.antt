@@ -10,11 +10,13 @@ invariant_of-self-2 c =
     let l0 = i.size0 in
     let l1 = i.size1 in
     let l2 = i.size2 in
-    let n2 = c.in_ok-grow.ensures.len in
-    let n1 = c.in_ok-grow-2.ensures.len in
+    let l3 = i.size3 in
+    let n3 = c.in_ok-grow.ensures.len in
+    let n2 = c.in_ok-grow-2.ensures.len in
+    let n1 = c.in_ok-grow-3.ensures.len in
     let n0 = c.in_ok-make_page.ensures.len in
     record {
-      rows = sound_grown _ _ _ _ _ _ _ _ i c.make_page.ensures.same c.grow-2.ensures.same c.grow.ensures.same (same_words _) (omega (arith, n0, n1)) (omega (arith, n1, n2)) (omega (arith, n2)) i.size3 (same_are_words _ _ c.make_page.ensures.same i.words0) c.grow-2.ensures.words c.grow.ensures.words i.words3;
+      rows = sound_grown _ _ _ _ _ _ _ _ _ _ i c.make_page.ensures.same c.grow-3.ensures.same c.grow-2.ensures.same c.grow.ensures.same (same_words _) (omega (arith, n0, n1)) (omega (arith, n1, n2)) (omega (arith, n2, n3)) (omega (arith, n3)) i.size4 (same_are_words _ _ c.make_page.ensures.same i.words0) c.grow-3.ensures.words c.grow-2.ensures.words c.grow.ensures.words i.words4;
       paged = c.make_page.ensures.paged c.self.invariant.paged;
     }
 

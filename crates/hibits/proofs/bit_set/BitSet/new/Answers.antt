@@ -6,7 +6,7 @@ use Rattle.hibits.specs.Rows.{members_of}
 use Rattle.hibits.proofs.bit_set.BitSet.new.Goals as goal
 
 pub invariant_of-result : goal.invariant_of-result
-invariant_of-result c = rw (c.new.ensures.items, c.new.ensures.pages, c.new-2.ensures.items, c.new-3.ensures.items) kept_empty
+invariant_of-result c = rw (c.new.ensures.items, c.new.ensures.pages, c.new-2.ensures.items, c.new-3.ensures.items, c.new-4.ensures.items) kept_empty
 
 pub returns-clause-members : goal.returns-clause-members
 returns-clause-members c = ap members_of c.new.ensures.items ∙ zero_members _ (λ k. refl)

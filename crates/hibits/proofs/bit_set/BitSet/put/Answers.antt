@@ -11,29 +11,34 @@ pub put_lowest-some-requires-clause-page : goal.put_lowest-some-requires-clause-
 put_lowest-some-requires-clause-page c = page_there _ c.args.id (ap (λ s. set.contains s.room (c.args.id / 4096)) c.self.view_is ∙ c.requires)
 
 pub put_lowest-some-requires-clause-within : goal.put_lowest-some-requires-clause-within
-put_lowest-some-requires-clause-within c = room_word _ _ _ _ _ c.self.invariant c.args.id (ap (λ s. set.contains s.room (c.args.id / 4096)) c.self.view_is ∙ c.requires)
+put_lowest-some-requires-clause-within c = room_word _ _ _ _ _ _ c.self.invariant c.args.id (ap (λ s. set.contains s.room (c.args.id / 4096)) c.self.view_is ∙ c.requires)
 
 pub update_above-requires-clause-layer1 : goal.update_above-requires-clause-layer1
 update_above-requires-clause-layer1 c =
-    let w = room_word _ _ _ _ _ c.self.invariant c.args.id (ap (λ s. set.contains s.room (c.args.id / 4096)) c.self.view_is ∙ c.requires) in
+    let w = room_word _ _ _ _ _ _ c.self.invariant c.args.id (ap (λ s. set.contains s.room (c.args.id / 4096)) c.self.view_is ∙ c.requires) in
     omega (arith, w, c.self.invariant.rows.size0)
 
 pub update_above-requires-clause-layer2 : goal.update_above-requires-clause-layer2
 update_above-requires-clause-layer2 c =
-    let w = room_word _ _ _ _ _ c.self.invariant c.args.id (ap (λ s. set.contains s.room (c.args.id / 4096)) c.self.view_is ∙ c.requires) in
+    let w = room_word _ _ _ _ _ _ c.self.invariant c.args.id (ap (λ s. set.contains s.room (c.args.id / 4096)) c.self.view_is ∙ c.requires) in
     omega (arith, w, c.self.invariant.rows.size0, c.self.invariant.rows.size1)
+
+pub update_above-requires-clause-layer3 : goal.update_above-requires-clause-layer3
+update_above-requires-clause-layer3 c =
+    let w = room_word _ _ _ _ _ _ c.self.invariant c.args.id (ap (λ s. set.contains s.room (c.args.id / 4096)) c.self.view_is ∙ c.requires) in
+    omega (arith, w, c.self.invariant.rows.size0, c.self.invariant.rows.size1, c.self.invariant.rows.size2)
 
 pub update_above-requires-clause-top : goal.update_above-requires-clause-top
 update_above-requires-clause-top c =
-    let w = room_word _ _ _ _ _ c.self.invariant c.args.id (ap (λ s. set.contains s.room (c.args.id / 4096)) c.self.view_is ∙ c.requires) in
-    omega (arith, w, c.self.invariant.rows.size0, c.self.invariant.rows.size1, c.self.invariant.rows.size2, c.self.invariant.rows.size3)
+    let w = room_word _ _ _ _ _ _ c.self.invariant c.args.id (ap (λ s. set.contains s.room (c.args.id / 4096)) c.self.view_is ∙ c.requires) in
+    omega (arith, w, c.self.invariant.rows.size0, c.self.invariant.rows.size1, c.self.invariant.rows.size2, c.self.invariant.rows.size3, c.self.invariant.rows.size4)
 
 pub invariant_of-self : goal.invariant_of-self
 invariant_of-self c =
     let a = c.update_above.ensures in
     let p = c.put_lowest-some.ensures in
     record {
-      rows = sound_put _ _ _ _ p.put _ _ _ _ _ _ c.self.invariant.rows (p.words c.self.invariant.rows.words0) a.words1 a.words2 a.words3 (rw p.some at a.layer1) a.layer2 a.top;
+      rows = sound_put _ _ _ _ p.put _ _ _ _ _ _ _ _ c.self.invariant.rows (p.words c.self.invariant.rows.words0) a.words1 a.words2 a.words3 a.words4 (rw p.some at a.layer1) a.layer2 a.layer3 a.top;
       paged = rw p.pages (paged_put _ _ _ c.self.invariant.paged (c.args.id / 64) (page_there _ c.args.id (ap (λ s. set.contains s.room (c.args.id / 4096)) c.self.view_is ∙ c.requires)) p.put.len p.others);
     }
 
@@ -42,7 +47,7 @@ invariant_of-self-else-some-word c =
     let p = c.put_lowest-some.ensures in
     let same = same_tests _ _ c.if-some-word.false in
     record {
-      rows = sound_stays _ _ _ _ c.self.invariant.rows _ _ _ p.put (p.words c.self.invariant.rows.words0) (ap (λ n. not (n == 0)) (sym c.get_present-word.ensures) ∙ sym same ∙ p.some);
+      rows = sound_stays _ _ _ _ _ c.self.invariant.rows _ _ _ p.put (p.words c.self.invariant.rows.words0) (ap (λ n. not (n == 0)) (sym c.get_present-word.ensures) ∙ sym same ∙ p.some);
       paged = rw p.pages (paged_put _ _ _ c.self.invariant.paged (c.args.id / 64) (page_there _ c.args.id (ap (λ s. set.contains s.room (c.args.id / 4096)) c.self.view_is ∙ c.requires)) p.put.len p.others);
     }
 
