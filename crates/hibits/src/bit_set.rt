@@ -15,7 +15,7 @@ use crate::limits::{INDEX_LIMIT, Index, LAYERS};
 use crate::lowest::{Lowest, bit_of_lowest, covers_lowest, make_page, ones_of_lowest, put_lowest};
 use crate::reads::Reads;
 use crate::rows::{grow, update_above, wipe, word_at};
-use pages::Pages;
+use pages::PagedRow;
 use std::alloc::Global;
 use std::marker::Model;
 
@@ -66,7 +66,7 @@ impl BitSet {
         ensures room { result.room ≡ set.empty }
     {
         BitSet {
-            layer0: Pages::new(alloc),
+            layer0: PagedRow::new(alloc),
             layer1: Vec::new(alloc),
             layer2: Vec::new(alloc),
             layer3: Vec::new(alloc),

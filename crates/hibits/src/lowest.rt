@@ -1,4 +1,4 @@
-//! The lowest layer of a set: its words, in pages.
+//! The lowest layer of a set: its words, in a row with pages behind it.
 ghost use Rattle.std.specs.Prelude.{◌≡◌, ◌≢◌, ℕ, ◌*◌, ◌/◌, ◌<◌, ◌≤◌, ◌^◌, not, ◌==◌, true, IsTrue, ◌↔◌, ◌+◌, max, OnOk, OnErr, IfErr, length, slice_index};
 ghost use Rattle.std.specs.FinSet as set;
 ghost use Rattle.pages.specs.Paged.{HasPage};
@@ -7,10 +7,10 @@ ghost use Rattle.hibits.specs.Rows.{row_bit, AreWords, IsPaged, IsPut, SameWords
 
 use crate::error::SetError;
 use crate::rows::{covers_row, ones_of, with_bit};
-use pages::Pages;
+use pages::PagedRow;
 
-/// The words of the lowest layer. A page has those of a block of 4096 indices, and the words of a page that is not there are 0.
-pub(crate) type Lowest = Pages<u64, 64>;
+/// The words of the lowest layer: a row from index 0 on, and pages behind it. A page has those of a block of 4096 indices, and the words of a page that is not there are 0.
+pub(crate) type Lowest = PagedRow<u64, 64>;
 
 /// Whether a bit is set.
 #[inline(always)]

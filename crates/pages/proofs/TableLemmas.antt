@@ -185,7 +185,7 @@ module _ {T : Type 0} (len : ℕ) (d : T) where
       flat_is len d sound.some table _ _ (length-set (flat len d table items) at x ∙ length-flat len d table items) (λ i. sym (item_set table items sound at x pos i))
 
   -- ---- every item becomes the filler
-  filled : (n i : ℕ) → get_or (replicate n d) i d ≡ d
+  pub filled : (n i : ℕ) → get_or (replicate n d) i d ≡ d
   filled n i =
       elim (cases_lt i n) [
         | inl lt ↦ get_or-replicate n i d d lt
