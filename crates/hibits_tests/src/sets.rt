@@ -119,7 +119,7 @@ fn words_are_walked_with_their_places(rt: HostRuntime) -> Result<(), Fail> {
         rt.alloc(),
         &[0, 65],
         &[1, 65],
-        Story::Words(&[(1, 2)], 10),
+        Story::Words(&[(1, 2)], 12),
     )?;
     told(&rt, rt.alloc(), &[], &[], Story::Words(&[], 2))
 }
