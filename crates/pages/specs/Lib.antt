@@ -1,4 +1,2 @@
-pub mod Joined
-pub mod Listed
 pub mod Paged
 pub mod Table

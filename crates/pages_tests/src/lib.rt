@@ -4,6 +4,4 @@
 #[cfg(test)]
 mod asserts;
 #[cfg(test)]
-mod rows;
-#[cfg(test)]
 mod tables;

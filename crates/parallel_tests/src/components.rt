@@ -2,7 +2,6 @@
 //! their components' types.
 ghost use Rattle.std.specs.Prelude.{◌≡◌, refl};
 
-use hibits::INDEX_LIMIT;
 use joins::{Lookup, RepeatableJoin};
 use joins_parallel::ParJoin;
 use std::alloc::{Alloc, AllocError, Global};
@@ -201,7 +200,7 @@ where
     let mut storage = empty(alloc)?;
     for place in 0..count {
         let id = place.saturating_mul(step);
-        if id < INDEX_LIMIT && storage.put(id, T::of(place)).is_err() {
+        if id < 16_777_216 && storage.put(id, T::of(place)).is_err() {
             return Err(Fail::new("refused"));
         }
     }
@@ -216,7 +215,7 @@ where
     let mut storage = empty(alloc)?;
     let mut id: u32 = 0;
     for value in values {
-        if id < INDEX_LIMIT && storage.put(id, T::new(*value)).is_err() {
+        if id < 16_777_216 && storage.put(id, T::new(*value)).is_err() {
             return Err(Fail::new("refused"));
         }
         id = id.wrapping_add(1);
