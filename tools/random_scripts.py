@@ -176,7 +176,7 @@ def groups_of(scripts):
 def unproved_runs(groups):
     """Each script of some groups with its run. Each group is run by one process of the program of tools/many_scripts.rt.src, which `rt try` builds once, in a room of its own."""
     with tempfile.TemporaryDirectory(prefix="many-scripts-") as room:
-        crate = make_room(room, "many_scripts", "specs_run", {"main.rt": "tools/many_scripts.rt.src"})
+        crate = make_room(room, "many_scripts", ["specs_run"], {"main.rt": "tools/many_scripts.rt.src"})
         os.mkdir(f"{room}/cases")
         for k, group in enumerate(groups):
             with open(f"{room}/cases/{k:06}", "w", encoding="utf-8") as it:

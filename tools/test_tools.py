@@ -580,6 +580,50 @@ class Program(Tree):
         self.refuses(self.run_in("./specs-run"), "was not built")
 
 
+class Rooms(Tree):
+    """tools/rooms.py, over a tree in which the crate `high` hands on what `low` and `left` have, and `top` what `high` hands on."""
+
+    def setUp(self):
+        super().setUp()
+        self.take("tools/rooms.py")
+        self.write("crates.txt", "low:\nleft: low\nhigh: low left thiserror # both\ntop: high\n")
+        self.write("crates/low/src/lib.rt", "pub struct Low;\n")
+        self.write("crates/low/specs/Lib.antt", "pub mod Low\n")
+        self.write("crates/left/src/lib.rt", "mod part;\n\npub use part::Part;\n")
+        self.write("crates/high/src/lib.rt", "mod own;\n\npub use left::Part;\npub use low::Low;\npub use own::Own;\n")
+        self.write("crates/top/src/lib.rt", "mod more;\n\npub use high::Low;\npub use high::Own;\npub use high::Part;\n")
+        self.write("crates/top/src/more.rt", "use high::Part;\n")
+        self.write("program/main.rt.src", "fn main() {}\n")
+
+    def room(self, without):
+        """What stands in each file of a room."""
+        made = f"make_room('room', 'program', ['top', 'anyhow'], {{'main.rt': 'program/main.rt.src'}}, {without})"
+        self.accepts(self.run_in("python3", "-c", f"import sys\nsys.path.insert(0, 'tools')\nfrom rooms import make_room\n{made}"))
+        found = {}
+        for at, _, names in os.walk(f"{self.top}/room"):
+            for name in names:
+                with open(f"{at}/{name}", encoding="utf-8") as it:
+                    found[os.path.relpath(it.name, f"{self.top}/room")] = it.read()
+        return found
+
+    def test_the_sources_are_copied_as_they_stand(self):
+        room = self.room([])
+        self.assertEqual(room.pop("crates/program/src/main.rt"), "fn main() {}\n")
+        self.assertEqual(room.pop("crates.txt").split("\n")[2:], ["high: low left thiserror", "top: high", "program: top anyhow", ""])
+        for path, text in room.items():
+            with open(f"{self.top}/{path}", encoding="utf-8") as it:
+                self.assertEqual(text, it.read(), path)
+        self.assertNotIn("crates/low/specs/Lib.antt", room)
+
+    def test_a_crate_that_is_left_out(self):
+        room = self.room(["left"])
+        self.assertNotIn("crates/left/src/lib.rt", room)
+        self.assertEqual(room["crates.txt"], "low: \nhigh: low thiserror\ntop: high\nprogram: top anyhow\n")
+        self.assertEqual(room["crates/high/src/lib.rt"], "mod own;\n\npub use low::Low;\npub use own::Own;\n")
+        self.assertEqual(room["crates/top/src/lib.rt"], "mod more;\n\npub use high::Low;\npub use high::Own;\n")
+        self.assertEqual(room["crates/top/src/more.rt"], "use high::Part;\n")
+
+
 class Tried(Tree):
     """specs-try, over a stand-in for tools/unproved.py that makes a program which prints its script, and ends with the status that this begins with."""
 
@@ -593,10 +637,11 @@ os.chmod(sys.argv[1], 0o700)
 
     def setUp(self):
         super().setUp()
-        self.take("specs-try", "tools/sources.sh")
+        self.take("specs-try", "tools/rooms.py", "tools/sources.sh")
         self.write("crates.txt", "specs_run_main:\n")
         self.write("crates/specs_run_main/src/main.rt", "fn main() {}\n")
         self.write("tools/script/uses", "specs_run\n")
+        self.write("tools/script/without", "joins\n")
         self.write("tools/script/src/main.rt.src", "fn main() {}\n")
         self.write("tools/unproved.py", self.BUILDS)
         self.write("bin/rt", "#!/bin/sh\n", runs=True)
@@ -624,7 +669,9 @@ os.chmod(sys.argv[1], 0o700)
         self.accepts(self.run_in("./specs-try", "one.script"))
         self.write("tools/script/src/main.rt.src", "fn main() { other() }\n")
         self.accepts(self.run_in("./specs-try", "one.script"))
-        self.assertEqual(self.builds(), 3)
+        self.write("tools/script/without", "joins joins_parallel\n")
+        self.accepts(self.run_in("./specs-try", "one.script"))
+        self.assertEqual(self.builds(), 4)
 
     def test_a_build_that_fails_is_no_program(self):
         self.write("tools/unproved.py", "import sys\nsys.exit('it is not built')\n")

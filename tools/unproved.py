@@ -1,6 +1,8 @@
 """Programs that are built without a proof, to be run by themselves: `rt try` runs what it makes, and keeps nothing of it.
 
-    python3 tools/unproved.py TO FOLDER NAME      makes the program of FOLDER/src, over the libraries that FOLDER/uses names, which is given its word"""
+    python3 tools/unproved.py TO FOLDER NAME      makes the program of FOLDER/src, over the libraries that FOLDER/uses names, which is given its word
+
+FOLDER/without, where there is one, names crates of which the program calls nothing, though a library that it uses hands them on: they are not read."""
 import os
 import re
 import shutil
@@ -14,18 +16,25 @@ from rooms import TOP, make_room
 ENDED = re.compile(r"^run=ended status=0 .*proved=no\n\Z", re.M)
 
 
+def words_of(file):
+    """The words of a file of the repository, none where it is not there."""
+    if not os.path.exists(f"{TOP}/{file}"):
+        return []
+    with open(f"{TOP}/{file}", encoding="utf-8") as it:
+        return it.read().split()
+
+
 def build(to, folder, name, by_word=False):
     """Makes the program of the sources in a folder of the repository, as a file, or says why there is none.
 
     The program is one that writes itself to the file that its standard input names, or its first word. It is built with checks, and brings an allocator of its own."""
     if os.path.exists(to):
         os.remove(to)
-    with open(f"{TOP}/{folder}/uses", encoding="utf-8") as it:
-        uses = it.read().strip()
+    uses, without = words_of(f"{folder}/uses"), words_of(f"{folder}/without")
     sources = {it.removesuffix(".src"): f"{folder}/src/{it}" for it in sorted(os.listdir(f"{TOP}/{folder}/src")) if it.endswith(".src")}
     room = tempfile.mkdtemp(prefix="unproved-")
     try:
-        crate = make_room(room, name, uses, sources)
+        crate = make_room(room, name, uses, sources, without)
         words, told = (["--", to], "") if by_word else ([], to)
         it = subprocess.run(["rt", "try", "--steps", "1", *words], cwd=crate, input=told, capture_output=True, text=True, errors="replace", check=False)
     finally:
