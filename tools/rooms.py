@@ -6,11 +6,16 @@ import shutil
 TOP = os.path.dirname(os.path.dirname(os.path.abspath(__file__)))
 
 
-def make_room(room, name, uses, sources):
-    """Makes a room in a folder, and answers the folder of its crate. The sources are files of the repository, by the name of each in src/."""
+def copy_crates(room):
+    """Copies the repository's crates, and what names them, into a folder."""
     shutil.copytree(f"{TOP}/crates", f"{room}/crates", ignore=lambda _, names: [it for it in names if it == "out"])
     for it in ("crates.txt", "HANDLES"):
         shutil.copy(f"{TOP}/{it}", room)
+
+
+def make_room(room, name, uses, sources):
+    """Makes a room in a folder, and answers the folder of its crate. The sources are files of the repository, by the name of each in src/."""
+    copy_crates(room)
     with open(f"{room}/crates.txt", "a", encoding="utf-8") as it:
         it.write(f"{name}: {uses}\n")
     for to, path in sources.items():
