@@ -7,6 +7,13 @@ import shutil
 TOP = os.path.dirname(os.path.dirname(os.path.abspath(__file__)))
 
 
+def copy_crates(room):
+    """Copies the repository's crates, and what names them, into a folder."""
+    shutil.copytree(f"{TOP}/crates", f"{room}/crates", ignore=lambda _, names: [it for it in names if it == "out"])
+    for it in ("crates.txt", "HANDLES"):
+        shutil.copy(f"{TOP}/{it}", room)
+
+
 def make_room(room, name, uses, sources, without=()):
     """Makes a room in a folder, and answers the folder of its crate. The sources are files of the repository, by the name of each in src/.
 
