@@ -298,6 +298,20 @@ impl BitSet {
         match level {
             0 => self.layer0.get(place),
             1 => word_at(&self.layer1, place),
+            _ => self.upper_word(level, place),
+        }
+    }
+
+    // A word of a layer above the two lowest. A walk asks for few of them, which the compiler is told so.
+    #[cold]
+    #[inline(never)]
+    fn upper_word(&self, level: usize, place: u32) -> u64
+        requires level { level < LAYERS }
+        requires upper { 1 < level }
+        ensures bits { (j : ℕ) → j < 64 → bit_at result j ≡ cond (has_part self.now.members level (64 * place + j)) 1 0 }
+        ensures within { (i : ℕ) → has_part self.now.members level i ≡ true → i < 64 ^ (LAYERS - level) }
+    {
+        match level {
             2 => word_at(&self.layer2, place),
             3 => word_at(&self.layer3, place),
             _ => if place == 0 { self.top } else { 0 },

@@ -204,6 +204,7 @@ impl<T: Item, const LEN: u32> PagedRow<T, LEN> {
 
 // What follows is what the calls above do where the row has ended, each in a place of its own, so that what they do in the row stays short.
 
+#[cold]
 #[inline(never)]
 fn get_behind<T: Item, const LEN: u32>(behind: &Pages<T, LEN>, at: u32) -> T
     ensures { result ≡ slice_index_or behind.now.items at T.FILLER }
@@ -211,6 +212,7 @@ fn get_behind<T: Item, const LEN: u32>(behind: &Pages<T, LEN>, at: u32) -> T
     behind.get(at)
 }
 
+#[cold]
 #[inline(never)]
 fn get_present_behind<T: Item, const LEN: u32>(behind: &Pages<T, LEN>, at: u32) -> T
     requires { HasPage LEN behind.now at }
@@ -219,6 +221,7 @@ fn get_present_behind<T: Item, const LEN: u32>(behind: &Pages<T, LEN>, at: u32) 
     behind.get_present(at)
 }
 
+#[cold]
 #[inline(never)]
 fn has_page_behind<T: Item, const LEN: u32>(behind: &Pages<T, LEN>, at: u32) -> bool
     ensures { result ≡ set.contains behind.now.pages (at / LEN) }
@@ -226,6 +229,7 @@ fn has_page_behind<T: Item, const LEN: u32>(behind: &Pages<T, LEN>, at: u32) -> 
     behind.has_page(at)
 }
 
+#[cold]
 #[inline(never)]
 fn set_behind<T: Item, const LEN: u32>(behind: &mut Pages<T, LEN>, at: u32, item: T)
     requires { HasPage LEN behind.old at }
@@ -235,6 +239,7 @@ fn set_behind<T: Item, const LEN: u32>(behind: &mut Pages<T, LEN>, at: u32, item
     behind.set(at, item);
 }
 
+#[cold]
 #[inline(never)]
 fn page_behind<T: Item, const LEN: u32>(behind: &Pages<T, LEN>, page: u32) -> &[T]
     ensures len { length result.now ≡ (if set.contains behind.now.pages page then LEN else 0) }
