@@ -1,5 +1,5 @@
 -- What a row and the pages behind it are as one.
-use Rattle.std.proofs.Common.{◌≡◌, ◌≢◌, ℕ, zero, suc, ◌+◌, ◌-◌, ◌*◌, ◌/◌, ◌%◌, ◌<◌, ◌≤◌, Bool, true, false, cond, max, ◌||◌, List, [], ◌∷◌, ◌++◌, length, get_or, drop, replicate, set as list_set, length-set, get_or-set_same, get_or-set_other, refl, sym, ap, ◌∙◌, inl, inr, arith, eq-eqb}
+use Rattle.std.proofs.Common.{◌≡◌, ◌≢◌, ℕ, zero, suc, ◌+◌, ◌-◌, ◌*◌, ◌/◌, ◌%◌, ◌<◌, ◌≤◌, Bool, true, false, max, ◌||◌, List, [], ◌++◌, length, get_or, drop, replicate, set as list_set, length-set, get_or-set_same, get_or-set_other, refl, sym, ap, ◌∙◌, inl, inr, arith, eq-eqb}
 use Rattle.std.specs.Ordering.{nat_cmp}
 use Rattle.std.specs.Cmp.{nat_cmp_total, unsigned_tied}
 use Rattle.std.specs.FinSet as set
@@ -7,10 +7,10 @@ use Rattle.std.proofs.Math.Nat.{suc-mul, div-lt_iff_lt-mul, mul-le-mul_right}
 use Rattle.std.proofs.lemmas.Bool.{cases_eq, cases_lt, ne_eqb, true≢false}
 use Rattle.std.proofs.lemmas.List.{get_or_past, get_or_append_left, get_or-append_right, length-append, length-replicate, ext_get_or, get_or-drop, get_or_read, length-drop}
 use Rattle.std.proofs.lemmas.Nat.{div-mul-add, mod-mul-add, le-div, div-add-mod'}
+use Rattle.std.specs.Bool.{if◌then◌else◌}
 use Rattle.pages.specs.Paged.{Paged}
-use Rattle.pages.specs.Listed.{list_below, list_below-any, list_below-none}
 use Rattle.pages.specs.Joined.{joined, with_first, IsJoined}
-use Rattle.pages.proofs.TableLemmas.{times_le, max-mul, filled}
+use Rattle.pages.proofs.TableLemmas.{times_le, max-mul, filled, insert_there}
 
 -- ---- the set of pages
 pub has_inserted : (s : set.FinSet nat_cmp) (k q : ℕ) → q ≡ k → set.contains (set.insert s k) q ≡ true
@@ -48,44 +48,6 @@ first_insert s n k =
             | inr other ↦ insert_other s k q other ∙ sym (insert_other (with_first s n) k q other ∙ first_other s n q ge)
           ]
     ])
-
-pub len-first : (s : set.FinSet nat_cmp) (n : ℕ) → ((k : ℕ) → set.contains s k ≡ true → n ≤ k) → set.len (with_first s n) ≡ n + set.len s
-len-first s zero apart = let e : set.len s ≡ 0 + set.len s = omega arith in e
-len-first s (suc n) apart =
-    let none : set.contains s n ≡ false = elim (set.contains s n) as (λ b. set.contains s n ≡ b → b ≡ false) [ true ↦ λ e. let a = apart n e in absurd (omega (arith, a)) | false ↦ λ _. refl ] refl in
-    let before = len-first s n (λ k e. let a = apart k e in omega (arith, a)) in
-    set.len-insert nat_cmp_total (with_first s n) n
-    ∙ ap (λ b. cond b (set.len (with_first s n)) (set.len (with_first s n) + 1)) (first_other s n n (omega arith) ∙ none)
-    ∙ ap (λ m. m + 1) before
-    ∙ (let e : n + set.len s + 1 ≡ suc n + set.len s = omega arith in e)
-
-len-below : (p : ℕ → Bool) (n : ℕ) → set.len (set.from_list {R = nat_cmp} (list_below p n)) ≤ n
-len-below p zero = let e = set.len-empty nat_cmp in omega (arith, e)
-len-below p (suc n) =
-    let s : set.FinSet nat_cmp = set.from_list (list_below p n) in
-    let more = set.len-insert nat_cmp_total s n in
-    let before = len-below p n in
-    let l : cond (set.contains s n) (set.len s) (set.len s + 1) ≤ set.len s + 1 = elim (set.contains s n) as (λ b. cond b (set.len s) (set.len s + 1) ≤ set.len s + 1) [ true ↦ omega arith | false ↦ omega arith ] in
-    elim (p n) as (λ b. set.len (set.from_list {R = nat_cmp} (cond b (n ∷ list_below p n) (list_below p n))) ≤ suc n) [
-      | true ↦ omega (arith, more, before, l)
-      | false ↦ omega (arith, before)
-    ]
-
--- numbers below m are at most m
-pub len-le : (s : set.FinSet nat_cmp) (m : ℕ) → ((k : ℕ) → set.contains s k ≡ true → k < m) → set.len s ≤ m
-len-le s m below =
-    let same : s ≡ set.from_list (list_below (set.contains s) m) =
-    set.same_set nat_cmp_total set.nat_cmp-IsAntisymmetric _ _ (λ q.
-    sym (set.contains-from_list_nat (list_below (set.contains s) m) q
-    ∙ elim (cases_lt q m) [
-      | inl lt ↦ list_below-any (set.contains s) q m lt
-      | inr ge ↦
-          list_below-none (set.contains s) q m ge
-          ∙ sym (elim (set.contains s q) as (λ b. set.contains s q ≡ b → b ≡ false) [ true ↦ λ e. let b = below q e in absurd (omega (arith, b)) | false ↦ λ _. refl ] refl)
-    ])) in
-    let n = len-below (set.contains s) m in
-    let e = ap set.len same in
-    omega (arith, n, e)
 
 -- ---- the items
 module _ {T : Type 0} where
@@ -252,18 +214,6 @@ module _ {T : Type 0} (len : ℕ) (d : T) (row : List T) (behind : Paged T) (j :
     pub not_behind : (k : ℕ) → set.contains s.pages k ≡ false → set.contains behind.pages k ≡ false
     not_behind k none = sym (behind_has k (page_not_there k none)) ∙ none
 
-    -- the pages past the row that are there
-    pub count_below : (m : ℕ) → ((k : ℕ) → set.contains behind.pages k ≡ true → k < m) → pages_in_row + set.len behind.pages ≤ max pages_in_row m
-    count_below m below =
-        let n = len-first behind.pages pages_in_row j.apart in
-        let l =
-        len-le (with_first behind.pages pages_in_row) (max pages_in_row m) (λ k h.
-        elim (cases_lt k pages_in_row) [ inl lt ↦ omega arith | inr ge ↦ let b = below k (sym (first_other behind.pages pages_in_row k ge) ∙ h) in omega (arith, b) ]) in
-        omega (arith, n, l)
-
-    pub one_count : (c : ℕ) → c ≡ set.len behind.pages → pages_in_row + c ≡ set.len s.pages
-    one_count c is = ap (λ m. pages_in_row + m) is ∙ sym (len-first behind.pages pages_in_row j.apart) ∙ ap (λ (t : Paged T). set.len t.pages) e
-
     pub reach_length : (r m : ℕ) → r * len ≡ length behind.items → m ≡ max pages_in_row r → m * len ≡ length s.items
     reach_length r m r_is m_is =
         let n = one_length in
@@ -291,7 +241,6 @@ module _ {T : Type 0} (len : ℕ) (d : T) (row : List T) (behind : Paged T) (som
       record {
         some = some;
         whole = ap (λ n. n % len) (no_length ∙ (let z : 0 ≡ 0 * len + 0 = omega arith in z)) ∙ mod-mul-add 0 len 0 some;
-        apart = λ k h. absurd (has_none k h);
         within = λ k h. absurd (has_none k h);
         missing = λ i _. get_or_past behind.items i d (let n = ap length no_items in omega (arith, n));
       }
@@ -308,7 +257,6 @@ joined_written len d row row' behind j n =
     record {
       some = j.some;
       whole = ap (λ m. m % len) n ∙ j.whole;
-      apart = λ k h. let a = j.apart k h in let e = ap (λ m. m / len) n in omega (arith, a, e);
       within = j.within;
       missing = j.missing;
     }
@@ -329,13 +277,6 @@ module _ {T : Type 0} (len : ℕ) (d : T) (row row' : List T) (behind : Paged T)
       record {
         some = j.some;
         whole = ap (λ n. n % len) length_pages ∙ mod-mul-add (suc (length row / len)) len 0 j.some;
-        apart = λ k h.
-            let a = j.apart k h in
-            let e = pages_grown in
-            elim (cases_eq k (length row / len)) [
-              | inl same ↦ absurd (true≢false (sym h ∙ ap (set.contains behind.pages) same ∙ none))
-              | inr other ↦ omega (arith, a, e, other)
-            ];
         within = j.within;
         missing = j.missing;
       }
@@ -393,7 +334,6 @@ module _ {T : Type 0} (len : ℕ) (d : T) (row : List T) (behind behind' : Paged
       record {
         some = j.some;
         whole = j.whole;
-        apart = λ k h. elim (cases_eq k page) [ inl same ↦ omega (arith, same, past) | inr other ↦ j.apart k (sym (kept_page k other) ∙ h) ];
         within = λ k h.
             elim (cases_eq k page) [
               | inl same ↦ let e = ap (λ m. (m + 1) * len) same in omega (arith, e, n)
@@ -456,7 +396,6 @@ module _ {T : Type 0} (len : ℕ) (d : T) (row : List T) (behind behind' : Paged
       record {
         some = j.some;
         whole = j.whole;
-        apart = λ k h. j.apart k (same_page k true h);
         within = λ k h. let w = j.within k (same_page k true h) in omega (arith, w, n);
         missing = λ i h. missing i (same_page (i / len) false h);
       }
@@ -473,3 +412,61 @@ joined_set len d row behind behind' j at x has items pages =
 pub joined_fill : {T : Type 0} (len : ℕ) (d : T) (row row' : List T) (behind behind' : Paged T) → IsJoined len d row behind → row' ≡ replicate (length row) d → behind'.items ≡ replicate (length behind.items) d → behind'.pages ≡ behind.pages → IsJoined len d row' behind'
 joined_fill len d row row' behind behind' j row_is items pages =
     joined_written len d row row' behind' (joined_others len d row behind behind' j pages (ap length items ∙ length-replicate (length behind.items) d) (λ i _. ap (λ xs. get_or xs i d) items ∙ filled (length behind.items) d (length behind.items) i)) (ap length row_is ∙ length-replicate (length row) d)
+
+-- ---- the page behind the row that comes next
+module _ {T : Type 0} (len : ℕ) (d : T) (row row' page : List T) (behind : Paged T) (j : IsJoined len d row behind) (is : row' ≡ row ++ page) (there : set.contains behind.pages (length row / len) ≡ true) (n : length page ≡ len) (same : (i : ℕ) → i < len → get_or page i d ≡ get_or behind.items (length row / len * len + i) d) where
+  length_taken : length row' ≡ length row + len
+  length_taken = ap length is ∙ length-append row page ∙ ap (λ m. length row + m) n
+
+  taken_pages : length row' ≡ suc (length row / len) * len + 0
+  taken_pages = let n = length_taken in let w = whole_row len d row behind j in let m = suc-mul (length row / len) len in omega (arith, n, w, m)
+
+  pub joined_taken : IsJoined len d row' behind
+  joined_taken = record {
+    some = j.some;
+    whole = ap (λ m. m % len) taken_pages ∙ mod-mul-add (suc (length row / len)) len 0 j.some;
+    within = j.within;
+    missing = j.missing;
+  }
+
+  taken_item : (i : ℕ) → length row ≤ i → i < length row' → get_or row' i d ≡ get_or behind.items i d
+  taken_item i le lt =
+      let l = length_taken in
+      let w = whole_row len d row behind j in
+      ap (λ xs. get_or xs i d) is
+      ∙ get_or-append_right row page (length row) i d refl le
+      ∙ same (i - length row) (omega (arith, le, lt, l))
+      ∙ ap (λ k. get_or behind.items k d) (let e : length row / len * len + (i - length row) ≡ i = omega (arith, w, le) in e)
+
+  pub taken_items : joined row' behind.items ≡ joined row behind.items
+  taken_items =
+      let l = length_taken in
+      let w = whole_row len d row behind j in
+      let b = j.within (length row / len) there in
+      let e = ap (λ k. k * len) (let e : length row / len + 1 ≡ suc (length row / len) = omega arith in e) in
+      let m = suc-mul (length row / len) len in
+      let size = length-joined row behind.items in
+      joined_is d row' behind.items (joined row behind.items) (omega (arith, l, w, b, e, m, size))
+      (λ i lt.
+      elim (cases_lt i (length row)) [
+        | inl old ↦ in_row row behind.items i d old ∙ sym (ap (λ xs. get_or xs i d) is ∙ get_or_append_left row page d i old)
+        | inr new ↦ past_row row behind.items i d new ∙ sym (taken_item i new lt)
+      ])
+      (λ i ge. past_row row behind.items i d (omega (arith, l, ge)))
+
+  pub taken_set : with_first behind.pages (length row' / len) ≡ with_first behind.pages (length row / len)
+  taken_set =
+      ap (with_first behind.pages) (ap (λ m. m / len) taken_pages ∙ div-mul-add (suc (length row / len)) len 0 j.some)
+      ∙ sym (insert_there _ _ (first_other behind.pages (length row / len) (length row / len) (omega arith) ∙ there))
+
+-- a page that has items is there as a whole
+pub page_is_there : (b : Bool) (n len : ℕ) → n ≡ (if b then len else 0) → 0 < n → (b ≡ true) × (n ≡ len)
+page_is_there true n len is some = (refl, is)
+page_is_there false n len is some = absurd (let e : n ≡ 0 = is in omega (arith, e))
+
+-- whether it was taken or not, the whole is the same
+pub taken_or_not : {T : Type 0} (len : ℕ) (d : T) (row row' page : List T) (behind : Paged T) → IsJoined len d row behind → (ok : Bool) → row' ≡ (if ok then row ++ page else row) → set.contains behind.pages (length row / len) ≡ true → length page ≡ len → ((i : ℕ) → i < len → get_or page i d ≡ get_or behind.items (length row / len * len + i) d) → (IsJoined len d row' behind) × (joined row' behind.items ≡ joined row behind.items) × (with_first behind.pages (length row' / len) ≡ with_first behind.pages (length row / len))
+taken_or_not len d row row' page behind j true is there n same =
+    (joined_taken len d row row' page behind j is there n same, taken_items len d row row' page behind j is there n same, taken_set len d row row' page behind j is there n same)
+taken_or_not len d row row' page behind j false is there n same =
+    (joined_written len d row row' behind j (ap length is), ap (λ r. joined r behind.items) is, ap (λ r. with_first behind.pages (length r / len)) is)

@@ -14,10 +14,9 @@ abbrev pub with_first : set.FinSet nat_cmp → ℕ → set.FinSet nat_cmp
 with_first s zero = s
 with_first s (suc n) = set.insert (with_first s n) n
 
--- the row has whole pages, and the pages behind it lie past its end
+-- the row has whole pages; a page behind it may lie where the row is, which then holds its items
 pub record IsJoined {T : Type 0} (len : ℕ) (filler : T) (row : List T) (behind : Paged T) : Type 0 where
   pub some : 0 < len
   pub whole : length row % len ≡ 0
-  pub apart : (k : ℕ) → set.contains behind.pages k ≡ true → length row / len ≤ k
   pub within : (k : ℕ) → set.contains behind.pages k ≡ true → (k + 1) * len ≤ length behind.items
   pub missing : (i : ℕ) → set.contains behind.pages (i / len) ≡ false → slice_index_or behind.items i filler ≡ filler

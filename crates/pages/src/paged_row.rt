@@ -13,12 +13,11 @@ use std::marker::Model;
 /// load of the item. Every other page stands in a table behind the row, at the cost of `Pages`, so that a far place pays for its page alone, and for 4 bytes
 /// for each page up to it; as lists grow, up to twice that.
 ///
-/// A page is added to the row only where it is made just as the row ends there. A page that was made behind the row stays behind it, and the row ends
-/// before it.
+/// A page is added to the row where it is made just as the row ends there; the pages behind the row that come next are taken into it then.
 pub struct PagedRow<T: Item, const LEN: u32> {
     // the first pages, whole, at their places
     row: Vec<T>,
-    // the others: none of them lies where the row does
+    // the others, and some that the row took over
     behind: Pages<T, LEN>,
 }
 
@@ -125,7 +124,9 @@ impl<T: Item, const LEN: u32> PagedRow<T, LEN> {
         if self.has_page(at) {
             return Ok(());
         }
-        self.make_page(at)
+        self.make_page(at)?;
+        self.take_over();
+        Ok(())
     }
 
     // The same where the page is not there: the row grows where it ends before the page, and else the page goes behind it.
@@ -143,6 +144,31 @@ impl<T: Item, const LEN: u32> PagedRow<T, LEN> {
         }
         self.behind.reserve(at)?;
         Ok(())
+    }
+
+    // Takes the pages behind the row that come next into it, while there is memory for them: the row is read with less.
+    fn take_over(&mut self)
+        ensures { self.new ≡ self.old }
+    {
+        for _page in 0..self.behind.reach() {
+            if !self.take_next() {
+                return;
+            }
+        }
+    }
+
+    // Takes the page behind the row that comes next into it, and says whether it did. It stays behind too, where nothing reads it.
+    fn take_next(&mut self) -> bool
+        ensures { self.new ≡ self.old }
+    {
+        let Ok(page) = u32::try_from(self.row.len() / LEN as usize) else {
+            return false;
+        };
+        let items = self.behind.page(page);
+        if items.is_empty() {
+            return false;
+        }
+        self.row.extend_from_slice(items).is_ok()
     }
 
     /// Writes the item at a place whose page is there, and no other. It takes no memory.
@@ -166,15 +192,6 @@ impl<T: Item, const LEN: u32> PagedRow<T, LEN> {
     {
         fill_with(&mut self.row, T::FILLER);
         self.behind.fill();
-    }
-
-    /// How many pages are there. It reads no page.
-    pub fn count(&self) -> usize
-        ensures { result ≡ set.len self.now.pages }
-    {
-        // the pages behind the row lie below their reach, so that the sum is a number of pages too
-        let _reach = self.behind.reach();
-        self.row.len() / LEN as usize + self.behind.count()
     }
 
     /// No page from this one on is there: pages are gone over by their numbers below it.
