@@ -31,8 +31,15 @@ fn present<T: Item, const LEN: u32>(row: &PagedRow<T, LEN>, at: u32) -> Option<T
     Some(row.get_present(at))
 }
 
+/// How many pages there are below the row's reach.
 fn count<T: Item, const LEN: u32>(row: &PagedRow<T, LEN>) -> usize {
-    row.count()
+    let mut pages: usize = 0;
+    for page in 0..row.reach() {
+        if u32::try_from(page).is_ok_and(|page| !row.page(page).is_empty()) {
+            pages = pages.saturating_add(1);
+        }
+    }
+    pages
 }
 
 fn reach<T: Item, const LEN: u32>(row: &PagedRow<T, LEN>) -> usize {
