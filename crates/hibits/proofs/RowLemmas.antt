@@ -1,7 +1,6 @@
 -- How rows of words follow a set.
-use Rattle.std.proofs.Common.{◌≡◌, ◌≢◌, ℕ, zero, suc, ◌+◌, ◌*◌, ◌/◌, ◌%◌, ◌^◌, ◌<◌, ◌≤◌, Bool, true, false, cond, not, ◌&&◌, ◌||◌, ◌==◌, List, [], ◌∷◌, length, get_or, set as list_set, length-set, get_or-set_same, get_or-set_other, bit_and, bit_or, w64, refl, sym, ap, ◌∙◌, inl, inr, ⊎_elim, arith, eqb-true, eq-eqb, ltb, ltb-true, lt-ltb}
+use Rattle.std.proofs.Common.{◌≡◌, ◌≢◌, ℕ, zero, suc, ◌+◌, ◌*◌, ◌/◌, ◌%◌, ◌^◌, ◌<◌, ◌≤◌, Bool, true, false, cond, not, ◌&&◌, ◌||◌, ◌==◌, List, [], ◌∷◌, length, get_or, set as list_set, length-set, get_or-set_same, get_or-set_other, bit_and, bit_or, w64, refl, sym, ap, ◌∙◌, inl, inr, ⊎_elim, arith, eqb-true, eq-eqb}
 use Rattle.std.specs.Int.{bit_at, bit_not, trailing_zeros}
-use Rattle.std.specs.List.{list_any}
 use Rattle.std.specs.Ordering.{nat_cmp}
 use Rattle.std.specs.Cmp.{nat_cmp_total, unsigned_tied, both_ways}
 use Rattle.std.specs.FinSet as set
@@ -10,37 +9,12 @@ use Rattle.std.proofs.lemmas.Bool.{cases_eq, cases_lt, ne_eqb, true≢false}
 use Rattle.std.proofs.lemmas.Bool.Decides.{eqb_tells}
 use Rattle.std.proofs.lemmas.List.{get_or_past}
 use Rattle.std.proofs.lemmas.Nat.Bits.{bit_at-zero, bit_at-lt, bit_at-trailing_zeros, bit_at_set_same, bit_at_set_other, bit_at_clear_same, bit_at_clear_other, shr_and_one}
+use Rattle.pages.specs.Listed.{list_below, list_below-none, list_below-any}
 use Rattle.hibits.specs.declared.limits.TheConstants.{INDEX_LIMIT}
 use Rattle.hibits.specs.Sets.{has_part, has_part_zero, part_member, member_part, part_covers, part_within, none_in_empty}
-use Rattle.hibits.specs.Rows.{row_bit, list_below, members_of, rooms_of, IsTied, AreWords, IsSound, IsPut, SameWords}
+use Rattle.hibits.specs.Rows.{row_bit, members_of, IsTied, AreWords, IsSound, IsPut, SameWords}
 
 -- ---- the members of a row
-pub list_below-none : (p : ℕ → Bool) (q n : ℕ) → n ≤ q → list_any (λ y. y == q) (list_below p n) ≡ false
-list_below-none p q zero le = refl
-list_below-none p q (suc n) le =
-    let rest = list_below-none p q n (omega arith) in
-    elim (p n) as (λ b. list_any (λ y. y == q) (cond b (n ∷ list_below p n) (list_below p n)) ≡ false) [
-      | true ↦ ap (λ b. b || list_any (λ y. y == q) (list_below p n)) (ne_eqb n q (λ e. omega (arith, e))) ∙ rest
-      | false ↦ rest
-    ]
-
-list_below-any : (p : ℕ → Bool) (q n : ℕ) → q < n → list_any (λ y. y == q) (list_below p n) ≡ p q
-list_below-any p q zero lt = absurd (omega arith)
-list_below-any p q (suc n) lt =
-    elim (cases_eq n q) [
-      | inl same ↦
-          elim (p n) as (λ b. p n ≡ b → list_any (λ y. y == q) (cond b (n ∷ list_below p n) (list_below p n)) ≡ p q) [
-            | true ↦ λ e. ap (λ b. b || list_any (λ y. y == q) (list_below p n)) (eq-eqb n q same) ∙ sym (sym (ap p same) ∙ e)
-            | false ↦ λ e. list_below-none p q n (omega arith) ∙ sym (sym (ap p same) ∙ e)
-          ] refl
-      | inr other ↦
-          let rest = list_below-any p q n (omega (arith, other)) in
-          elim (p n) as (λ b. list_any (λ y. y == q) (cond b (n ∷ list_below p n) (list_below p n)) ≡ p q) [
-            | true ↦ ap (λ b. b || list_any (λ y. y == q) (list_below p n)) (ne_eqb n q other) ∙ rest
-            | false ↦ rest
-          ]
-    ]
-
 pub past_row : (ws : List ℕ) (i : ℕ) → 64 * length ws ≤ i → row_bit ws i ≡ false
 past_row ws i le =
     let past : get_or ws (i / 64) 0 ≡ 0 = get_or_past ws (i / 64) 0 (omega arith) in
@@ -54,22 +28,6 @@ contains-members_of ws i =
       | inl lt ↦ list_below-any (row_bit ws) i (64 * length ws) lt
       | inr ge ↦ list_below-none (row_bit ws) i (64 * length ws) ge ∙ sym (past_row ws i ge)
     ]
-
-pub contains-rooms_of : (ws : List ℕ) (b : ℕ) → b < length ws / 64 → set.contains (rooms_of ws) b ≡ true
-unfolding rooms_of
-contains-rooms_of ws b lt = set.contains-from_list_nat (list_below (λ _. true) (length ws / 64)) b ∙ list_below-any (λ _. true) b (length ws / 64) lt
-
-pub rooms_of-contains : (ws : List ℕ) (b : ℕ) → set.contains (rooms_of ws) b ≡ true → b < length ws / 64
-unfolding rooms_of
-rooms_of-contains ws b e =
-    elim (cases_lt b (length ws / 64)) [
-      | inl lt ↦ lt
-      | inr ge ↦ absurd (true≢false (sym e ∙ set.contains-from_list_nat (list_below (λ _. true) (length ws / 64)) b ∙ list_below-none (λ _. true) b (length ws / 64) ge))
-    ]
-
-pub same_rooms : (ws vs : List ℕ) → length vs ≡ length ws → rooms_of vs ≡ rooms_of ws
-unfolding rooms_of
-same_rooms ws vs len = ap (λ n. set.from_list (list_below (λ _. true) (n / 64))) len
 
 -- ---- a bit that is put
 pub tied_zero : (ws : List ℕ) → IsTied (members_of ws) 0 ws
@@ -188,23 +146,28 @@ module _ (ws ws' : List ℕ) (same : SameWords ws ws') where
   pub same_tied : (s : set.FinSet nat_cmp) (l : ℕ) → IsTied s l ws → IsTied s l ws'
   same_tied s l tied = record { bits = λ i. ap (λ w. bit_at w (i % 64) == 1) (same.at (i / 64)) ∙ tied.bits i }
 
+  pub same_are_words : AreWords ws → AreWords ws'
+  same_are_words words = record { fits = λ k. rw (same.at k) (words.fits k) }
+
 pub same_words : (ws : List ℕ) → SameWords ws ws
 same_words ws = record { at = λ k. refl }
 
-pub sound_grown : (w0 w1 w2 w3 v0 v1 v2 v3 : List ℕ) → IsSound w0 w1 w2 w3 → SameWords w0 v0 → SameWords w1 v1 → SameWords w2 v2 → SameWords w3 v3 → length v0 ≤ 64 * length v1 → length v1 ≤ 64 * length v2 → length v2 ≤ 64 * length v3 → length v3 ≤ 1 → length v0 % 64 ≡ 0 → AreWords v0 → AreWords v1 → AreWords v2 → AreWords v3 → IsSound v0 v1 v2 v3
-sound_grown w0 w1 w2 w3 v0 v1 v2 v3 ok s0 s1 s2 s3 a b c d e f0 f1 f2 f3 = record {
-  blocks = e;
+pub sound_grown : (w0 w1 w2 w3 w4 v0 v1 v2 v3 v4 : List ℕ) → IsSound w0 w1 w2 w3 w4 → SameWords w0 v0 → SameWords w1 v1 → SameWords w2 v2 → SameWords w3 v3 → SameWords w4 v4 → length v0 ≤ 64 * length v1 → length v1 ≤ 64 * length v2 → length v2 ≤ 64 * length v3 → length v3 ≤ 64 * length v4 → length v4 ≤ 1 → AreWords v0 → AreWords v1 → AreWords v2 → AreWords v3 → AreWords v4 → IsSound v0 v1 v2 v3 v4
+sound_grown w0 w1 w2 w3 w4 v0 v1 v2 v3 v4 ok s0 s1 s2 s3 s4 a b c d e f0 f1 f2 f3 f4 = record {
   size0 = a;
   size1 = b;
   size2 = c;
   size3 = d;
+  size4 = e;
   words0 = f0;
   words1 = f1;
   words2 = f2;
   words3 = f3;
+  words4 = f4;
   tied1 = rw (same_members w0 v0 s0) (same_tied w1 v1 s1 _ 1 ok.tied1);
   tied2 = rw (same_members w0 v0 s0) (same_tied w2 v2 s2 _ 2 ok.tied2);
   tied3 = rw (same_members w0 v0 s0) (same_tied w3 v3 s3 _ 3 ok.tied3);
+  tied4 = rw (same_members w0 v0 s0) (same_tied w4 v4 s4 _ 4 ok.tied4);
 }
 
 or_cond : (a b : Bool) → (a || b) ≡ cond a true b
@@ -230,47 +193,24 @@ module _ (w0 v0 : List ℕ) (x : ℕ) (v : Bool) (put : IsPut w0 v0 x v) where
       set.same_set nat_cmp_total set.nat_cmp-IsAntisymmetric _ _ (λ q.
       contains-members_of v0 q ∙ put.bits q ∙ put_cases w0 x q v)
 
-  pub sound_put : (w1 w2 w3 v1 v2 v3 : List ℕ) → IsSound w0 w1 w2 w3 → AreWords v0 → AreWords v1 → AreWords v2 → AreWords v3 → IsPut w1 v1 (x / 64) (not (get_or v0 (x / 64) 0 == 0)) → IsPut w2 v2 (x / 4096) (not (get_or v1 (x / 4096) 0 == 0)) → IsPut w3 v3 (x / 262144) (not (get_or v2 (x / 262144) 0 == 0)) → IsSound v0 v1 v2 v3
-  sound_put w1 w2 w3 v1 v2 v3 ok f0 f1 f2 f3 p1 p2 p3 =
+  pub sound_put : (w1 w2 w3 w4 v1 v2 v3 v4 : List ℕ) → IsSound w0 w1 w2 w3 w4 → AreWords v0 → AreWords v1 → AreWords v2 → AreWords v3 → AreWords v4 → IsPut w1 v1 (x / 64) (not (get_or v0 (x / 64) 0 == 0)) → IsPut w2 v2 (x / 4096) (not (get_or v1 (x / 4096) 0 == 0)) → IsPut w3 v3 (x / 262144) (not (get_or v2 (x / 262144) 0 == 0)) → IsPut w4 v4 (x / 64 ^ 4) (not (get_or v3 (x / 64 ^ 4) 0 == 0)) → IsSound v0 v1 v2 v3 v4
+  sound_put w1 w2 w3 w4 v1 v2 v3 v4 ok f0 f1 f2 f3 f4 p1 p2 p3 p4 =
       let t0 = tied_zero v0 in
       let t1 = tied_put (members_of w0) (members_of v0) x put_others 0 w1 v1 v0 ok.tied1 t0 (f0.fits (x / 64)) p1 in
       let t2 = tied_put (members_of w0) (members_of v0) x put_others 1 w2 v2 v1 ok.tied2 t1 (f1.fits (x / 4096)) p2 in
       let t3 = tied_put (members_of w0) (members_of v0) x put_others 2 w3 v3 v2 ok.tied3 t2 (f2.fits (x / 262144)) p3 in
+      let t4 = tied_put (members_of w0) (members_of v0) x put_others 3 w4 v4 v3 ok.tied4 t3 (f3.fits (x / 64 ^ 4)) p4 in
       let l0 = put.len in
       let l1 = p1.len in
       let l2 = p2.len in
       let l3 = p3.len in
+      let l4 = p4.len in
       let a = ok.size0 in
       let b = ok.size1 in
       let c = ok.size2 in
       let d = ok.size3 in
-      let e = ok.blocks in
-      record { blocks = omega arith; size0 = omega arith; size1 = omega arith; size2 = omega arith; size3 = omega arith; words0 = f0; words1 = f1; words2 = f2; words3 = f3; tied1 = t1; tied2 = t2; tied3 = t3 }
-
-  pub put_rooms : rooms_of v0 ≡ rooms_of w0
-  put_rooms = same_rooms w0 v0 put.len
-
--- ---- room
-pub rooms_grown : (ws vs : List ℕ) → length ws ≤ length vs → (b : ℕ) → set.contains (rooms_of ws) b ≡ true → set.contains (rooms_of vs) b ≡ true
-rooms_grown ws vs le b e =
-    let lt = rooms_of-contains ws b e in
-    contains-rooms_of vs b (omega arith)
-
-pub rooms_test : (ws : List ℕ) (i : ℕ) → length ws % 64 ≡ 0 → ltb (i / 64) (length ws) ≡ set.contains (rooms_of ws) (i / 4096)
-rooms_test ws i blocks =
-    both_ways _ _
-    (λ e. let lt = ltb-true (i / 64) (length ws) e in contains-rooms_of ws (i / 4096) (omega arith))
-    (λ e. let lt = rooms_of-contains ws (i / 4096) e in lt-ltb (i / 64) (length ws) (omega arith))
-
-pub member_room : (ws : List ℕ) (i : ℕ) → length ws % 64 ≡ 0 → row_bit ws i ≡ true → set.contains (rooms_of ws) (i / 4096) ≡ true
-member_room ws i blocks e =
-    elim (cases_lt i (64 * length ws)) [
-      | inl lt ↦ contains-rooms_of ws (i / 4096) (omega arith)
-      | inr ge ↦ absurd (true≢false (sym e ∙ past_row ws i ge))
-    ]
-
-pub room_word : (ws : List ℕ) (i : ℕ) → set.contains (rooms_of ws) (i / 4096) ≡ true → i / 64 < length ws
-room_word ws i e = let lt = rooms_of-contains ws (i / 4096) e in omega arith
+      let e = ok.size4 in
+      record { size0 = omega arith; size1 = omega arith; size2 = omega arith; size3 = omega arith; size4 = omega arith; words0 = f0; words1 = f1; words2 = f2; words3 = f3; words4 = f4; tied1 = t1; tied2 = t2; tied3 = t3; tied4 = t4 }
 
 pub remove_absent : (m : set.FinSet nat_cmp) (x : ℕ) → set.contains m x ≡ false → m ≡ set.remove m x
 remove_absent m x e =
@@ -296,26 +236,28 @@ put_same ws i v is = record {
       ];
 }
 
-module _ (w0 w1 w2 w3 : List ℕ) (ok : IsSound w0 w1 w2 w3) where
+module _ (w0 w1 w2 w3 w4 : List ℕ) (ok : IsSound w0 w1 w2 w3 w4) where
   -- a bit is put, and its word is 0 after it if it was before
-  pub sound_stays : (v0 : List ℕ) (x : ℕ) (v : Bool) → IsPut w0 v0 x v → AreWords v0 → not (get_or w0 (x / 64) 0 == 0) ≡ not (get_or v0 (x / 64) 0 == 0) → IsSound v0 w1 w2 w3
+  pub sound_stays : (v0 : List ℕ) (x : ℕ) (v : Bool) → IsPut w0 v0 x v → AreWords v0 → not (get_or w0 (x / 64) 0 == 0) ≡ not (get_or v0 (x / 64) 0 == 0) → IsSound v0 w1 w2 w3 w4
   sound_stays v0 x v put f0 same =
-      sound_put w0 v0 x v put w1 w2 w3 w1 w2 w3 ok f0 ok.words1 ok.words2 ok.words3
+      sound_put w0 v0 x v put w1 w2 w3 w4 w1 w2 w3 w4 ok f0 ok.words1 ok.words2 ok.words3 ok.words4
       (put_same w1 (x / 64) _ (tells _ 0 w0 w1 (tied_zero w0) ok.tied1 (x / 64) (ok.words0.fits (x / 64)) ∙ same))
       (put_same w2 (x / 4096) _ (tells _ 1 w1 w2 ok.tied1 ok.tied2 (x / 4096) (ok.words1.fits (x / 4096))))
       (put_same w3 (x / 262144) _ (tells _ 2 w2 w3 ok.tied2 ok.tied3 (x / 262144) (ok.words2.fits (x / 262144))))
+      (put_same w4 (x / 64 ^ 4) _ (tells _ 3 w3 w4 ok.tied3 ok.tied4 (x / 64 ^ 4) (ok.words3.fits (x / 64 ^ 4))))
 
-  pub room_below : (i : ℕ) → set.contains (rooms_of w0) (i / 4096) ≡ true → i < INDEX_LIMIT
-  room_below i e =
-      let lt = rooms_of-contains w0 (i / 4096) e in
-      let a = ok.size0 in
-      let b = ok.size1 in
-      let c = ok.size2 in
-      let d = ok.size3 in
-      omega arith
-
-  pub member_has_room : (i : ℕ) → set.contains (members_of w0) i ≡ true → set.contains (rooms_of w0) (i / 4096) ≡ true
-  member_has_room i e = member_room w0 i ok.blocks (sym (contains-members_of w0 i) ∙ e)
+  pub member_below : (i : ℕ) → set.contains (members_of w0) i ≡ true → i < INDEX_LIMIT
+  member_below i e =
+      elim (cases_lt i (64 * length w0)) [
+        | inl lt ↦
+            let a = ok.size0 in
+            let b = ok.size1 in
+            let c = ok.size2 in
+            let d = ok.size3 in
+            let f = ok.size4 in
+            omega arith
+        | inr ge ↦ absurd (true≢false (sym e ∙ contains-members_of w0 i ∙ past_row w0 i ge))
+      ]
 
 -- ---- the empty set
 -- a row whose words are all 0
@@ -343,17 +285,13 @@ zero_words : (ws : List ℕ) → ((k : ℕ) → get_or ws k 0 ≡ 0) → AreWord
 zero_words ws zeros = record { fits = λ k. let z = zeros k in omega arith }
 
 -- all words 0
-pub sound_zeros : (w0 w1 w2 : List ℕ) → length w0 % 64 ≡ 0 → length w0 ≤ 64 * length w1 → length w1 ≤ 64 * length w2 → length w2 ≤ 64 → ((k : ℕ) → get_or w0 k 0 ≡ 0) → ((k : ℕ) → get_or w1 k 0 ≡ 0) → ((k : ℕ) → get_or w2 k 0 ≡ 0) → IsSound w0 w1 w2 (0 ∷ [])
-sound_zeros w0 w1 w2 a b c d z0 z1 z2 =
+pub sound_zeros : (w0 w1 w2 w3 : List ℕ) → length w0 ≤ 64 * length w1 → length w1 ≤ 64 * length w2 → length w2 ≤ 64 * length w3 → length w3 ≤ 64 → ((k : ℕ) → get_or w0 k 0 ≡ 0) → ((k : ℕ) → get_or w1 k 0 ≡ 0) → ((k : ℕ) → get_or w2 k 0 ≡ 0) → ((k : ℕ) → get_or w3 k 0 ≡ 0) → IsSound w0 w1 w2 w3 (0 ∷ [])
+sound_zeros w0 w1 w2 w3 b c d e z0 z1 z2 z3 =
     let none = zero_members w0 z0 in
-    record { blocks = a; size0 = b; size1 = c; size2 = d; size3 = omega arith; tied1 = zero_tied _ none 1 w1 z1; tied2 = zero_tied _ none 2 w2 z2; words0 = zero_words w0 z0; words1 = zero_words w1 z1; words2 = zero_words w2 z2; words3 = zero_words (0 ∷ []) top_zero; tied3 = zero_tied _ none 3 (0 ∷ []) top_zero }
+    record { size0 = b; size1 = c; size2 = d; size3 = e; size4 = omega arith; tied1 = zero_tied _ none 1 w1 z1; tied2 = zero_tied _ none 2 w2 z2; tied3 = zero_tied _ none 3 w3 z3; words0 = zero_words w0 z0; words1 = zero_words w1 z1; words2 = zero_words w2 z2; words3 = zero_words w3 z3; words4 = zero_words (0 ∷ []) top_zero; tied4 = zero_tied _ none 4 (0 ∷ []) top_zero }
 
-pub sound_empty : IsSound [] [] [] (0 ∷ [])
-sound_empty = sound_zeros [] [] [] refl (omega arith) (omega arith) (omega arith) (λ k. refl) (λ k. refl) (λ k. refl)
-
-pub empty_rooms : rooms_of [] ≡ set.empty
-unfolding rooms_of
-empty_rooms = refl
+pub sound_empty : IsSound [] [] [] [] (0 ∷ [])
+sound_empty = sound_zeros [] [] [] [] (omega arith) (omega arith) (omega arith) (omega arith) (λ k. refl) (λ k. refl) (λ k. refl) (λ k. refl)
 
 -- words of a row, as its type has them
 pub are_words : (ws : List ℕ) → ((i d : ℕ) → i < length ws → get_or ws i d < 2 ^ 64) → AreWords ws

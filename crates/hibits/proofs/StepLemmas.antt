@@ -46,6 +46,9 @@ module _ (has : ℕ → ℕ → Bool) (cost : ℕ) (covers : (l i : ℕ) → has
   pub end2_fits : a.end2 ≤ 64 ^ (LAYERS - 2)
   end2_fits = let f = fits_at 3 (omega arith) in let e = ok.end2 in omega arith
 
+  pub end3_fits : a.end3 ≤ 64 ^ (LAYERS - 3)
+  end3_fits = let f = fits_at 4 (omega arith) in let e = ok.end3 in omega arith
+
   pub end0_from : 0 < a.word0 → 64 ≤ a.end0
   end0_from some = end_from (has 0) a.word0 a.from (a.end0 / 64) a.end0 (ok.walk.level 0 (omega arith)) some ok.end0
 
@@ -54,6 +57,9 @@ module _ (has : ℕ → ℕ → Bool) (cost : ℕ) (covers : (l i : ℕ) → has
 
   pub end2_from : 0 < a.word2 → 64 ≤ a.end2
   end2_from some = end_from (has 2) a.word2 (a.end1 / 64) (a.end2 / 64) a.end2 (ok.walk.level 2 (omega arith)) some ok.end2
+
+  pub end3_from : 0 < a.word3 → 64 ≤ a.end3
+  end3_from some = end_from (has 3) a.word3 (a.end2 / 64) (a.end3 / 64) a.end3 (ok.walk.level 3 (omega arith)) some ok.end3
 
   pub place0 : 0 < a.word0 → (a.from ≤ a.end0 - 64 + trailing_zeros w64 a.word0) × (a.end0 - 64 + trailing_zeros w64 a.word0 < a.end0)
   place0 some = place_in (has 0) a.word0 a.from (a.end0 / 64) a.end0 (ok.walk.level 0 (omega arith)) some ok.end0
@@ -64,8 +70,11 @@ module _ (has : ℕ → ℕ → Bool) (cost : ℕ) (covers : (l i : ℕ) → has
   pub place2 : 0 < a.word2 → (a.end1 / 64 ≤ a.end2 - 64 + trailing_zeros w64 a.word2) × (a.end2 - 64 + trailing_zeros w64 a.word2 < a.end2)
   place2 some = place_in (has 2) a.word2 (a.end1 / 64) (a.end2 / 64) a.end2 (ok.walk.level 2 (omega arith)) some ok.end2
 
-  pub place3 : 0 < a.word3 → (a.end2 / 64 ≤ 64 - 64 + trailing_zeros w64 a.word3) × (64 - 64 + trailing_zeros w64 a.word3 < 64)
-  place3 some = place_in (has 3) a.word3 (a.end2 / 64) 1 64 (ok.walk.level 3 (omega arith)) some refl
+  pub place3 : 0 < a.word3 → (a.end2 / 64 ≤ a.end3 - 64 + trailing_zeros w64 a.word3) × (a.end3 - 64 + trailing_zeros w64 a.word3 < a.end3)
+  place3 some = place_in (has 3) a.word3 (a.end2 / 64) (a.end3 / 64) a.end3 (ok.walk.level 3 (omega arith)) some ok.end3
+
+  pub place4 : 0 < a.word4 → (a.end3 / 64 ≤ 64 - 64 + trailing_zeros w64 a.word4) × (64 - 64 + trailing_zeros w64 a.word4 < 64)
+  place4 some = place_in (has 4) a.word4 (a.end3 / 64) 1 64 (ok.walk.level 4 (omega arith)) some refl
 
   module _ (w u e r : ℕ) (fits : w < 2 ^ 64) (counts : r ≡ min (a.reads + cost) (2 ^ 64 - 1)) where
     pub step0 : a.word0 ≡ 0 → 0 < a.word1 → u ≡ rest_of a.word1 → e ≡ 64 * (a.end1 - 64 + trailing_zeros w64 a.word1 + 1) → ((j : ℕ) → j < 64 → bit_at w j ≡ cond (has 0 (64 * (a.end1 - 64 + trailing_zeros w64 a.word1) + j)) 1 0) → IsWalkOf has cost (record a { word0 = w; word1 = u; end0 = e; reads = r })
@@ -78,6 +87,7 @@ module _ (has : ℕ → ℕ → Bool) (cost : ℕ) (covers : (l i : ℕ) → has
           end0 = omega (arith, end);
           end1 = ok.end1;
           end2 = ok.end2;
+          end3 = ok.end3;
         }
 
     pub step1 : a.word1 ≡ 0 → 0 < a.word2 → u ≡ rest_of a.word2 → e ≡ 64 * (a.end2 - 64 + trailing_zeros w64 a.word2 + 1) → ((j : ℕ) → j < 64 → bit_at w j ≡ cond (has 1 (64 * (a.end2 - 64 + trailing_zeros w64 a.word2) + j)) 1 0) → IsWalkOf has cost (record a { word1 = w; word2 = u; end1 = e; reads = r })
@@ -90,22 +100,37 @@ module _ (has : ℕ → ℕ → Bool) (cost : ℕ) (covers : (l i : ℕ) → has
           end0 = ok.end0;
           end1 = omega (arith, end);
           end2 = ok.end2;
+          end3 = ok.end3;
         }
 
-    pub step2 : a.word2 ≡ 0 → 0 < a.word3 → u ≡ rest_of a.word3 → e ≡ 64 * (64 - 64 + trailing_zeros w64 a.word3 + 1) → ((j : ℕ) → j < 64 → bit_at w j ≡ cond (has 2 (64 * (64 - 64 + trailing_zeros w64 a.word3) + j)) 1 0) → IsWalkOf has cost (record a { word2 = w; word3 = u; end2 = e; reads = r })
+    pub step2 : a.word2 ≡ 0 → 0 < a.word3 → u ≡ rest_of a.word3 → e ≡ 64 * (a.end3 - 64 + trailing_zeros w64 a.word3 + 1) → ((j : ℕ) → j < 64 → bit_at w j ≡ cond (has 2 (64 * (a.end3 - 64 + trailing_zeros w64 a.word3) + j)) 1 0) → IsWalkOf has cost (record a { word2 = w; word3 = u; end2 = e; reads = r })
     step2 empty some rest end bits =
-        let p : 64 * (1 - 1) + trailing_zeros w64 a.word3 ≡ 64 - 64 + trailing_zeros w64 a.word3 = place_is (has 3) a.word3 (a.end2 / 64) 1 64 (ok.walk.level 3 (omega arith)) some refl in
-        let q : e / 64 ≡ 64 * (1 - 1) + trailing_zeros w64 a.word3 + 1 = omega (arith, end, p) in
-        let b : (j : ℕ) → j < 64 → bit_at w j ≡ cond (has 2 (64 * (64 * (1 - 1) + trailing_zeros w64 a.word3) + j)) 1 0 = λ j lt. rw p (bits j lt) in
+        let p : 64 * (a.end3 / 64 - 1) + trailing_zeros w64 a.word3 ≡ a.end3 - 64 + trailing_zeros w64 a.word3 = place_is (has 3) a.word3 (a.end2 / 64) (a.end3 / 64) a.end3 (ok.walk.level 3 (omega arith)) some ok.end3 in
+        let q : e / 64 ≡ 64 * (a.end3 / 64 - 1) + trailing_zeros w64 a.word3 + 1 = omega (arith, end, p) in
+        let b : (j : ℕ) → j < 64 → bit_at w j ≡ cond (has 2 (64 * (64 * (a.end3 / 64 - 1) + trailing_zeros w64 a.word3) + j)) 1 0 = λ j lt. rw p (bits j lt) in
         record {
           walk = rw (rest, q) (descend has cost (words_of a) (from_of a) a.reads ok.walk 2 (omega arith) some empty covers w r fits b counts);
           end0 = ok.end0;
           end1 = ok.end1;
           end2 = omega (arith, end);
+          end3 = ok.end3;
+        }
+
+    pub step3 : a.word3 ≡ 0 → 0 < a.word4 → u ≡ rest_of a.word4 → e ≡ 64 * (64 - 64 + trailing_zeros w64 a.word4 + 1) → ((j : ℕ) → j < 64 → bit_at w j ≡ cond (has 3 (64 * (64 - 64 + trailing_zeros w64 a.word4) + j)) 1 0) → IsWalkOf has cost (record a { word3 = w; word4 = u; end3 = e; reads = r })
+    step3 empty some rest end bits =
+        let p : 64 * (1 - 1) + trailing_zeros w64 a.word4 ≡ 64 - 64 + trailing_zeros w64 a.word4 = place_is (has 4) a.word4 (a.end3 / 64) 1 64 (ok.walk.level 4 (omega arith)) some refl in
+        let q : e / 64 ≡ 64 * (1 - 1) + trailing_zeros w64 a.word4 + 1 = omega (arith, end, p) in
+        let b : (j : ℕ) → j < 64 → bit_at w j ≡ cond (has 3 (64 * (64 * (1 - 1) + trailing_zeros w64 a.word4) + j)) 1 0 = λ j lt. rw p (bits j lt) in
+        record {
+          walk = rw (rest, q) (descend has cost (words_of a) (from_of a) a.reads ok.walk 3 (omega arith) some empty covers w r fits b counts);
+          end0 = ok.end0;
+          end1 = ok.end1;
+          end2 = ok.end2;
+          end3 = omega (arith, end);
         }
 
   -- where nothing is left of any word
-  pub ended : (a.word0 ≡ 0) × (a.word1 ≡ 0) × (a.word2 ≡ 0) × (a.word3 ≡ 0) → (i : ℕ) → a.from ≤ i → i < INDEX_LIMIT → has 0 i ≡ true → ⊥
+  pub ended : (a.word0 ≡ 0) × (a.word1 ≡ 0) × (a.word2 ≡ 0) × (a.word3 ≡ 0) × (a.word4 ≡ 0) → (i : ℕ) → a.from ≤ i → i < INDEX_LIMIT → has 0 i ≡ true → ⊥
   ended none i ge lt is = none_left has cost (words_of a) (from_of a) a.reads ok.walk empty covers LAYERS 0 (omega arith) i ge lt is
     where
       empty : (l : ℕ) → l < LAYERS → get_or (words_of a) l 0 ≡ 0
@@ -113,7 +138,8 @@ module _ (has : ℕ → ℕ → Bool) (cost : ℕ) (covers : (l i : ℕ) → has
       empty (suc zero) h = none.1
       empty (suc (suc zero)) h = none.2
       empty (suc (suc (suc zero))) h = none.3
-      empty (suc (suc (suc (suc l)))) h = absurd (omega arith)
+      empty (suc (suc (suc (suc zero)))) h = none.4
+      empty (suc (suc (suc (suc (suc l))))) h = absurd (omega arith)
 
   -- where an index is left of the word of layer 0
   module _ (i : ℕ) (some : 0 < a.word0) (is : i ≡ a.end0 - 64 + trailing_zeros w64 a.word0) where
@@ -135,6 +161,7 @@ module _ (has : ℕ → ℕ → Bool) (cost : ℕ) (covers : (l i : ℕ) → has
       end0 = ok.end0;
       end1 = ok.end1;
       end2 = ok.end2;
+      end3 = ok.end3;
     }
 
   -- where something is left of the word of layer 0, and the walk was between two words before it
@@ -182,6 +209,7 @@ module _ (has : ℕ → ℕ → Bool) (cost : ℕ) (covers : (l i : ℕ) → has
         end0 = ok.end0;
         end1 = ok.end1;
         end2 = ok.end2;
+        end3 = ok.end3;
       };
       none = refl;
       whole = ok.end0;
@@ -197,4 +225,5 @@ module _ (has : ℕ → ℕ → Bool) (cost : ℕ) (covers : (l i : ℕ) → has
         level (suc zero) h = ok.walk.level 1 h
         level (suc (suc zero)) h = ok.walk.level 2 h
         level (suc (suc (suc zero))) h = ok.walk.level 3 h
-        level (suc (suc (suc (suc l)))) h = absurd (omega arith)
+        level (suc (suc (suc (suc zero)))) h = ok.walk.level 4 h
+        level (suc (suc (suc (suc (suc l))))) h = absurd (omega arith)

@@ -28,4 +28,5 @@ module _ (p p' : ℕ → ℕ → Bool) (w : Walk) (fewer : (l i : ℕ) → p' l 
     end0 = h.end0;
     end1 = h.end1;
     end2 = h.end2;
+    end3 = h.end3;
   }

@@ -63,7 +63,7 @@ all_covers l i h =
           lt-ltb (i / 64) (64 ^ (LAYERS - (l + 1))) (omega arith)
       | inr past ↦
           let e : LAYERS - l ≡ 0 = omega arith in
-          let d : 4 - (l + 1) ≡ 0 = omega arith in
+          let d : LAYERS - (l + 1) ≡ 0 = omega arith in
           let one : i < 1 = rw e at lt in
           rw d (lt-ltb (i / 64) 1 (omega arith))
     ]

@@ -6,11 +6,11 @@ use Rattle.hibits.specs.Walks.{IsWalk, left_in}
 
 -- what is left of the current word of each layer
 abbrev pub words_of : Walk → List ℕ
-words_of w = w.word0 ∷ w.word1 ∷ w.word2 ∷ w.word3 ∷ []
+words_of w = w.word0 ∷ w.word1 ∷ w.word2 ∷ w.word3 ∷ w.word4 ∷ []
 
 -- the first index of each layer that isn't walked; above the top layer stands its one word
 abbrev pub from_of : Walk → List ℕ
-from_of w = w.from ∷ w.end0 / 64 ∷ w.end1 / 64 ∷ w.end2 / 64 ∷ 1 ∷ []
+from_of w = w.from ∷ w.end0 / 64 ∷ w.end1 / 64 ∷ w.end2 / 64 ∷ w.end3 / 64 ∷ 1 ∷ []
 
 -- w is a walk over these layers, each word of which takes so many plain words
 pub record IsWalkOf (has : ℕ → ℕ → Bool) (cost : ℕ) (w : Walk) : Type 0 where
@@ -18,6 +18,7 @@ pub record IsWalkOf (has : ℕ → ℕ → Bool) (cost : ℕ) (w : Walk) : Type 
   pub end0 : w.end0 ≡ 64 * (w.end0 / 64)
   pub end1 : w.end1 ≡ 64 * (w.end1 / 64)
   pub end2 : w.end2 ≡ 64 * (w.end2 / 64)
+  pub end3 : w.end3 ≡ 64 * (w.end3 / 64)
 
 -- the first index that isn't walked
 abbrev pub position : Walk → ℕ

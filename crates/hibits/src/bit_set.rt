@@ -12,21 +12,24 @@ use crate::bit_iter::BitIter;
 use crate::error::SetError;
 use crate::layers::{BitSetLike, Layers};
 use crate::limits::{INDEX_LIMIT, Index, LAYERS};
-use crate::reads::Reads;
-use crate::rows::{
-    bit_of_row, covers_row, grow, ones_of, put_bit, row_len, update_above, wipe, word_at,
-    word_within,
+use crate::lowest::{
+    Lowest, bit_of_lowest, covers_lowest, make_page, ones_of_lowest, pages_of_lowest, put_lowest,
 };
+use crate::reads::Reads;
+use crate::rows::{grow, update_above, wipe, word_at};
+use pages::PagedRow;
 use std::alloc::Global;
 use std::marker::Model;
 
-/// A set of indices below `INDEX_LIMIT`, in four layers of words. Ports `hibitset::BitSet`.
+/// A set of indices below `INDEX_LIMIT`, in five layers of words. Ports `hibitset::BitSet`.
 ///
-/// Room comes in blocks of 4096 indices. An index with room is added without memory, and room stays.
+/// Room comes in blocks of 4096 indices, and memory for the words of a block is taken with its room. An index with room is added without memory,
+/// and room stays.
 pub struct BitSet {
-    layer0: Vec<u64>,
+    layer0: Lowest,
     layer1: Vec<u64>,
     layer2: Vec<u64>,
+    layer3: Vec<u64>,
     top: u64,
 }
 
@@ -36,6 +39,7 @@ impl Drop for BitSet {
             layer0: _layer0,
             layer1: _layer1,
             layer2: _layer2,
+            layer3: _layer3,
             top: _top,
         } = self;
     }
@@ -49,11 +53,11 @@ impl Model for BitSet {
 
     ghost coded = { layered_code };
 
-    ghost use Rattle.hibits.specs.Rows.{members_of, rooms_of, IsSound};
+    ghost use Rattle.hibits.specs.Rows.{members_of, IsKept};
 
-    ghost view = { λ a. record { members = members_of a.layer0.items; room = rooms_of a.layer0.items } };
+    ghost view = { λ a. record { members = members_of a.layer0.items; room = a.layer0.pages } };
 
-    ghost invariant = { λ a. IsSound a.layer0.items a.layer1.items a.layer2.items (a.top ∷ []) };
+    ghost invariant = { λ a. IsKept a.layer0.items a.layer0.pages a.layer1.items a.layer2.items a.layer3.items (a.top ∷ []) };
 }
 
 impl BitSet {
@@ -64,9 +68,10 @@ impl BitSet {
         ensures room { result.room ≡ set.empty }
     {
         BitSet {
-            layer0: Vec::new(alloc),
+            layer0: PagedRow::new(alloc),
             layer1: Vec::new(alloc),
             layer2: Vec::new(alloc),
+            layer3: Vec::new(alloc),
             top: 0,
         }
     }
@@ -84,13 +89,10 @@ impl BitSet {
             return Err(SetError::IndexLimit);
         }
         let mut empty = BitSet::new(alloc);
-        if max == 0 {
-            return Ok(empty);
+        for block in 0..(max + 4095) / 4096 {
+            empty.make_room(4096 * block)?;
         }
-        match empty.make_room(max - 1) {
-            Ok(()) => Ok(empty),
-            Err(e) => Err(e),
-        }
+        Ok(empty)
     }
 
     /// Gets room for an index, and for no block after its own: after it is Ok, each later `add` of this index is Ok.
@@ -119,23 +121,23 @@ impl BitSet {
         ensures value { result ≡ set.contains self.now.room (id / 4096) }
         ensures limit { result ≡ true → id < INDEX_LIMIT }
     {
-        ((id / 64) as usize) < row_len(&self.layer0)
+        self.layer0.has_page(id / 64)
     }
 
     #[inline(never)]
     fn make_room(&mut self, id: Index) -> Result<(), SetError>
         requires { id < INDEX_LIMIT }
         ensures members { self.new.members ≡ self.old.members }
-        ensures ok { OnOk result ((i : ℕ) → i ≤ id → HasRoom self.new i) }
+        ensures ok { OnOk result (HasRoom self.new id) }
         ensures err { OnErr result (self.new ≡ self.old) }
         ensures error { IfErr result (λ e. e ≡ SetError.OutOfMemory) }
         ensures room { (i : ℕ) → HasRoom self.old i → HasRoom self.new i }
         ensures no_further { (i : ℕ) → id / 4096 < i / 4096 → HasRoom self.new i → HasRoom self.old i }
     {
-        let blocks = (id / 4096) as usize + 1;
+        grow(&mut self.layer3, (id / 16_777_216) as usize + 1)?;
         grow(&mut self.layer2, (id / 262144) as usize + 1)?;
-        grow(&mut self.layer1, blocks)?;
-        grow(&mut self.layer0, 64 * blocks)?;
+        grow(&mut self.layer1, (id / 4096) as usize + 1)?;
+        make_page(&mut self.layer0, id)?;
         Ok(())
     }
 
@@ -182,11 +184,18 @@ impl BitSet {
         ensures members { self.new.members ≡ cond value (set.insert self.old.members id) (set.remove self.old.members id) }
         ensures room { self.new.room ≡ self.old.room }
     {
-        let word = word_within(&self.layer0, id / 64);
+        let word = self.layer0.get_present(id / 64);
         let was = (word >> (id % 64)) & 1 == 1;
-        let some = put_bit(&mut self.layer0, id, value);
+        let some = put_lowest(&mut self.layer0, id, value);
         if some != (word != 0) {
-            update_above(&mut self.layer1, &mut self.layer2, &mut self.top, id, some);
+            update_above(
+                &mut self.layer1,
+                &mut self.layer2,
+                &mut self.layer3,
+                &mut self.top,
+                id,
+                some,
+            );
         }
         was
     }
@@ -198,14 +207,14 @@ impl BitSet {
         ensures members_have_room { (i : ℕ) → set.contains self.now.members i ≡ true → HasRoom self.now i }
         ensures room_is_limited { (i : ℕ) → HasRoom self.now i → i < INDEX_LIMIT }
     {
-        bit_of_row(&self.layer0, id)
+        bit_of_lowest(&self.layer0, id)
     }
 
-    /// Whether every member of `other` is a member. It compares words. Ports `hibitset::BitSet::contains_set`.
+    /// Whether every member of `other` is a member. It compares words, block by block. Ports `hibitset::BitSet::contains_set`.
     pub fn contains_set(&self, other: &BitSet) -> bool
         ensures { IsTrue result ↔ ((i : ℕ) → set.contains other.now.members i ≡ true → set.contains self.now.members i ≡ true) }
     {
-        covers_row(&self.layer0, &other.layer0)
+        covers_lowest(&self.layer0, &other.layer0)
     }
 
     /// Takes every member out. The room stays, and the words of all room are written. Ports `hibitset::BitSet::clear`.
@@ -214,9 +223,10 @@ impl BitSet {
         ensures none { HasNone self.new.members }
         ensures room { self.new.room ≡ self.old.room }
     {
-        wipe(&mut self.layer0);
+        self.layer0.fill();
         wipe(&mut self.layer1);
         wipe(&mut self.layer2);
+        wipe(&mut self.layer3);
         self.top = 0;
     }
 
@@ -228,12 +238,20 @@ impl BitSet {
         self.top == 0
     }
 
-    /// How many members there are. It reads the words of the lowest layer.
+    /// How many members there are. It reads the words of the blocks that have room.
     pub fn count(&self) -> usize
         ensures members { result ≡ set.len self.now.members }
         ensures walk { result ≡ length (left (λ i. set.contains self.now.members i) 0) }
     {
-        ones_of(&self.layer0)
+        ones_of_lowest(&self.layer0)
+    }
+
+    /// How many blocks of 4096 indices have room, each of which is one page of 64 words. Removing takes none away.
+    #[inline(always)]
+    pub fn page_count(&self) -> usize
+        ensures { result ≡ set.len self.now.room }
+    {
+        pages_of_lowest(&self.layer0)
     }
 
     /// As many indices are walked as the set has members. It runs nothing.
@@ -280,9 +298,24 @@ impl BitSet {
         ensures within { (i : ℕ) → has_part self.now.members level i ≡ true → i < 64 ^ (LAYERS - level) }
     {
         match level {
-            0 => word_at(&self.layer0, place),
+            0 => self.layer0.get(place),
             1 => word_at(&self.layer1, place),
+            _ => self.upper_word(level, place),
+        }
+    }
+
+    // A word of a layer above the two lowest. A walk asks for few of them, which the compiler is told so.
+    #[cold]
+    #[inline(never)]
+    fn upper_word(&self, level: usize, place: u32) -> u64
+        requires level { level < LAYERS }
+        requires upper { 1 < level }
+        ensures bits { (j : ℕ) → j < 64 → bit_at result j ≡ cond (has_part self.now.members level (64 * place + j)) 1 0 }
+        ensures within { (i : ℕ) → has_part self.now.members level i ≡ true → i < 64 ^ (LAYERS - level) }
+    {
+        match level {
             2 => word_at(&self.layer2, place),
+            3 => word_at(&self.layer3, place),
             _ => if place == 0 { self.top } else { 0 },
         }
     }

@@ -6,6 +6,7 @@ mod bit_set;
 mod error;
 mod layers;
 mod limits;
+mod lowest;
 mod mask_expr;
 mod operators;
 mod reads;

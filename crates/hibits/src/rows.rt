@@ -30,34 +30,9 @@ fn word_of(words: &[u64], place: usize) -> u64
     }
 }
 
-/// A word of a row that has it.
-#[inline(always)]
-pub(crate) fn word_within(words: &Vec<u64>, place: u32) -> u64
-    requires { place < length words.now.items }
-    ensures { result ≡ slice_index words.now.items place }
-{
-    words[place as usize]
-}
-
-/// How many words a row has.
-#[inline(always)]
-pub(crate) fn row_len(words: &Vec<u64>) -> usize
-    ensures { result ≡ length words.now.items }
-{
-    words.len()
-}
-
-/// Whether a bit of a row is set.
-#[inline(always)]
-pub(crate) fn bit_of_row(words: &Vec<u64>, i: u32) -> bool
-    ensures { result ≡ row_bit words.now.items i }
-{
-    (word_at(words, i / 64) >> (i % 64)) & 1 == 1
-}
-
 /// Puts a bit of a word.
 #[inline(always)]
-fn with_bit(word: u64, i: u32, value: bool) -> u64
+pub(crate) fn with_bit(word: u64, i: u32, value: bool) -> u64
     requires { i < 64 }
     ensures { result ≡ (if value then bit_or word (1 * 2 ^ i % 2 ^ 64) else bit_and word (bit_not w64 (1 * 2 ^ i % 2 ^ 64))) }
 {
@@ -70,7 +45,7 @@ fn with_bit(word: u64, i: u32, value: bool) -> u64
 
 /// Puts a bit of a row, and says whether its word is not 0 then.
 #[inline(always)]
-pub(crate) fn put_bit(words: &mut Vec<u64>, i: u32, value: bool) -> bool
+fn put_bit(words: &mut Vec<u64>, i: u32, value: bool) -> bool
     requires { i / 64 < length words.old.items }
     ensures put { IsPut words.old.items words.new.items i value }
     ensures some { result ≡ not (slice_index words.new.items (i / 64) == 0) }
@@ -87,23 +62,28 @@ pub(crate) fn put_bit(words: &mut Vec<u64>, i: u32, value: bool) -> bool
 pub(crate) fn update_above(
     layer1: &mut Vec<u64>,
     layer2: &mut Vec<u64>,
+    layer3: &mut Vec<u64>,
     top: &mut u64,
     id: Index,
     some: bool,
 )
     requires layer1 { id / 4096 < length layer1.old.items }
     requires layer2 { id / 262144 < length layer2.old.items }
-    requires top { id / 262144 < 64 }
+    requires layer3 { id / 64 ^ 4 < length layer3.old.items }
+    requires top { id / 64 ^ 4 < 64 }
     ensures layer1 { IsPut layer1.old.items layer1.new.items (id / 64) some }
     ensures layer2 { IsPut layer2.old.items layer2.new.items (id / 4096) (not (slice_index layer1.new.items (id / 4096) == 0)) }
+    ensures layer3 { IsPut layer3.old.items layer3.new.items (id / 262144) (not (slice_index layer2.new.items (id / 262144) == 0)) }
     ensures words1 { AreWords layer1.new.items }
     ensures words2 { AreWords layer2.new.items }
-    ensures words3 { AreWords (top.new ∷ []) }
-    ensures top { IsPut (top.old ∷ []) (top.new ∷ []) (id / 262144) (not (slice_index layer2.new.items (id / 262144) == 0)) }
+    ensures words3 { AreWords layer3.new.items }
+    ensures words4 { AreWords (top.new ∷ []) }
+    ensures top { IsPut (top.old ∷ []) (top.new ∷ []) (id / 64 ^ 4) (not (slice_index layer3.new.items (id / 64 ^ 4) == 0)) }
 {
     let some = put_bit(layer1, id / 64, some);
     let some = put_bit(layer2, id / 4096, some);
-    *top = with_bit(*top, id / 262144, some);
+    let some = put_bit(layer3, id / 262144, some);
+    *top = with_bit(*top, id / 16_777_216, some);
 }
 
 /// Makes a row longer by words that are 0. A row that is long enough stays.

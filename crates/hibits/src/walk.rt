@@ -19,6 +19,7 @@ pub struct Walk {
     word1: u64,
     word2: u64,
     word3: u64,
+    word4: u64,
     reads: Reads,
     // The first index that isn't walked.
     from: Index,
@@ -26,6 +27,7 @@ pub struct Walk {
     end0: u32,
     end1: u32,
     end2: u32,
+    end3: u32,
 }
 
 /// The least index that is left of a word of a layer.
@@ -85,12 +87,14 @@ impl Walk {
             word0: 0,
             word1: 0,
             word2: 0,
-            word3: top,
+            word3: 0,
+            word4: top,
             reads,
             from: 0,
             end0: 0,
             end1: 0,
             end2: 0,
+            end3: 0,
         }
     }
 
@@ -147,7 +151,7 @@ impl Walk {
         ensures position { position self.new ≡ position self.old }
         ensures reads { words_read self.old ≤ words_read self.new }
         ensures some { result ≡ true → 0 < self.new.word0 }
-        ensures none { result ≡ false → (self.new.word0 ≡ 0) × (self.new.word1 ≡ 0) × (self.new.word2 ≡ 0) × (self.new.word3 ≡ 0) }
+        ensures none { result ≡ false → (self.new.word0 ≡ 0) × (self.new.word1 ≡ 0) × (self.new.word2 ≡ 0) × (self.new.word3 ≡ 0) × (self.new.word4 ≡ 0) }
     {
         while self.word0 == 0 {
             if !self.fill1(mask) {
@@ -175,7 +179,7 @@ impl Walk {
         ensures word0 { self.new.word0 ≡ self.old.word0 }
         ensures end0 { self.new.end0 ≡ self.old.end0 }
         ensures some { result ≡ true → 0 < self.new.word1 }
-        ensures none { result ≡ false → (self.new.word1 ≡ 0) × (self.new.word2 ≡ 0) × (self.new.word3 ≡ 0) }
+        ensures none { result ≡ false → (self.new.word1 ≡ 0) × (self.new.word2 ≡ 0) × (self.new.word3 ≡ 0) × (self.new.word4 ≡ 0) }
         ensures nearer { steps_left self.new ≤ steps_left self.old }
     {
         while self.word1 == 0 {
@@ -206,19 +210,52 @@ impl Walk {
         ensures word1 { self.new.word1 ≡ self.old.word1 }
         ensures end1 { self.new.end1 ≡ self.old.end1 }
         ensures some { result ≡ true → 0 < self.new.word2 }
-        ensures none { result ≡ false → (self.new.word2 ≡ 0) × (self.new.word3 ≡ 0) }
+        ensures none { result ≡ false → (self.new.word2 ≡ 0) × (self.new.word3 ≡ 0) × (self.new.word4 ≡ 0) }
         ensures nearer { steps_left self.new ≤ steps_left self.old }
     {
         while self.word2 == 0 {
-            if self.word3 == 0 {
+            if !self.fill3(mask) {
                 return false;
             }
             self.word2 = descend(
                 mask,
                 2,
                 &mut self.word3,
-                64,
+                self.end3,
                 &mut self.end2,
+                &mut self.reads,
+            );
+        }
+        true
+    }
+
+    /// The same for layer 3. The layers below stay.
+    #[inline(always)]
+    fn fill3<M: Layers>(&mut self, mask: &M) -> bool
+        requires { IsWalkOf (M.has mask.now) (M.cost mask.now) self.old }
+        ensures walk { IsWalkOf (M.has mask.now) (M.cost mask.now) self.new }
+        ensures position { position self.new ≡ position self.old }
+        ensures reads { words_read self.old ≤ words_read self.new }
+        ensures word0 { self.new.word0 ≡ self.old.word0 }
+        ensures end0 { self.new.end0 ≡ self.old.end0 }
+        ensures word1 { self.new.word1 ≡ self.old.word1 }
+        ensures end1 { self.new.end1 ≡ self.old.end1 }
+        ensures word2 { self.new.word2 ≡ self.old.word2 }
+        ensures end2 { self.new.end2 ≡ self.old.end2 }
+        ensures some { result ≡ true → 0 < self.new.word3 }
+        ensures none { result ≡ false → (self.new.word3 ≡ 0) × (self.new.word4 ≡ 0) }
+        ensures nearer { steps_left self.new ≤ steps_left self.old }
+    {
+        while self.word3 == 0 {
+            if self.word4 == 0 {
+                return false;
+            }
+            self.word3 = descend(
+                mask,
+                3,
+                &mut self.word4,
+                64,
+                &mut self.end3,
                 &mut self.reads,
             );
         }

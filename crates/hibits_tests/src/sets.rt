@@ -78,7 +78,7 @@ fn words_are_read<R: Abort, M: Layers + Drop>(rt: &R, view: M, members: &[Index]
 #[test]
 fn walks_count_words(rt: HostRuntime) -> Result<(), Fail> {
     let both: &[Index] = &[64, INDEX_LIMIT - 1];
-    let story = Story::WordsAreRead(both, 14);
+    let story = Story::WordsAreRead(both, 18);
     told(
         &rt,
         rt.alloc(),
@@ -86,7 +86,10 @@ fn walks_count_words(rt: HostRuntime) -> Result<(), Fail> {
         both,
         story,
     )?;
-    told(&rt, rt.alloc(), &[0], &[1], Story::WordsAreRead(&[], 8))?;
+    let both: &[Index] = &[64, 16_777_215];
+    let story = Story::WordsAreRead(both, 16);
+    told(&rt, rt.alloc(), &[1, 64, 4096, 16_777_215], both, story)?;
+    told(&rt, rt.alloc(), &[0], &[1], Story::WordsAreRead(&[], 10))?;
     told(&rt, rt.alloc(), &[], &[], Story::WordsAreRead(&[], 2))
 }
 
@@ -103,20 +106,20 @@ fn words_are_given<R: Abort, M: Layers + Drop>(rt: &R, view: M, words: &[(u32, u
 
 #[test]
 fn words_are_walked_with_their_places(rt: HostRuntime) -> Result<(), Fail> {
-    let ends: &[Index] = &[0, 63, 64, 4096, 16777215];
+    let ends: &[Index] = &[0, 63, 64, 4096, INDEX_LIMIT - 1];
     let words: &[(u32, u64)] = &[
         (0, 9223372036854775809),
         (1, 1),
         (64, 1),
-        (262143, 9223372036854775808),
+        (INDEX_LIMIT / 64 - 1, 9223372036854775808),
     ];
-    told(&rt, rt.alloc(), ends, ends, Story::Words(words, 20))?;
+    told(&rt, rt.alloc(), ends, ends, Story::Words(words, 24))?;
     told(
         &rt,
         rt.alloc(),
         &[0, 65],
         &[1, 65],
-        Story::Words(&[(1, 2)], 10),
+        Story::Words(&[(1, 2)], 12),
     )?;
     told(&rt, rt.alloc(), &[], &[], Story::Words(&[], 2))
 }
@@ -163,6 +166,8 @@ fn refused(alloc: Global, max: Index) -> Option<SetError> {
 }
 
 fn is_added_to<R: Abort>(rt: &R, set: &mut BitSet) {
+    equal!(rt; add(set, 16_777_216), Ok(false));
+    holds!(rt; remove(set, 16_777_216));
     equal!(rt; add(set, INDEX_LIMIT - 1), Ok(false));
     equal!(rt; add(set, INDEX_LIMIT - 1), Ok(true));
     equal!(rt; add(set, INDEX_LIMIT), Err(SetError::IndexLimit));
@@ -217,7 +222,7 @@ impl<'a> BitSetLike for Counting<'a> {
     }
 }
 
-/// Both sets are asked seven times for each.
+/// Both sets are asked nine times.
 fn calls_are_counted<R: Abort>(rt: &R, first: &BitSet, second: &BitSet) {
     let a = Counting {
         set: first,
@@ -227,9 +232,9 @@ fn calls_are_counted<R: Abort>(rt: &R, first: &BitSet, second: &BitSet) {
         set: second,
         calls: Cell::new(0),
     };
-    words_are_read(rt, BitSetAnd(&a, &b), &[64, INDEX_LIMIT - 1], 14);
-    equal!(rt; a.calls.get(), 7);
-    equal!(rt; b.calls.get(), 7);
+    words_are_read(rt, BitSetAnd(&a, &b), &[64, INDEX_LIMIT - 1], 18);
+    equal!(rt; a.calls.get(), 9);
+    equal!(rt; b.calls.get(), 9);
 }
 
 #[test]
@@ -286,4 +291,70 @@ fn is_tree<R: Abort>(rt: &R, alloc: Global, expr: &MaskExpr<&BitSet>) -> Result<
 #[test]
 fn trees(rt: HostRuntime) -> Result<(), Fail> {
     told(&rt, rt.alloc(), &[1, 2], &[2, 3], Story::Trees)
+}
+
+/// A set with each multiple of `step` below 64 to the power of 4.
+fn scattered(alloc: Global, step: usize) -> Result<BitSet, SetError> {
+    let mut set = BitSet::new(alloc);
+    for id in (0..INDEX_LIMIT / 64).step_by(step) {
+        set.add(id)?;
+    }
+    Ok(set)
+}
+
+fn remove(set: &mut BitSet, id: Index) -> bool {
+    set.remove(id)
+}
+
+/// The first index and the last take a page each, which are kept when they go.
+fn keeps_its_pages<R: Abort>(rt: &R, set: &mut BitSet) {
+    equal!(rt; set.page_count(), 2);
+    holds!(rt; remove(set, 0));
+    holds!(rt; remove(set, INDEX_LIMIT - 1));
+    equal!(rt; set.count(), 0);
+    equal!(rt; set.page_count(), 2);
+    equal!(rt; add(set, 4095), Ok(false));
+    equal!(rt; set.page_count(), 2);
+    equal!(rt; add(set, 4096), Ok(false));
+    equal!(rt; set.page_count(), 3);
+    set.clear();
+    equal!(rt; set.page_count(), 3);
+}
+
+#[test]
+fn pages_are_made_for_members_and_kept(rt: HostRuntime) -> Result<(), Fail> {
+    let mut set = set_of(rt.alloc(), &[0, INDEX_LIMIT - 1])?;
+    keeps_its_pages(&rt, &mut set);
+    Ok(())
+}
+
+/// What is told of a set by its members and its pages.
+fn has_members_and_pages<R: Abort>(rt: &R, set: &BitSet, members: usize, pages: usize) {
+    equal!(rt; set.count(), members);
+    equal!(rt; set.page_count(), pages);
+}
+
+#[test]
+fn scattered_members_take_a_page_each(rt: HostRuntime) -> Result<(), Fail> {
+    has_members_and_pages(&rt, &scattered(rt.alloc(), 16384)?, 1024, 1024);
+    has_members_and_pages(&rt, &scattered(rt.alloc(), 2048)?, 8192, 4096);
+    has_members_and_pages(&rt, &BitSet::with_capacity(rt.alloc(), 4097)?, 0, 2);
+    Ok(())
+}
+
+/// A set covers another where a block that it has not has no member there.
+fn covers<R: Abort>(rt: &R, small: &BitSet, large: &BitSet) {
+    holds!(rt; large.contains_set(small));
+    holds!(rt; !small.contains_set(large));
+    holds!(rt; !large.contains(8192));
+    equal!(rt; large.first_from(8192), Some(12288));
+}
+
+#[test]
+fn blocks_that_are_missing_have_no_member(rt: HostRuntime) -> Result<(), Fail> {
+    let small = set_of(rt.alloc(), &[12288])?;
+    let mut large = set_of(rt.alloc(), &[4096, 12288])?;
+    reserve_for(&mut large, 500000)?;
+    covers(&rt, &small, &large);
+    Ok(())
 }

@@ -42,7 +42,7 @@ impl<J: Join> JoinIter<J> {
     }
 
     /// How many words of plain sets were read so far. A join of k plain sets, of which the smallest has n members, reads at most
-    /// k(3n + 1).
+    /// k(4n + 1).
     #[inline(always)]
     pub fn reads(&self) -> u64
         ensures reads { result ≡ self.now.keys.reads }

@@ -40,8 +40,8 @@ enum Story {
 // Whether a story of two sets comes true.
 fn tell(alloc: Global, story: Story, a: &BitSet, b: &BitSet) -> Result<bool, Fail> {
     match story {
-        Story::FewWordsAreRead => is_shared(alloc, a, b, [64, INDEX_LIMIT - 1].as_slice(), 14),
-        Story::AreApart => is_shared(alloc, a, b, [].as_slice(), 8),
+        Story::FewWordsAreRead => is_shared(alloc, a, b, [64, INDEX_LIMIT - 1].as_slice(), 18),
+        Story::AreApart => is_shared(alloc, a, b, [].as_slice(), 10),
         Story::AreEmpty => is_shared(alloc, a, b, [].as_slice(), 2),
         Story::SixAreJoined => Ok(six(a, b) == 2 && are_combined(a, b)),
         Story::MayBeThere => Ok(beside(alloc, a, b)?.as_slice() == [0, 102, 4].as_slice()),

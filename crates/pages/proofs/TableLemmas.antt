@@ -1,6 +1,6 @@
 -- What the items and the set of pages become as the table and the items change.
-use Rattle.std.proofs.Common.{◌≡◌, ◌≢◌, ℕ, zero, suc, ◌+◌, ◌-◌, ◌*◌, ◌/◌, ◌%◌, ◌<◌, ◌≤◌, Bool, true, false, cond, not, max, ◌||◌, ◌==◌, List, [], ◌∷◌, ◌++◌, map, length, get_or, take, drop, replicate, set as list_set, length-set, get_or-set_same, get_or-set_other, refl, sym, ap, ◌∙◌, inl, inr, arith, eq-eqb}
-use Rattle.std.specs.List.{list_any, range_with_len}
+use Rattle.std.proofs.Common.{◌≡◌, ◌≢◌, ℕ, zero, suc, ◌+◌, ◌-◌, ◌*◌, ◌/◌, ◌%◌, ◌<◌, ◌≤◌, true, false, cond, not, max, ◌||◌, ◌==◌, List, [], ◌++◌, map, length, get_or, take, drop, replicate, set as list_set, length-set, get_or-set_same, get_or-set_other, refl, sym, ap, ◌∙◌, inl, inr, arith, eq-eqb}
+use Rattle.std.specs.List.{range_with_len}
 use Rattle.std.specs.Ordering.{nat_cmp}
 use Rattle.std.specs.Cmp.{nat_cmp_total, unsigned_tied}
 use Rattle.std.specs.FinSet as set
@@ -10,36 +10,11 @@ use Rattle.std.proofs.lemmas.Bool.Decides.{eqb_tells}
 use Rattle.std.proofs.lemmas.List.{get_or_past, get_or_append_left, get_or-append_right, get_or-replicate, length-append, length-replicate, ext_get_or, get_or-take, get_or-drop, get_or_read, take_all, length-take, length-drop}
 use Rattle.std.proofs.lemmas.List.FromFn.{length-map-range_with_len, get_or-map-range_with_len}
 use Rattle.std.proofs.lemmas.Nat.{div-mul-add, mod-mul-add, le-div, mod_below, div-add-mod'}
+use Rattle.pages.specs.Listed.{list_below, list_below-none, list_below-any}
 use Rattle.pages.specs.Paged.{Paged}
-use Rattle.pages.specs.Table.{item_in, item_at, flat, list_below, is_there, pages_of, IsSound, SameEntries}
+use Rattle.pages.specs.Table.{item_in, item_at, flat, is_there, pages_of, IsSound, SameEntries}
 
 -- ---- the pages that are there
-list_below-none : (p : ℕ → Bool) (q n : ℕ) → n ≤ q → list_any (λ y. y == q) (list_below p n) ≡ false
-list_below-none p q zero le = refl
-list_below-none p q (suc n) le =
-    let rest = list_below-none p q n (omega arith) in
-    elim (p n) as (λ b. list_any (λ y. y == q) (cond b (n ∷ list_below p n) (list_below p n)) ≡ false) [
-      | true ↦ ap (λ b. b || list_any (λ y. y == q) (list_below p n)) (ne_eqb n q (λ e. omega (arith, e))) ∙ rest
-      | false ↦ rest
-    ]
-
-list_below-any : (p : ℕ → Bool) (q n : ℕ) → q < n → list_any (λ y. y == q) (list_below p n) ≡ p q
-list_below-any p q zero lt = absurd (omega arith)
-list_below-any p q (suc n) lt =
-    elim (cases_eq n q) [
-      | inl same ↦
-          elim (p n) as (λ b. p n ≡ b → list_any (λ y. y == q) (cond b (n ∷ list_below p n) (list_below p n)) ≡ p q) [
-            | true ↦ λ e. ap (λ b. b || list_any (λ y. y == q) (list_below p n)) (eq-eqb n q same) ∙ sym (sym (ap p same) ∙ e)
-            | false ↦ λ e. list_below-none p q n (omega arith) ∙ sym (sym (ap p same) ∙ e)
-          ] refl
-      | inr other ↦
-          let rest = list_below-any p q n (omega (arith, other)) in
-          elim (p n) as (λ b. list_any (λ y. y == q) (cond b (n ∷ list_below p n) (list_below p n)) ≡ p q) [
-            | true ↦ ap (λ b. b || list_any (λ y. y == q) (list_below p n)) (ne_eqb n q other) ∙ rest
-            | false ↦ rest
-          ]
-    ]
-
 pub there_past : (table : List ℕ) (k : ℕ) → length table ≤ k → is_there table k ≡ false
 there_past table k le = ap (λ n. not (n == 0)) (get_or_past table k 0 le)
 
@@ -210,7 +185,7 @@ module _ {T : Type 0} (len : ℕ) (d : T) where
       flat_is len d sound.some table _ _ (length-set (flat len d table items) at x ∙ length-flat len d table items) (λ i. sym (item_set table items sound at x pos i))
 
   -- ---- every item becomes the filler
-  filled : (n i : ℕ) → get_or (replicate n d) i d ≡ d
+  pub filled : (n i : ℕ) → get_or (replicate n d) i d ≡ d
   filled n i =
       elim (cases_lt i n) [
         | inl lt ↦ get_or-replicate n i d d lt

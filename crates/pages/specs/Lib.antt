@@ -1,2 +1,4 @@
+pub mod Joined
+pub mod Listed
 pub mod Paged
 pub mod Table

@@ -1,9 +1,10 @@
 -- How a table keeps pages.
-use Rattle.std.specs.Prelude.{◌≡◌, ℕ, ◌+◌, ◌*◌, ◌/◌, ◌%◌, ◌<◌, ◌≤◌, Bool, not, cond, ◌==◌, List, [], ◌∷◌, map, length, slice_index, slice_index_or}
+use Rattle.std.specs.Prelude.{◌≡◌, ℕ, ◌+◌, ◌*◌, ◌/◌, ◌%◌, ◌<◌, ◌≤◌, Bool, not, ◌==◌, List, map, length, slice_index, slice_index_or}
 use Rattle.std.specs.List.{range_with_len}
 use Rattle.std.specs.Ordering.{nat_cmp}
 use Rattle.std.specs.FinSet as set
 use Rattle.std.proofs.Common.{zero, suc}
+use Rattle.pages.specs.Listed.{list_below}
 
 module _ {T : Type 0} where
   -- the item at place r of the page with an entry: the pages lie one after another, and entry 0 stands for none
@@ -18,11 +19,6 @@ module _ {T : Type 0} where
   -- the items of all places of the table
   unfoldable pub flat : ℕ → T → List ℕ → List T → List T
   flat len filler table items = map (item_at len filler table items) (range_with_len 0 (length table * len))
-
--- the numbers below n that pass p
-abbrev pub list_below : (ℕ → Bool) → ℕ → List ℕ
-list_below p zero = []
-list_below p (suc n) = cond (p n) (n ∷ list_below p n) (list_below p n)
 
 -- whether a page is there
 abbrev pub is_there : List ℕ → ℕ → Bool

@@ -3,7 +3,9 @@
 
 mod item;
 mod page_table;
+mod paged_row;
 mod table;
 
 pub use item::Item;
 pub use page_table::Pages;
+pub use paged_row::PagedRow;

@@ -188,7 +188,7 @@ impl<T: Item, const LEN: u32> Pages<T, LEN> {
 }
 
 // Makes every item the same.
-fn fill_with<T: Copy>(items: &mut [T], item: T)
+pub(crate) fn fill_with<T: Copy>(items: &mut [T], item: T)
     ensures { items.new ≡ replicate (length items.old) item }
 {
     for place in items {

@@ -93,14 +93,14 @@ fn are_written<R: Abort, T: Item + PartialEq + Debug + Drop, const LEN: u32>(
 }
 
 fn tell_of_places<R: Abort>(rt: &R, pages: &mut Pages<u32, 4096>) {
-    have_pages(rt, pages, &[0, 4095, 4096, 16777215], 3);
-    are_written(rt, pages, &[0, 4095, 4096, 16777215], 7);
+    have_pages(rt, pages, &[0, 4095, 4096, 16_777_215], 3);
+    are_written(rt, pages, &[0, 4095, 4096, 16_777_215], 7);
     clear(pages);
     equal!(rt; count(pages), 0);
     equal!(rt; reach(pages), 0);
-    read_as(rt, pages, &[0, 4095, 4096, 16777215], 0);
-    have_pages(rt, pages, &[16777215], 1);
-    read_as(rt, pages, &[16777215], 0);
+    read_as(rt, pages, &[0, 4095, 4096, 16_777_215], 0);
+    have_pages(rt, pages, &[16_777_215], 1);
+    read_as(rt, pages, &[16_777_215], 0);
 }
 
 #[test]

@@ -2,6 +2,7 @@
 //! their components' types.
 ghost use Rattle.std.specs.Prelude.{◌≡◌, refl};
 
+use hibits::INDEX_LIMIT;
 use joins::{Lookup, RepeatableJoin};
 use joins_parallel::ParJoin;
 use std::alloc::{Alloc, AllocError, Global};
@@ -200,7 +201,7 @@ where
     let mut storage = empty(alloc)?;
     for place in 0..count {
         let id = place.saturating_mul(step);
-        if id < 16_777_216 && storage.put(id, T::of(place)).is_err() {
+        if id < INDEX_LIMIT && storage.put(id, T::of(place)).is_err() {
             return Err(Fail::new("refused"));
         }
     }
@@ -215,7 +216,7 @@ where
     let mut storage = empty(alloc)?;
     let mut id: u32 = 0;
     for value in values {
-        if id < 16_777_216 && storage.put(id, T::new(*value)).is_err() {
+        if id < INDEX_LIMIT && storage.put(id, T::new(*value)).is_err() {
             return Err(Fail::new("refused"));
         }
         id = id.wrapping_add(1);

@@ -16,8 +16,8 @@ fn the_dead_and_the_never_born_reach_nothing(rt: HostRuntime) -> Result<(), Fail
         alive 0:-1 -> false
         living 0:-1 -> false
         insert pos 0:-1 1 -> error: Tried to insert component for entity entity Entity(0, Generation(-1)), but the generation is no longer valid; it should be Generation(-1)
-        entity 16777216 -> 16777216:1
-        alive 16777216:1 -> false
+        entity 1073741824 -> 1073741824:1
+        alive 1073741824:1 -> false
         mark 4294967295:1 -> error: Tried to delete entity Entity(4294967295, Generation(1)), but the generation is no longer valid; it should be Generation(1)
         ",
     )?;

@@ -2,7 +2,7 @@ use Rattle.std.proofs.Common.{◌≡◌, ◌+◌, ◌*◌, ◌/◌, ◌-◌, ref
 use Rattle.std.proofs.lemmas.Bool.{cases_lt}
 use Rattle.hibits.specs.declared.limits.TheConstants.{LAYERS}
 use Rattle.hibits.specs.Sets.{has_part}
-use Rattle.hibits.proofs.FirstLemmas.{in_word, not_in_word, lowest_in_word, none_above, below_place, word_some, layer_small}
+use Rattle.hibits.proofs.FirstLemmas.{in_word, not_in_word, lowest_in_word, none_above, below_place, word_some, layer_small, place_small}
 use Rattle.hibits.proofs.bit_set.BitSet.+first_at.Goals as goal
 
 pub returns-then-word-ne0-clause-first : goal.returns-then-word-ne0-clause-first
@@ -33,7 +33,7 @@ returns-then-level-eq-LAYERS-clause-first t c j ge e =
 
 pub overflow_mul-result : goal.overflow_mul-result
 overflow_mul-result t c =
-    let small = layer_small (c.args.level + 1) c.in-Some.place c.in-Some.ensures.below in
+    let small = place_small c.args.level c.in-Some.place c.in-Some.ensures.below in
     omega arith
 
 pub returns-in-Some-clause-first : goal.returns-in-Some-clause-first

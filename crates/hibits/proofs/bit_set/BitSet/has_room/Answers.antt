@@ -1,7 +1,10 @@
-use Rattle.std.proofs.Common.{ap, ◌∙◌, ◌/◌, ltb}
+use Rattle.std.proofs.Common.{ap, sym, ◌∙◌, ◌/◌}
 use Rattle.std.specs.FinSet as set
-use Rattle.hibits.proofs.RowLemmas.{rooms_test}
+use Rattle.hibits.proofs.PageLemmas.{page_is, room_below}
 use Rattle.hibits.proofs.bit_set.BitSet.has_room.Goals as goal
 
 pub returns-clause-value : goal.returns-clause-value
-returns-clause-value c = ap (ltb (c.args.id / 64)) c.row_len.ensures ∙ rooms_test c.self.inside.layer0.items c.args.id c.self.invariant.blocks ∙ ap (λ s. set.contains s.room (c.args.id / 4096)) c.self.view_is
+returns-clause-value c = c.has_page.ensures.value ∙ ap (set.contains c.self.inside.layer0.pages) (page_is c.args.id) ∙ ap (λ s. set.contains s.room (c.args.id / 4096)) c.self.view_is
+
+pub returns-clause-limit : goal.returns-clause-limit
+returns-clause-limit c has = room_below _ _ _ _ _ _ c.self.invariant c.args.id (sym (c.has_page.ensures.value ∙ ap (set.contains c.self.inside.layer0.pages) (page_is c.args.id)) ∙ has)

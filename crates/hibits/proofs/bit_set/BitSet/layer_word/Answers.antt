@@ -7,8 +7,8 @@ use Rattle.hibits.proofs.bit_set.BitSet.layer_word.Goals as goal
 
 pub returns-in-0-clause-bits : goal.returns-in-0-clause-bits
 returns-in-0-clause-bits c j lt =
-    ap (λ n. bit_at n j) c.word_at.ensures ∙ word_bits _ 0 _ (tied_zero _) c.args.place j lt ∙ (let e = c.in-0.is in rw e (ap (λ s. cond (has_part s.members 0 (64 * c.args.place + j)) 1 0) c.self.view_is))
+    ap (λ n. bit_at n j) c.get.ensures ∙ word_bits _ 0 _ (tied_zero _) c.args.place j lt ∙ (let e = c.in-0.is in rw e (ap (λ s. cond (has_part s.members 0 (64 * c.args.place + j)) 1 0) c.self.view_is))
 
 pub returns-in-0-clause-within : goal.returns-in-0-clause-within
 returns-in-0-clause-within c i e =
-    part_within_limit _ _ _ _ c.self.invariant c.args.level (omega (arith, c.requires)) i (ap (λ s. has_part s.members c.args.level i) c.self.view_is ∙ e)
+    part_within_limit _ _ _ _ _ c.self.invariant.rows c.args.level (omega (arith, c.requires)) i (ap (λ s. has_part s.members c.args.level i) c.self.view_is ∙ e)
