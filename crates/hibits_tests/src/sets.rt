@@ -293,11 +293,11 @@ fn trees(rt: HostRuntime) -> Result<(), Fail> {
     told(&rt, rt.alloc(), &[1, 2], &[2, 3], Story::Trees)
 }
 
-/// A set with each multiple of `step` below 64 to the power of 4.
-fn scattered(alloc: Global, step: usize) -> Result<BitSet, SetError> {
+/// A set with the first `count` multiples of `step`.
+fn scattered(alloc: Global, count: u32, step: u32) -> Result<BitSet, SetError> {
     let mut set = BitSet::new(alloc);
-    for id in (0..INDEX_LIMIT / 64).step_by(step) {
-        set.add(id)?;
+    for place in 0..count {
+        set.add(place.saturating_mul(step))?;
     }
     Ok(set)
 }
@@ -336,8 +336,8 @@ fn has_members_and_pages<R: Abort>(rt: &R, set: &BitSet, members: usize, pages: 
 
 #[test]
 fn scattered_members_take_a_page_each(rt: HostRuntime) -> Result<(), Fail> {
-    has_members_and_pages(&rt, &scattered(rt.alloc(), 16384)?, 1024, 1024);
-    has_members_and_pages(&rt, &scattered(rt.alloc(), 2048)?, 8192, 4096);
+    has_members_and_pages(&rt, &scattered(rt.alloc(), 1024, 16384)?, 1024, 1024);
+    has_members_and_pages(&rt, &scattered(rt.alloc(), 8192, 2048)?, 8192, 4096);
     has_members_and_pages(&rt, &BitSet::with_capacity(rt.alloc(), 4097)?, 0, 2);
     Ok(())
 }
