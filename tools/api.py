@@ -9,7 +9,7 @@ import os
 import re
 import sys
 
-LIBRARIES = ["pages", "hibits", "entities", "storages", "joins", "joins_parallel", "phase_threads", "key_index", "saveload", "specs", "composed", "slots", "specs_run"]
+LIBRARIES = ["pages", "hibits", "entities", "storages", "joins", "joins_parallel", "phase_threads", "key_index", "saveload", "specs", "composed", "script_slots", "specs_run"]
 ITEM = re.compile(r"pub (?:(?:unsafe|const|final) )*(struct|enum|trait|fn|const|type) (\w+)")
 METHOD = re.compile(r"(?:pub )?(?:(?:unsafe|const|final) )*(fn|type|const) (\w+)")
 GHOST = re.compile(r"ghost (\w+): \{ (.*) \};$")

@@ -6,7 +6,7 @@ ghost use Rattle.specs.specs.Laws.Reached.{OnlyLiving};
 ghost use Rattle.specs.specs.World.State.{state_of};
 
 use composed::{Both, Either, Empty, Only, Sole};
-use slots::Position;
+use script_slots::Position;
 use specs::{
     CloneStorages, Command, DeleteError, EntitiesRes, Entity, Refusal, Reply, Storages, World,
     component,

@@ -141,7 +141,6 @@ pub use specs::NullStorage;
 pub use specs::Numbered;
 pub use specs::OccupiedEntry;
 pub use specs::OpenError;
-pub use specs::Opened;
 pub use specs::PairedStorage;
 pub use specs::ParJoin;
 pub use specs::Parts;

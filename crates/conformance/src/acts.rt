@@ -6,7 +6,7 @@ use crate::asserts::{equal, holds};
 use crate::calls::{done, execute, fresh, raised};
 use crate::stories::{self, told};
 use composed::Empty;
-use slots::{Health, Position};
+use script_slots::{Health, Position};
 use specs::{
     Act, Builder, CloneStorages, Core, Doing, Entity, Has, InsertError, LazyUpdate, Storages, World,
 };

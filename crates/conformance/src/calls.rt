@@ -1,7 +1,7 @@
 //! Calls of a world, one in each function, none of which has a contract. A call of the library is slow to prove wherever it stands, and a call of
 //! one of these is not: stories are told by these alone.
 use composed::Empty;
-use slots::{Health, Position};
+use script_slots::{Health, Position};
 use specs::{
     CloneStorages, Command, Entity, Has, Index, Job, JobList, Maintained, Reply, SetExpr, Storages,
     World, WorldJob, component, slot, value,

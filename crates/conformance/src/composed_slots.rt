@@ -4,7 +4,7 @@ use crate::calls::{health, healths, positions};
 use crate::stories::{Story, told};
 use composed::Empty;
 use entities::EntitiesRes;
-use slots::{Health, Position};
+use script_slots::{Health, Position};
 use specs::{Entity, Has, Storages, by_type};
 use std::alloc::Global;
 use std::process::Abort;

@@ -3,7 +3,7 @@ use crate::asserts::{equal, holds};
 use crate::calls::{born, fresh, health, register};
 use crate::stories::{self, told};
 use composed::Empty;
-use slots::{Health, HealthValue};
+use script_slots::{Health, HealthValue};
 use specs::{
     CloneStorages, Command, Entity, Has, Index, KeyIndex, Storages, World, WorldIndexError,
 };

@@ -6,7 +6,7 @@ use crate::calls::{
 };
 use crate::stories::{self, told};
 use composed::Empty;
-use slots::{Health, Position, ScriptJob};
+use script_slots::{Health, Position, ScriptJob};
 use specs::{CloneStorages, Command, Entity, Has, Job, Storages, World, WorldJob};
 use std::alloc::{AllocError, Global};
 use std::process::Abort;

@@ -3,7 +3,7 @@ use crate::asserts::{equal, holds};
 use crate::calls::{fresh, register};
 use composed::{Both, Empty, LoadWorldError, Marking, Of3, SaveWorldError, SavesWorld, TwoFields};
 use saveload::{LoadError, SimpleMarker, SimpleMarkerAllocator};
-use slots::{Health, Link, Position, Saved};
+use script_slots::{Health, Link, Position, Saved};
 use specs::{
     Builder, Entity, EntityBuilder, Field, Has, Held, MarkedBuilder, NoJob, Parts, Storages, World,
     slot,

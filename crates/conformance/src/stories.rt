@@ -4,7 +4,7 @@ use crate::{
     upstream_lazy, worlds,
 };
 use composed::{Empty, Of2};
-use slots::{Health, Position};
+use script_slots::{Health, Position};
 use specs::{CloneStorages, Has, Storages};
 use std::alloc::Global;
 use std::process::Abort;

@@ -2,7 +2,7 @@
 use crate::asserts::{equal, holds};
 use crate::calls::{fresh, register};
 use composed::{Empty, Of3, ThreeFields, TwoFields, WithThree, WithTwo};
-use slots::{Health, Position, Velocity};
+use script_slots::{Health, Position, Velocity};
 use specs::{Builder, Entity, Has, Held, Index, Storages, World};
 use std::alloc::Global;
 use std::process::Abort;

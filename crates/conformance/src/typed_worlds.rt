@@ -3,7 +3,7 @@ use crate::asserts::{equal, holds};
 use crate::calls::{delete, die, fresh, lives, register_both};
 use crate::stories::{self, told};
 use composed::Empty;
-use slots::{Health, Position};
+use script_slots::{Health, Position};
 use specs::{Builder, CloneStorages, Entity, Has, Storages, Unregistered, World};
 use std::alloc::Global;
 use std::process::Abort;

@@ -6,7 +6,7 @@ use crate::calls::{
 };
 use crate::stories::{Story, told};
 use composed::Empty;
-use slots::Position;
+use script_slots::Position;
 use specs::{CloneStorages, Command, Entity, Has, SetExpr, Storages, World};
 use std::alloc::{AllocError, Global};
 use std::collections::HashSet;

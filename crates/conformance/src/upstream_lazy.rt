@@ -12,7 +12,7 @@ use crate::listed::Listed;
 use crate::own_jobs::{listing, lists};
 use crate::stories::{self, told};
 use composed::Empty;
-use slots::{Health, Position, ScriptJob};
+use script_slots::{Health, Position, ScriptJob};
 use specs::{
     Builder, CloneStorages, Command, Core, Entity, Has, LazyUpdate, Parts, Refusal, Storages,
     World, WorldJob,

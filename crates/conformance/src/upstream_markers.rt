@@ -3,7 +3,7 @@ use crate::asserts::{equal, holds};
 use crate::calls::{die, got, is_done, maintained};
 use composed::Sole;
 use saveload::{Marker, SimpleMarker};
-use slots::{Labels, Saved};
+use script_slots::{Labels, Saved};
 use specs::{
     Builder, CloneStorages, Command, Entity, Held, MarkError, MarkedBuilder, Storages, World,
 };

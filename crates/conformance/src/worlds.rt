@@ -7,7 +7,7 @@ use crate::calls::{
 };
 use crate::stories::{self, told};
 use composed::Empty;
-use slots::{Health, Position};
+use script_slots::{Health, Position};
 use specs::{
     CloneStorages, Command, DeleteError, Entity, Has, Refusal, Reply, SetExpr, Storages, World,
 };

@@ -1,4 +1,4 @@
 pub mod Kept
 pub mod Population
 pub mod Lists
-pub mod Shared
+pub mod Phases

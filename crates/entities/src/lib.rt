@@ -18,5 +18,5 @@ pub use entities_res::EntitiesRes;
 pub use entity::{DELETE, Entity, Generation, Index, LAST_GENERATION, WrongGeneration, order};
 pub use error::Error;
 pub use hibits::INDEX_LIMIT;
-pub use phase::{Board, Closed, Exhausted, MOST_PASSES, OpenError, Opened, Pass, Shared};
+pub use phase::{Board, Closed, Exhausted, MOST_PASSES, OpenError, Pass, Shared};
 pub use res_builder::EntityResBuilder;

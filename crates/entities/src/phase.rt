@@ -17,4 +17,4 @@ mod trace;
 pub use board::Board;
 pub use opening::{MOST_PASSES, OpenError};
 pub use pass::Pass;
-pub use shared::{Closed, Exhausted, Opened, Shared};
+pub use shared::{Closed, Exhausted, Shared};

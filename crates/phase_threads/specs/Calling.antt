@@ -3,7 +3,7 @@ use Rattle.std.specs.Prelude.{◌≡◌}
 use Rattle.std.specs.Borrow.{Bor, MutBor}
 use Rattle.entities.specs.declared.phase.board.Board.{Board}
 use Rattle.entities.specs.declared.phase.pass.Pass.{Pass}
-use Rattle.entities.specs.declared.phase.shared.Opened as shared
+use Rattle.entities.specs.declared.phase.shared.Shared as shared
 use Rattle.entities.specs.Phase.Trace.{Phase}
 use Rattle.entities.specs.Phase.Board.{IsPassOf}
 use Rattle.entities.specs.Phase.Opened.{entities_of, board_of, phase_opened}
@@ -11,7 +11,7 @@ use Rattle.entities.specs.Phase.Calls.{IsOpen}
 use Rattle.entities.specs.Phase.Given.{IsBlank}
 
 abbrev pub OpenPhase : Type 0
-OpenPhase = shared.Opened Board
+OpenPhase = shared.Shared Board
 
 -- the phase is open, and the pass is of it and has made no call
 pub record MayCall (phase : OpenPhase) (pass : Pass) : Type 0 where

@@ -39,7 +39,6 @@ pub use entities::Generation;
 pub use entities::LAST_GENERATION;
 pub use entities::MOST_PASSES;
 pub use entities::OpenError;
-pub use entities::Opened;
 pub use entities::Pass;
 pub use entities::Shared;
 pub use entities::WrongGeneration;

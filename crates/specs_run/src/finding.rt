@@ -1,6 +1,6 @@
 //! The lines of a script that have to do with the index of `hp`, and what others do to it.
 use crate::parse::Finding;
-use slots::{Health, HealthValue};
+use script_slots::{Health, HealthValue};
 use specs::{
     Command, Core, EntitiesRes, Has, Index, KeyIndex, MaskedStorage, Parts, Storages,
     WorldIndexError, WriteStorage, slot,

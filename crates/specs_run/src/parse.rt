@@ -3,7 +3,7 @@ use crate::sets::set;
 use crate::slot_names::Named;
 use crate::values::Worded;
 use crate::words::{entity, index, number, whole};
-use slots::ScriptJob;
+use script_slots::ScriptJob;
 use specs::{Command, Entity, Held, Job, ReaderId};
 use std::alloc::{AllocError, Global};
 use std::str;

@@ -3,7 +3,7 @@ use crate::parse::Saving;
 use crate::printed::write_entity;
 use composed::{Both, LoadWorldError, SaveWorldError, SavedTypes, Sole, TwoFields};
 use saveload::{LoadError, SaveError, serialize_recursive, to_json};
-use slots::{Label, Labels, Link, Position, SavedPlaces, SavedSlots};
+use script_slots::{Label, Labels, Link, Position, SavedPlaces, SavedSlots};
 use specs::{CloneStorages, EntitiesRes, Entity, MarkError, Refusal};
 use std::alloc::{AllocError, Global};
 use std::fmt;

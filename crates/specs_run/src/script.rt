@@ -6,7 +6,7 @@ use crate::saving::Saves;
 use crate::slot_names::Named;
 use crate::values::Worded;
 use composed::Empty;
-use slots::{Health, ScriptJob, Slots};
+use script_slots::{Health, ScriptJob, Slots};
 use specs::{CloneStorages, Command, Has, Parts, Refusal, Reply, World, WorldJob};
 use std::alloc::Global;
 use std::fmt::Display;

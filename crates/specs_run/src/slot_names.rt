@@ -1,5 +1,5 @@
 //! The names of the slots.
-use slots::{DEF, HP, ID, LINK, MAP, POS, Slot, TAG, TREE, VEL};
+use script_slots::{DEF, HP, ID, LINK, MAP, POS, Slot, TAG, TREE, VEL};
 
 /// Slots that a script names.
 pub trait Named: Copy {

@@ -1,7 +1,7 @@
 //! The components of a script's lines.
 use crate::words::{entity, whole};
 use composed::{Either, Sole};
-use slots::{Defense, Health, Label, Link, Mapped, Position, Tag, Treed, Velocity};
+use script_slots::{Defense, Health, Label, Link, Mapped, Position, Tag, Treed, Velocity};
 
 /// A component that a script can write, at a slot of its own.
 pub trait Worded<K>: Sized {

@@ -6,7 +6,7 @@ ghost use Rattle.entities.specs.Census.{population};
 use crate::entities_res::EntitiesRes;
 use crate::phase::pass::Pass;
 use crate::phase::reserve::plan_of;
-use crate::phase::shared::{Opened, Shared};
+use crate::phase::shared::Shared;
 use crate::phase::start::start;
 use std::alloc::{AllocError, Global};
 use thiserror::Error;
@@ -88,7 +88,7 @@ impl EntitiesRes {
             Err(AllocError) => return Err(OpenError::OutOfMemory),
         };
         Ok((
-            Opened {
+            Shared {
                 entities: self,
                 board,
             },

@@ -18,15 +18,13 @@ use crate::phase::pass::Pass;
 use std::marker::Brand;
 use thiserror::Error;
 
-/// An open phase over the entities that it was opened from. The type of the board is a parameter, so that a caller's proof follows the
-/// reference. It must be spent by `close`.
-pub struct Opened<'a, T> {
+/// An open phase over the entities that it was opened from, with its board. Its calls take it by shared reference and a pass alone, from several
+/// threads at once; none waits, and none takes memory. It must be spent by `close`. The board's type is a parameter, so that a caller's
+/// proof follows the reference.
+pub struct Shared<'a, T = Board> {
     pub(crate) entities: &'a mut EntitiesRes,
     pub(crate) board: T,
 }
-
-/// An open phase. Its calls take it by shared reference and a pass alone, from several threads at once; none waits, and none takes memory.
-pub type Shared<'a> = Opened<'a, Board>;
 
 /// The reserve is used up, and this pass is spent: it gets no more.
 #[derive(Clone, Copy, Debug, PartialEq, Eq, Drop, Error)]
@@ -44,7 +42,7 @@ pub struct Closed {
     pub passes_back: usize,
 }
 
-impl<'a> Opened<'a, Board> {
+impl<'a> Shared<'a> {
     /// The entities as they were at the opening.
     pub fn entities(&self) -> &EntitiesRes
         ensures { result.now ≡ entities_of self.now }
@@ -155,7 +153,7 @@ impl<'a> Opened<'a, Board> {
         ensures back { result.passes_back ≡ length passes.items }
         ensures spent { (k : ℕ) (d : Pass) → k < length passes.items → is_spent (slice_index_or passes.items k d) ≡ true → result.births ≡ length (phase_opened self.entry).reserve }
     {
-        let Opened { entities, board } = self;
+        let Shared { entities, board } = self;
         let passes_back = passes.len();
         let ended = board.finish(passes);
         let births = ended.births();

@@ -7,12 +7,12 @@ use Rattle.entities.specs.Phase.Reserve.{IsReserve}
 use Rattle.entities.specs.Phase.Plan.{phase_of, AreLocated}
 use Rattle.entities.specs.Phase.Calls.{EveryOrderIsSound}
 use Rattle.entities.proofs.Population.Upcoming.{upcoming_length}
-use Rattle.entities.proofs.Shared.Calls.{population_but}
-use Rattle.entities.proofs.Shared.Passes.{fresh_each, all_from_each}
+use Rattle.entities.proofs.Phases.Calls.{population_but}
+use Rattle.entities.proofs.Phases.Passes.{fresh_each, all_from_each}
 use Rattle.entities.specs.Phase.Board.{IsPassOf}
-use Rattle.entities.proofs.Shared.Sound.{sound}
+use Rattle.entities.proofs.Phases.Sound.{sound}
 use Rattle.entities.specs.Phase.Given.{IsBlank}
-use Rattle.entities.proofs.Shared.Given.{fresh_blank}
+use Rattle.entities.proofs.Phases.Given.{fresh_blank}
 use Rattle.entities.proofs.entities_res.EntitiesRes.open.Goals as goal
 
 pub returns : goal.returns

@@ -4,8 +4,8 @@ use Rattle.entities.specs.Phase.Trace.{Each}
 use Rattle.entities.specs.Phase.Board.{IsHome, record_of}
 use Rattle.entities.specs.Phase.Rule.{Seats}
 use Rattle.entities.specs.Phase.Plan.{phase_of}
-use Rattle.entities.proofs.Shared.Keeps.{joins}
-use Rattle.entities.proofs.Shared.Ends.{each_back, joined_one}
+use Rattle.entities.proofs.Phases.Keeps.{joins}
+use Rattle.entities.proofs.Phases.Ends.{each_back, joined_one}
 use Rattle.entities.proofs.phase.closing.gather.Goals as goal
 
 pub join_seat-requires : goal.join_seat-requires

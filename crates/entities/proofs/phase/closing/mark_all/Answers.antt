@@ -3,7 +3,7 @@ use Rattle.std.specs.Mem.Slots.{slots_items}
 use Rattle.entities.specs.Census.{population}
 use Rattle.entities.specs.Population.{Population, lives, mark}
 use Rattle.entities.specs.Phase.Rule.{marks_index}
-use Rattle.entities.proofs.Shared.Marks.{marks_one, marks_skip, count_more, count_skip, none_in_word}
+use Rattle.entities.proofs.Phases.Marks.{marks_one, marks_skip, count_more, count_skip, none_in_word}
 use Rattle.hibits.specs.Counts.{count_below}
 use Rattle.entities.proofs.phase.closing.mark_all.Goals as goal
 use Rattle.entities.proofs.phase.closing.mark_all.Goals.{then-is_marked, else-is_marked}

@@ -1,5 +1,5 @@
 use Rattle.std.proofs.Common.{◌∙◌, length-set, arith, sym}
-use Rattle.entities.proofs.Shared.Reserve.{placed_more, placed_past}
+use Rattle.entities.proofs.Phases.Reserve.{placed_more, placed_past}
 use Rattle.entities.proofs.phase.reserve.places_of.Goals as goal
 use Rattle.entities.proofs.phase.reserve.places_of.Goals.{then-index-born, else-index-born}
 

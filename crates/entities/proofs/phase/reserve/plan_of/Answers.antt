@@ -5,7 +5,7 @@ use Rattle.entities.specs.Census.{population}
 use Rattle.entities.specs.Upcoming.{upcoming}
 use Rattle.entities.specs.Phase.Reserve.{IsReserve}
 use Rattle.entities.proofs.Population.Upcoming.{below_end, upcoming_length}
-use Rattle.entities.proofs.Shared.Reserve.{located}
+use Rattle.entities.proofs.Phases.Reserve.{located}
 use Rattle.entities.proofs.phase.reserve.plan_of.Goals as goal
 use Rattle.entities.proofs.phase.reserve.plan_of.Goals.{then-revived-gt0+in_ok-places, else-revived-gt0}
 

@@ -3,8 +3,8 @@ use Rattle.entities.specs.Phase.Board.{AreDealt}
 use Rattle.entities.specs.declared.phase.trace.Line.{Line}
 use Rattle.entities.specs.Phase.Rule.{blank_lines, line, first_line, other_lines, Seats}
 use Rattle.entities.specs.Phase.Plan.{phase_of}
-use Rattle.entities.proofs.Shared.Keeps.{cuts}
-use Rattle.entities.proofs.Shared.Passes.{dealt_push, blank_more}
+use Rattle.entities.proofs.Phases.Keeps.{cuts}
+use Rattle.entities.proofs.Phases.Passes.{dealt_push, blank_more}
 use Rattle.entities.proofs.phase.start.deal.Goals as goal
 
 pub split_seat-record-requires : goal.split_seat-record-requires

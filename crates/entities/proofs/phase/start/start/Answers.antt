@@ -1,6 +1,6 @@
 use Rattle.std.proofs.Common.{◌∙◌}
-use Rattle.entities.proofs.Shared.Keeps.{opens_at}
-use Rattle.entities.proofs.Shared.Passes.{fresh_of}
+use Rattle.entities.proofs.Phases.Keeps.{opens_at}
+use Rattle.entities.proofs.Phases.Passes.{fresh_of}
 use Rattle.entities.proofs.phase.start.start.Goals as goal
 
 pub of_words-requires : goal.of_words-requires

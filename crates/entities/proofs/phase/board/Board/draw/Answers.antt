@@ -1,7 +1,7 @@
 use Rattle.std.proofs.Common.{rules}
-use Rattle.entities.proofs.Shared.Keeps.{draws_at}
+use Rattle.entities.proofs.Phases.Keeps.{draws_at}
 use Rattle.entities.specs.declared.phase.trace.Step.TheVariants.{Draw}
-use Rattle.entities.proofs.Shared.Passes.{next_of}
+use Rattle.entities.proofs.Phases.Passes.{next_of}
 use Rattle.entities.proofs.phase.board.Board.draw.Goals as goal
 
 pub fetch_add-requires : goal.fetch_add-requires

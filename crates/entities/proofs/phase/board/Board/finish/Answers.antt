@@ -3,8 +3,8 @@ use Rattle.entities.specs.Phase.Rule.{Seats}
 use Rattle.std.specs.Mem.Slots.{slots_items}
 use Rattle.entities.specs.Phase.Board.{record_of}
 use Rattle.entities.specs.Phase.Plan.{phase_of}
-use Rattle.entities.proofs.Shared.Keeps.{sits}
-use Rattle.entities.proofs.Shared.Ends.{ended, homes}
+use Rattle.entities.proofs.Phases.Keeps.{sits}
+use Rattle.entities.proofs.Phases.Ends.{ended, homes}
 use Rattle.entities.proofs.phase.board.Board.finish.Goals as goal
 
 pub load_new_seat-requires : goal.load_new_seat-requires

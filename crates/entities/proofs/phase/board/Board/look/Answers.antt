@@ -1,7 +1,7 @@
 use Rattle.std.proofs.Common.{rules}
-use Rattle.entities.proofs.Shared.Keeps.{looks_at}
+use Rattle.entities.proofs.Phases.Keeps.{looks_at}
 use Rattle.entities.specs.declared.phase.trace.Step.TheVariants.{Look}
-use Rattle.entities.proofs.Shared.Passes.{next_of}
+use Rattle.entities.proofs.Phases.Passes.{next_of}
 use Rattle.entities.proofs.phase.board.Board.look.Goals as goal
 
 pub load-requires : goal.load-requires

@@ -5,8 +5,8 @@ use Rattle.entities.specs.Phase.Trace.{AreCalls}
 use Rattle.entities.specs.Phase.Plan.{phase_of}
 use Rattle.entities.specs.Phase.Board.{steps_of_pass}
 use Rattle.entities.specs.Phase.Rule.{with_step}
-use Rattle.entities.proofs.Shared.Passes.{next_of}
-use Rattle.entities.proofs.Shared.Keeps.{marks_at}
+use Rattle.entities.proofs.Phases.Passes.{next_of}
+use Rattle.entities.proofs.Phases.Keeps.{marks_at}
 use Rattle.entities.proofs.phase.board.Board.mark_as.Goals as goal
 
 pub fetch_or-requires : goal.fetch_or-requires

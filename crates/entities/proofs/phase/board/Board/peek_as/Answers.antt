@@ -6,8 +6,8 @@ use Rattle.entities.specs.Phase.Plan.{phase_of}
 use Rattle.entities.specs.Phase.Board.{steps_of_pass, IsNext}
 use Rattle.entities.specs.Phase.Rule.{Among, bit_of, with_step}
 use Rattle.entities.specs.declared.phase.pass.Pass.{Pass}
-use Rattle.entities.proofs.Shared.Passes.{next_of}
-use Rattle.entities.proofs.Shared.Keeps.{peeks_at}
+use Rattle.entities.proofs.Phases.Passes.{next_of}
+use Rattle.entities.proofs.Phases.Keeps.{peeks_at}
 use Rattle.entities.proofs.phase.board.Board.peek_as.Goals as goal
 
 pub load-found-requires : goal.load-found-requires

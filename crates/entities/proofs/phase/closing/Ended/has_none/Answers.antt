@@ -1,6 +1,6 @@
 use Rattle.std.proofs.Common.{◌∙◌, ◌+◌, eqb-true}
 use Rattle.std.specs.Mem.Slots.{slots_items}
-use Rattle.entities.proofs.Shared.Ends.{read_word}
+use Rattle.entities.proofs.Phases.Ends.{read_word}
 use Rattle.entities.proofs.phase.closing.Ended.has_none.Goals as goal
 
 pub returns : goal.returns

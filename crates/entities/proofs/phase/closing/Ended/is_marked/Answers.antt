@@ -3,7 +3,7 @@ use Rattle.std.specs.Prelude.{◌==◌}
 use Rattle.std.proofs.lemmas.Nat.{one_shl}
 use Rattle.entities.specs.Phase.Rule.{bit_of}
 use Rattle.std.specs.Mem.Slots.{slots_items}
-use Rattle.entities.proofs.Shared.Ends.{read_word}
+use Rattle.entities.proofs.Phases.Ends.{read_word}
 use Rattle.entities.proofs.phase.closing.Ended.is_marked.Goals as goal
 
 pub returns : goal.returns

@@ -1,5 +1,5 @@
 use Rattle.std.proofs.Common.{arith}
-use Rattle.entities.proofs.Shared.Reserve.{slice_get_within}
+use Rattle.entities.proofs.Phases.Reserve.{slice_get_within}
 use Rattle.entities.proofs.phase.plan.Plan.place_of.Goals as goal
 
 pub returns-then-place-len : goal.returns-then-place-len

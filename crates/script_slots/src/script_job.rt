@@ -4,8 +4,8 @@ ghost use Rattle.specs.specs.World.State.{core_state};
 ghost use Rattle.specs.specs.World.People.{BirthWantsMemory};
 ghost use Rattle.specs.specs.Job.Queue.{queued};
 ghost use Rattle.specs.specs.declared.job.Job.TheVariants.{Own};
-ghost use Rattle.slots.specs.Jobs.{MayRaise};
-ghost use Rattle.slots.specs.declared.script_job.ScriptJob.TheVariants.{Again};
+ghost use Rattle.script_slots.specs.Jobs.{MayRaise};
+ghost use Rattle.script_slots.specs.declared.script_job.ScriptJob.TheVariants.{Again};
 
 use specs::{Core, CreateError, Held, LazyUpdate, WorldJob};
 use std::alloc::AllocError;
@@ -20,7 +20,7 @@ pub enum ScriptJob {
 }
 
 impl<S: Held> WorldJob<S> for ScriptJob {
-    ghost use Rattle.slots.specs.Jobs.{Does, Wants, Spares, grows, lives_on, tells};
+    ghost use Rattle.script_slots.specs.Jobs.{Does, Wants, Spares, grows, lives_on, tells};
 
     ghost does = { Does };
 

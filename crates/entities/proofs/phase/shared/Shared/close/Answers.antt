@@ -15,13 +15,13 @@ use Rattle.entities.specs.declared.phase.board.Board.{Board}
 use Rattle.entities.specs.Phase.Board.{record_of}
 use Rattle.entities.specs.Phase.Calls.{IsOpen}
 use Rattle.entities.proofs.Population.Upcoming.{same_upcoming, upcoming_take}
-use Rattle.entities.proofs.Shared.Calls.{population_but}
-use Rattle.entities.proofs.Shared.Sound.{marked_alive}
-use Rattle.entities.proofs.Shared.Ends.{closes, alive_then, spent_all}
+use Rattle.entities.proofs.Phases.Calls.{population_but}
+use Rattle.entities.proofs.Phases.Sound.{marked_alive}
+use Rattle.entities.proofs.Phases.Ends.{closes, alive_then, spent_all}
 use Rattle.entities.specs.Phase.Reserve.{IsReserve}
-use Rattle.entities.proofs.Shared.Given.{given_once, taken_up}
-use Rattle.entities.proofs.Shared.Theirs.{all_theirs}
-use Rattle.entities.proofs.phase.shared.Opened+Board.close.Goals as goal
+use Rattle.entities.proofs.Phases.Given.{given_once, taken_up}
+use Rattle.entities.proofs.Phases.Theirs.{all_theirs}
+use Rattle.entities.proofs.phase.shared.Shared.close.Goals as goal
 
 -- the entities that are born are the first of the reserve
 taken : (board : Board) (now : Census) (births : ℕ) → IsOpen now board → births ≤ length board.plan.reserve.items → upcoming now births ≡ take births board.plan.reserve.items

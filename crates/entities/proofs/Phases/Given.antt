@@ -27,11 +27,11 @@ use Rattle.entities.specs.Phase.Plan.{phase_of}
 use Rattle.entities.specs.Census.{Census}
 use Rattle.entities.specs.Phase.Calls.{IsOpen, IsClosed, AliveSteps, MarkSteps, PendingSteps}
 use Rattle.entities.specs.Phase.Given.{given_of, marks_of, marks_of_step, IsBlank, Gains, AreGivenOnce, AreTakenUp}
-use Rattle.entities.proofs.Shared.Ends.{each_back, pass_lines}
-use Rattle.entities.proofs.Shared.Calls.{among_left}
-use Rattle.entities.proofs.Shared.Passes.{all_from_each}
-use Rattle.entities.proofs.Shared.Reserve.{slice_get_within, slice_get_is, reserve_apart}
-use Rattle.entities.proofs.Shared.Tickets.{apart, not_below}
+use Rattle.entities.proofs.Phases.Ends.{each_back, pass_lines}
+use Rattle.entities.proofs.Phases.Calls.{among_left}
+use Rattle.entities.proofs.Phases.Passes.{all_from_each}
+use Rattle.entities.proofs.Phases.Reserve.{slice_get_within, slice_get_is, reserve_apart}
+use Rattle.entities.proofs.Phases.Tickets.{apart, not_below}
 
 -- ---- what a call adds
 pub gains : (o : Phase) (old new : Pass) (added : List Step) → IsNext old new added → Gains o old new (flat_map (given_to o.reserve) added) (flat_map marks_of_step added)

@@ -1,11 +1,11 @@
 use Rattle.std.proofs.Common.{◌≡◌, true, false, true≢false, sym, ap, ◌∙◌, arith, Some}
 use Rattle.std.proofs.lemmas.Option.{slice_get-get_or}
-use Rattle.entities.proofs.Shared.Passes.{drew, next_spent}
+use Rattle.entities.proofs.Phases.Passes.{drew, next_spent}
 use Rattle.entities.specs.Phase.Plan.{phase_of}
-use Rattle.entities.proofs.Shared.Given.{gains_none, gains_draw, gains_miss}
-use Rattle.entities.proofs.Shared.Seen.{saw_given}
+use Rattle.entities.proofs.Phases.Given.{gains_none, gains_draw, gains_miss}
+use Rattle.entities.proofs.Phases.Seen.{saw_given}
 use Rattle.entities.specs.Phase.Laws.{newly_given}
-use Rattle.entities.proofs.phase.shared.Opened+Board.create.Goals as goal
+use Rattle.entities.proofs.phase.shared.Shared.create.Goals as goal
 
 pub returns-then-ticket-len-clause-pass : goal.returns-then-ticket-len-clause-pass
 returns-then-ticket-len-clause-pass c = drew c.args.self.now.board c.args.pass.now c.draw-ticket.new.pass c.draw-ticket.result c.requires c.if-pass.false c.draw-ticket.ensures.step (λ _. omega arith) (λ h. absurd (true≢false (sym h ∙ c.draw-ticket.ensures.spent ∙ c.if-pass.false)))

@@ -9,7 +9,7 @@ use native.Mathlib.Decide.{ℕ_discrete, dec_le}
 use Rattle.entities.specs.declared.entity.Entity.{Entity}
 use Rattle.entities.specs.Population.{IsAlive}
 use Rattle.entities.specs.Phase.Reserve.{IsReserve}
-use Rattle.entities.proofs.Shared.Reserve.{taken_apart, taken_new}
+use Rattle.entities.proofs.Phases.Reserve.{taken_apart, taken_new}
 use Rattle.entities.specs.declared.phase.trace.Step.{Step}
 use Rattle.entities.specs.declared.phase.trace.Step.TheVariants.{Draw, Look, Mark, Peek}
 use Rattle.entities.specs.declared.phase.trace.Line.{Line}

@@ -2,12 +2,12 @@ use Rattle.std.proofs.Common.{◌≡◌, inl, inr, true, subst, refl, [], ◌∷
 use Rattle.entities.specs.declared.phase.trace.Step.TheVariants.{Look}
 use Rattle.std.specs.Prelude.{◌↔◌}
 use Rattle.entities.specs.Population.{Population, IsAlive}
-use Rattle.entities.proofs.Shared.Passes.{looked_at}
-use Rattle.entities.proofs.Shared.Calls.{population_but}
+use Rattle.entities.proofs.Phases.Passes.{looked_at}
+use Rattle.entities.proofs.Phases.Calls.{population_but}
 use Rattle.entities.specs.Phase.Plan.{phase_of}
-use Rattle.entities.proofs.Shared.Given.{gains, own_alive}
-use Rattle.entities.proofs.Shared.Seen.{saw_alive, stays_alive}
-use Rattle.entities.proofs.phase.shared.Opened+Board.is_alive.Goals as goal
+use Rattle.entities.proofs.Phases.Given.{gains, own_alive}
+use Rattle.entities.proofs.Phases.Seen.{saw_alive, stays_alive}
+use Rattle.entities.proofs.phase.shared.Shared.is_alive.Goals as goal
 
 pub returns-in-Some-clause-pass : goal.returns-in-Some-clause-pass
 returns-in-Some-clause-pass c = looked_at c.args.self.now.board c.args.pass.now c.look.new.pass c.look.result c.requires.pass c.look.ensures.step c.look.ensures.spent

@@ -15,8 +15,8 @@ use Rattle.entities.specs.Phase.Given.{marks_of, ShowsGiven, SawAlive}
 use Rattle.entities.specs.Phase.Plan.{phase_of}
 use Rattle.entities.specs.Phase.Rule.{IsSeen, Among}
 use Rattle.entities.specs.Phase.Trace.{Phase, Each}
-use Rattle.entities.proofs.Shared.Given.{each_last, pass_marked}
-use Rattle.entities.proofs.Shared.Passes.{all_from_each}
+use Rattle.entities.proofs.Phases.Given.{each_last, pass_marked}
+use Rattle.entities.proofs.Phases.Passes.{all_from_each}
 
 -- a step that was made is among the pass's
 among_added : (s : Step) (xs ys : List Step) → Among s ys → Among s (xs ++ ys)

@@ -18,7 +18,7 @@ use Rattle.entities.specs.Phase.Rule.{line, blank_lines, with_step, number_of, s
 use Rattle.entities.specs.Phase.Plan.{phase_of}
 use Rattle.entities.specs.Phase.Board.{IsPassOf, IsNext, steps_of_pass, AreDealt, AreFresh}
 use Rattle.atomic_table.specs.Seated.{TableId}
-use Rattle.entities.proofs.Shared.Pushes.{AreCalls-push, misses-push}
+use Rattle.entities.proofs.Phases.Pushes.{AreCalls-push, misses-push}
 
 with_step_one : (s : Step) (v : List Line) → IsOne v → with_step s v ≡ line (number_of v) (steps_in v ++ s ∷ []) ∷ []
 with_step_one s v one = ap (with_step s) one

@@ -33,11 +33,11 @@ use Rattle.entities.specs.declared.phase.trace.Step.TheVariants.{Draw}
 use Rattle.entities.specs.Phase.Board.{steps_of_pass}
 use Rattle.entities.specs.Phase.Rule.{marks_index, marks_below, Among, AmongLines}
 use Rattle.entities.specs.Phase.Calls.{IsClosed}
-use Rattle.entities.proofs.Shared.Sound.{marked_alive, drawn_below, mark_told, each_ticket, each_mark, miss_draw}
-use Rattle.entities.proofs.Shared.Passes.{alive_within}
-use Rattle.entities.proofs.Shared.Marks.{same_marks, count_same}
-use Rattle.entities.proofs.Shared.Reserve.{slice_get_within, slice_get_is}
-use Rattle.entities.proofs.Shared.Keeps.{ends}
+use Rattle.entities.proofs.Phases.Sound.{marked_alive, drawn_below, mark_told, each_ticket, each_mark, miss_draw}
+use Rattle.entities.proofs.Phases.Passes.{alive_within}
+use Rattle.entities.proofs.Phases.Marks.{same_marks, count_same}
+use Rattle.entities.proofs.Phases.Reserve.{slice_get_within, slice_get_is}
+use Rattle.entities.proofs.Phases.Keeps.{ends}
 
 pub read_word : (l : List ℕ) (i a : ℕ) → get_elem? l i ≡ some a → get_or l i 0 ≡ a
 read_word [] i a e = absurd (some-ne-none a (sym e))

@@ -1,11 +1,11 @@
 use Rattle.std.proofs.Common.{refl, subst, Bool}
 use Rattle.entities.specs.Phase.Calls.{AliveSteps}
-use Rattle.entities.proofs.Shared.Calls.{index_within, mark_after, marked_pass, marked_steps}
-use Rattle.entities.proofs.Shared.Given.{alive_gains, mark_gains}
-use Rattle.entities.proofs.Shared.Seen.{saw_marked}
+use Rattle.entities.proofs.Phases.Calls.{index_within, mark_after, marked_pass, marked_steps}
+use Rattle.entities.proofs.Phases.Given.{alive_gains, mark_gains}
+use Rattle.entities.proofs.Phases.Seen.{saw_marked}
 use Rattle.entities.specs.Phase.Laws.{newly_marked}
 use Rattle.entities.specs.Phase.Plan.{phase_of}
-use Rattle.entities.proofs.phase.shared.Opened+Board.delete.Goals as goal
+use Rattle.entities.proofs.phase.shared.Shared.delete.Goals as goal
 
 pub mark_as-requires-clause-calls : goal.mark_as-requires-clause-calls
 mark_as-requires-clause-calls c =

@@ -1,4 +1,4 @@
-use Rattle.entities.proofs.phase.shared.Opened+Board.delete.Given as goal
+use Rattle.entities.proofs.phase.shared.Shared.delete.Given as goal
 
 abbrev pub ghosts-mark_as : goal.ghosts-mark_as
 ghosts-mark_as a = record { index = a.index }

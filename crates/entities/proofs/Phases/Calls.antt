@@ -14,7 +14,7 @@ use Rattle.entities.specs.Phase.Plan.{phase_of}
 use Rattle.entities.specs.Phase.Board.{IsPassOf, IsNext, steps_of_pass}
 use Rattle.entities.specs.Phase.Calls.{IsOfReserve, IsOutside, WasAlive, AliveSteps, MarkSteps, PendingSteps}
 use Rattle.entities.proofs.Kept.Sets.{same_population}
-use Rattle.entities.proofs.Shared.Passes.{mark_calls, marked_new, marked_old, calls_mark_old, calls_peek_new, calls_peek_old, peeked_new, peeked_old, next_two, alive_within}
+use Rattle.entities.proofs.Phases.Passes.{mark_calls, marked_new, marked_old, calls_mark_old, calls_peek_new, calls_peek_old, peeked_new, peeked_old, next_two, alive_within}
 
 pub population_but : (c c' : Census) → SameBut c c' → population c' ≡ population c
 population_but c c' s = same_population _ _ (λ i. rw s.generations refl) (λ i. rw (s.generations, s.raised) refl) (λ i. rw (s.generations, s.raised) refl) (λ i. rw (s.generations, s.killed) refl)

@@ -1,10 +1,10 @@
 use Rattle.std.proofs.Common.{◌≡◌, ◌∙◌, true, false, ◌||◌, refl, ap, subst, Bool}
 use Rattle.entities.specs.Population.{Population}
 use Rattle.entities.specs.Phase.Calls.{AliveSteps}
-use Rattle.entities.proofs.Shared.Calls.{index_within, peek_after, peeked_pass, peeked_steps, population_but}
-use Rattle.entities.proofs.Shared.Given.{pending_gains}
-use Rattle.entities.proofs.Shared.Seen.{own_pending, saw_pending}
-use Rattle.entities.proofs.phase.shared.Opened+Board.pending.Goals as goal
+use Rattle.entities.proofs.Phases.Calls.{index_within, peek_after, peeked_pass, peeked_steps, population_but}
+use Rattle.entities.proofs.Phases.Given.{pending_gains}
+use Rattle.entities.proofs.Phases.Seen.{own_pending, saw_pending}
+use Rattle.entities.proofs.phase.shared.Shared.pending.Goals as goal
 
 pub peek_as-found-requires-clause-calls : goal.peek_as-found-requires-clause-calls
 peek_as-found-requires-clause-calls c =

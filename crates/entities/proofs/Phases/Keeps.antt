@@ -17,8 +17,8 @@ use Rattle.entities.specs.declared.phase.plan.Plan.{Plan}
 use Rattle.entities.specs.Phase.Plan.{phase_of}
 use Rattle.entities.specs.Phase.Trace.{Phase, Reached, Event, Each, one_if, start, run, after, in_marks, steps_of, IsRight, AreRight, AreCalls, creates, looks, misses}
 use Rattle.entities.specs.Phase.Rule.{Among, Agree, line, lines_of, total, marks_word, IsRecorded, blank_lines, first_line, other_lines, with_step, number_of, steps_in, IsOne, bit_of, IsSeen, States, Seats, IsEnded, agree, tells_draw, tells_look, tells_mark, tells_peek}
-use Rattle.entities.proofs.Shared.Pushes.{steps_of-mine, steps_of-other, run-push, IsInterleaving-push, AreCalls-push, misses-push}
-use Rattle.entities.proofs.Shared.Sound.{bounded, own_mark, run_grows}
+use Rattle.entities.proofs.Phases.Pushes.{steps_of-mine, steps_of-other, run-push, IsInterleaving-push, AreCalls-push, misses-push}
+use Rattle.entities.proofs.Phases.Sound.{bounded, own_mark, run_grows}
 
 total_set : (f : List Line → ℕ) (vs : List (List Line)) (i : ℕ) (v w : List Line) → get_elem? vs i ≡ some v → total f (set vs i w) + f v ≡ total f vs + f w
 total_set f [] i v w e = absurd (some-ne-none v (sym e))

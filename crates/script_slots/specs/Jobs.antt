@@ -11,8 +11,8 @@ use Rattle.specs.specs.Laws.Lawful.{still_grows, still_lives, still_tells, pendi
 use Rattle.specs.specs.World.People.{Births, BirthWantsMemory, IsFull}
 use Rattle.specs.specs.Laws.Reached.{OnlyLiving}
 use Rattle.specs.specs.World.State.{State, OnPeople}
-use Rattle.slots.specs.declared.script_job.ScriptJob.{ScriptJob}
-use Rattle.slots.specs.declared.script_job.ScriptJob.TheVariants.{Again, Create}
+use Rattle.script_slots.specs.declared.script_job.ScriptJob.{ScriptJob}
+use Rattle.script_slots.specs.declared.script_job.ScriptJob.TheVariants.{Again, Create}
 
 module _ {K V : Type 0} where
   -- a pending birth, or nothing where no index is left
