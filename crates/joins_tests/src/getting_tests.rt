@@ -96,7 +96,7 @@ pub fn two_have_both<R: Abort, Y: Joined>(rt: &R, yard: &mut Y) -> Result<(), Fa
     gives_two!(rt; yard.both_in(1), Some((2, 1)));
     gives_two!(rt; yard.both_in(2), None);
     gives_two!(rt; yard.both_in(INDEX_LIMIT), None);
-    equal!(rt; yard.reads(), 8);
+    equal!(rt; yard.reads(), 10);
     Ok(())
 }
 

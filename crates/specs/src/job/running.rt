@@ -1,5 +1,5 @@
 //! Runs jobs.
-ghost use Rattle.std.specs.Prelude.{◌≡◌, [], ◌∷◌, None, IfOk, IfErr, OnOk, OnErr, IfSome, IfNone};
+ghost use Rattle.std.specs.Prelude.{◌≡◌, [], ◌∷◌, Some, None, IfOk, IfErr, OnOk, OnErr, IfSome, IfNone};
 ghost use Rattle.specs.specs.World.State.{core_state};
 ghost use Rattle.specs.specs.Job.Queue.{queued, to_come};
 ghost use Rattle.specs.specs.Job.Jobs.{InsertStep, InsertWantsRoom, InsertsOrKeeps, RemoveStep, MarkStep, MarkWantsRoom, count_of, DoesOrKeeps, RunsJobs};
@@ -20,6 +20,30 @@ use std::collections::VecDeque;
 pub(crate) struct Outcome<S: Held, J> {
     pub refused: u64,
     pub kept: Option<Job<S, J>>,
+}
+
+impl<S: Held, J> Outcome<S, J> {
+    /// Nothing is kept.
+    fn done(refused: u64) -> Self
+        ensures refused { result.refused ≡ refused }
+        ensures kept { result.kept ≡ None }
+    {
+        Outcome {
+            refused,
+            kept: None,
+        }
+    }
+
+    /// The job found no memory, and is kept.
+    fn kept(job: Job<S, J>) -> Self
+        ensures refused { result.refused ≡ 0 }
+        ensures kept { result.kept ≡ Some job }
+    {
+        Outcome {
+            refused: 0,
+            kept: Some(job),
+        }
+    }
 }
 
 /// What became of a list of insertions: how many refusals it counted, and the rest where one found no memory.
@@ -126,23 +150,14 @@ pub(crate) fn run_one<S: Storages, J: WorldJob<S>>(
 {
     match job {
         Job::Insert(e, value) => match insert_one(core, e, value) {
-            Ok(counted) => Outcome {
-                refused: count_of(counted),
-                kept: None,
-            },
-            Err(value) => Outcome {
-                refused: 0,
-                kept: Some(Job::Insert(e, value)),
-            },
+            Ok(counted) => Outcome::done(count_of(counted)),
+            Err(value) => Outcome::kept(Job::Insert(e, value)),
         },
         Job::InsertAll(pairs) => {
             let inserted = insert_all(core, pairs);
             let refused = inserted.refused;
             match inserted.rest {
-                None => Outcome {
-                    refused,
-                    kept: None,
-                },
+                None => Outcome::done(refused),
                 Some(rest) => Outcome {
                     refused,
                     kept: Some(Job::InsertAll(rest)),
@@ -150,34 +165,16 @@ pub(crate) fn run_one<S: Storages, J: WorldJob<S>>(
             }
         }
         Job::Remove(slot, e) => match remove_one(core, slot, e) {
-            Ok(()) => Outcome {
-                refused: 0,
-                kept: None,
-            },
-            Err(_) => Outcome {
-                refused: 0,
-                kept: Some(Job::Remove(slot, e)),
-            },
+            Ok(()) => Outcome::done(0),
+            Err(_) => Outcome::kept(Job::Remove(slot, e)),
         },
         Job::Mark(slot, e) => match mark_one(core, slot, e) {
-            Ok(counted) => Outcome {
-                refused: count_of(counted),
-                kept: None,
-            },
-            Err(_) => Outcome {
-                refused: 0,
-                kept: Some(Job::Mark(slot, e)),
-            },
+            Ok(counted) => Outcome::done(count_of(counted)),
+            Err(_) => Outcome::kept(Job::Mark(slot, e)),
         },
         Job::Own(own) => match own.update(core, queue) {
-            Ok(()) => Outcome {
-                refused: 0,
-                kept: None,
-            },
-            Err((own, _)) => Outcome {
-                refused: 0,
-                kept: Some(Job::Own(own)),
-            },
+            Ok(()) => Outcome::done(0),
+            Err((own, _)) => Outcome::kept(Job::Own(own)),
         },
     }
 }
