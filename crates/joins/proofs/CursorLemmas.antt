@@ -1,5 +1,5 @@
 -- Walks of cursors over storages.
-use Rattle.std.proofs.Common.{◌≡◌, ℕ, Bool, ◌&&◌, ◌≤◌, ◌<◌, ◌+◌, ◌-◌, true, List, ◌∷◌, zero, suc, nat_eq, arith, refl, sym, ap, subst, ◌∙◌}
+use Rattle.std.proofs.Common.{◌≡◌, ℕ, Bool, ◌&&◌, true, nat_eq, arith, refl, sym, ap, subst, ◌∙◌}
 use Rattle.std.proofs.Math.Path.{fun_ext}
 use Rattle.std.proofs.lemmas.Bool.{lt-ltb, and_parts, false≢true}
 use Rattle.std.specs.Prelude.{◌↔◌, IfNone, cond, Option, Some, None, IfSome, is_some, false, ◌||◌, Result, Ok, Err, IfErr}
@@ -7,7 +7,7 @@ use Rattle.std.specs.FinMap as map
 use Rattle.std.specs.FinSet as set
 use Rattle.std.specs.Ordering.{nat_cmp}
 use Rattle.std.specs.Cmp.{nat_cmp_total}
-use Rattle.hibits.specs.Left.{left, passing}
+use Rattle.hibits.specs.Left.{left}
 use Rattle.hibits.specs.Sets.{has_part, has_part_zero}
 use Rattle.hibits.specs.Views.{everywhere}
 use Rattle.hibits.specs.declared.limits.TheConstants.{INDEX_LIMIT}
@@ -18,19 +18,7 @@ use Rattle.storages.specs.declared.masked.NotLent.TheVariants.{Absent, OutOfMemo
 use Rattle.entities.specs.Census.{Census, population}
 use Rattle.entities.specs.Population.{lives}
 use Rattle.joins.specs.Keys.{keys_of}
-
--- ---- the indices that are left
-passing_same : (p q : ℕ → Bool) (n a : ℕ) → ((i : ℕ) → a ≤ i → i < a + n → p i ≡ q i) → passing p a n ≡ passing q a n
-unfolding passing
-passing_same p q zero a e = refl
-passing_same p q (suc n) a e =
-    ap (λ b. cond b (a ∷ passing p (suc a) n) (passing p (suc a) n)) (e a (omega arith) (omega arith))
-    ∙ ap (λ (r : List ℕ). cond (q a) (a ∷ r) r) (passing_same p q n (suc a) (λ i ge lt. e i (omega arith) (omega arith)))
-
--- tests that agree from an index on leave the same indices
-pub left_same : (p q : ℕ → Bool) (a : ℕ) → ((i : ℕ) → a ≤ i → i < INDEX_LIMIT → p i ≡ q i) → left p a ≡ left q a
-unfolding left
-left_same p q a e = passing_same p q (INDEX_LIMIT - a) a (λ i ge lt. e i ge (omega arith))
+use Rattle.joins.specs.Same.{left_same}
 
 -- ---- the keys of a map, as a set
 module _ {T : Type 0} (m : map.FinMap nat_cmp T) where

@@ -15,7 +15,8 @@ use Rattle.storages.specs.declared.event.ComponentEvent.TheVariants.{Removed}
 use Rattle.storages.specs.Finds.{got_none, got_left}
 use Rattle.storages.specs.Slot.{Slot, Becomes, IsSame}
 use Rattle.joins.specs.Keys.{keys_of}
-use Rattle.joins.proofs.CursorLemmas.{contains_keys, left_same}
+use Rattle.joins.specs.Same.{left_same}
+use Rattle.joins.proofs.CursorLemmas.{contains_keys}
 
 -- an index that was passed lies in a part that was passed, in each layer
 pub passed : (p : ℕ → ℕ → Bool) (c : ℕ) (w : Walk) → IsWalkOf p c w → (k : ℕ) → k < position w → (l : ℕ) → l < LAYERS → k / 64 ^ l < slice_index (from_of w) l

@@ -15,7 +15,9 @@ pub mod Held
 pub mod Indexed
 pub mod Keys
 pub mod Next
+pub mod Optional
 pub mod Restricted
 pub mod Restricting
+pub mod Same
 pub mod Taking
 pub mod Visits

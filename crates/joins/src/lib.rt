@@ -37,6 +37,6 @@ pub use indexed::IndexedStorage;
 pub use iter::JoinIter;
 pub use join::Join;
 pub use lookup::Lookup;
-pub use optional::{MaybeJoin, maybe};
+pub use optional::{MaybeJoin, MaybeValues, maybe};
 pub use repeatable::RepeatableJoin;
 pub use restricted::{PairedStorage, Restrict, RestrictedStorage};

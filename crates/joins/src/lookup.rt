@@ -1,7 +1,6 @@
 //! What is looked up at an index, as often as it is asked, by any thread.
-ghost use Rattle.std.specs.Prelude.{◌≡◌, ℕ, Bool, true, false, Some, ◌&&◌, ◌||◌, not, nat_lt, MatchOption};
+ghost use Rattle.std.specs.Prelude.{◌≡◌, ℕ, Bool, true, false, Some, ◌&&◌};
 ghost use Rattle.std.specs.FinMap as map;
-ghost use Rattle.hibits.specs.declared.limits.TheConstants.{INDEX_LIMIT};
 ghost use Rattle.entities.specs.Census.{population};
 ghost use Rattle.entities.specs.Population.{index_of, generation_of, generation_now};
 ghost use Rattle.storages.specs.ReadView.{slot};
@@ -10,7 +9,7 @@ ghost use Rattle.storages.specs.WriteView as writing;
 use crate::change_set::ChangeSet;
 use crate::combine::Combine;
 use entities::{EntitiesRes, Entity};
-use hibits::{BitSet, BitSetLike, Index};
+use hibits::{BitSet, Index};
 use storages::{Component, MaskedStorage, ReadStorage, UnprotectedStorage, WriteStorage};
 
 /// What is looked up at an index, as often as it is asked, and only read: so several threads may ask at the same time. The values of a join
@@ -124,20 +123,6 @@ impl Lookup<Index> for () {
     #[inline(always)]
     fn at(&self, id: Index) -> Index {
         id
-    }
-}
-
-impl<T, M: BitSetLike, V: Lookup<T>> Lookup<Option<T>> for (M, V) {
-    ghost can_look = { λ v i. nat_lt i INDEX_LIMIT && (not (M.has v.0 0 i) || V.can_look v.1 i) };
-
-    ghost finds = { λ v i r. MatchOption r (M.has v.0 0 i ≡ false) (λ x. (M.has v.0 0 i ≡ true) × V.finds v.1 i x) };
-
-    #[inline(always)]
-    fn at(&self, id: Index) -> Option<T> {
-        if self.0.contains(id) {
-            return Some(self.1.at(id));
-        }
-        None
     }
 }
 

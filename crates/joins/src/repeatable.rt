@@ -203,9 +203,9 @@ where
 {
     ghost again = { J.again };
 
-    ghost ready = { λ v i. asked_follows _ _ _ _ (J.ready v.1 i) };
+    ghost ready = { λ v i. asked_follows _ _ _ _ (J.ready v.values i) };
 
-    ghost same = { λ v i r h. found_follows _ _ _ _ (λ x w. J.same v.1 i x w) h };
+    ghost same = { λ v i r h. found_follows _ _ _ _ (λ x w. J.same v.values i x w) h };
 }
 
 impl<A: RepeatableJoin> RepeatableJoin for (A,)

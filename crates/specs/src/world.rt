@@ -11,6 +11,7 @@ ghost use Rattle.specs.specs.Laws.Reached.{HasNoValue, IsNew, KeepsLiving, OnlyL
 ghost use Rattle.specs.specs.World.State.{state_of};
 ghost use Rattle.specs.specs.Job.Steps.{world_state, Maintains, Run};
 
+mod chosen;
 mod core_parts;
 mod deferred;
 mod deref;

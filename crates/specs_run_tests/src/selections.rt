@@ -36,6 +36,29 @@ fn each_kind_of_set_selects_its_members(rt: HostRuntime) -> Result<(), Fail> {
     Ok(())
 }
 
+/// A walk of a complement looks at a word for each 64 indices below the limit: these would take minutes, one by one.
+#[test]
+fn a_set_that_is_turned_and_back_is_as_fast(rt: HostRuntime) -> Result<(), Fail> {
+    assert_tale(
+        &rt,
+        rt.alloc(),
+        "
+        register pos -> ok
+        create -> 0:1
+        create -> 1:1
+        insert pos 0:1 5 -> none
+        select not not pos -> [0]
+        select not or not pos not living -> [0]
+        select not or not living pos -> [1]
+        select not and not pos not living -> [0, 1]
+        select xor not living not pos -> [1]
+        select not xor not living pos -> [1]
+        select and not pos and not not pos living -> []
+        ",
+    )?;
+    Ok(())
+}
+
 #[test]
 fn a_set_of_an_unregistered_slot_is_refused(rt: HostRuntime) -> Result<(), Fail> {
     assert_tale(

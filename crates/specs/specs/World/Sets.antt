@@ -1,10 +1,13 @@
 -- Sets of indices by expressions.
 use Rattle.std.specs.Prelude.{◌≡◌, ℕ, Bool, true, false, not, nat_lt, if◌then◌else◌, ◌&&◌, ◌||◌, Option, Some, None, is_some}
 use Rattle.hibits.specs.declared.limits.TheConstants.{INDEX_LIMIT}
+use Rattle.hibits.specs.MaskExprs.{expr_has}
+use Rattle.hibits.specs.Sets.{has_part}
 use Rattle.entities.specs.Population.{Population, lives}
 use Rattle.specs.specs.Slots.Maps.{has_value}
 use Rattle.specs.specs.Slots.Column.{Column}
 use Rattle.specs.specs.Slots.Table.{Table}
+use Rattle.specs.specs.declared.world.chosen.Chosen.{Chosen}
 use Rattle.specs.specs.declared.command.SetExpr.{SetExpr}
 use Rattle.specs.specs.declared.command.SetExpr.TheVariants.{Slot, Living, And', Or', Xor', Not'}
 use Rattle.specs.specs.declared.command.Refusal.{Refusal}
@@ -18,6 +21,10 @@ is_in (Some c) i = has_value c.values i
 -- one or the other, and not both
 abbrev pub differ : Bool → Bool → Bool
 differ a b = if a then not b else b
+
+-- whether the mask of a set has an index or, where the set is turned, lacks it
+abbrev pub is_chosen : Chosen → ℕ → Bool
+is_chosen it i = differ it.is_turned (expr_has (λ m. has_part m.now.members) it.mask 0 i)
 
 -- whether an index is in the set
 abbrev pub is_member : {K V : Type 0} → Population → Table K V → SetExpr K → ℕ → Bool
