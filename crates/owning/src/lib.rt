@@ -5,9 +5,11 @@ pub mod boxes;
 mod calls;
 pub mod cargos;
 pub mod counts;
+mod jobs;
 pub mod labels;
 pub mod names;
 mod world;
 
 pub use calls::{goods_of, named, unloaded};
+pub use jobs::Renaming;
 pub use world::{Ledger, Store, called, ledger, told};

@@ -1,7 +1,10 @@
 //! A world over components that own memory: it gives clones, keeps its own, and lets what it has go with its entities.
-use composed::{CloneStorages, Command, Empty, Entity, Has, NoJob, Reply, Storages, World, slot};
-use owning::{Store, boxes, called, cargos, names};
+use composed::{
+    CloneStorages, Command, Doing, Empty, Entity, Has, NoJob, Reply, Storages, World, slot,
+};
+use owning::{Renaming, Store, boxes, called, cargos, names};
 use std::alloc::Global;
+use std::marker::PhantomData;
 use std::process::Abort;
 use std::test::Fail;
 
@@ -14,6 +17,8 @@ enum Story {
     Goes,
     /// What has no storage comes back.
     ComesBack,
+    /// Jobs change a name.
+    Renamed,
 }
 
 /// A world with an entity that has a name.
@@ -36,7 +41,10 @@ where
 }
 
 /// How long the name of an entity is.
-fn length_of_name<N, S: Has<names::InVec, N>>(world: &World<S>, entity: Entity) -> Option<usize> {
+fn length_of_name<N, S: Has<names::InVec, N>, J: Drop>(
+    world: &World<S, J>,
+    entity: Entity,
+) -> Option<usize> {
     match world.read_storage::<names::InVec, N>() {
         Ok(names) => names.get(entity).map(|name: &names::InVec| name.0.len()),
         Err(_) => None,
@@ -114,6 +122,30 @@ fn hands_back<R: Abort, N, S: Storages + Empty + Has<names::InVec, N> + Drop>(
     Ok(())
 }
 
+/// A name is changed by one job, and emptied by the next.
+fn is_renamed<R: Abort, N, S: Storages + Empty + Has<names::InVec, N> + Drop>(
+    rt: &R,
+    alloc: Global,
+) -> Result<(), Fail> {
+    let mut world: World<S, Doing<Renaming<N>>> = World::new(alloc, S::empty(alloc));
+    world.register::<names::InVec, N>()?;
+    let name = names::InVec(String::from_str(alloc, "Ada")?);
+    let entity = called(&mut world, name).ok().ok_or("a birth")?;
+    let other = String::from_str(alloc, "Grace")?;
+    let mut parts = world.parts();
+    parts
+        .lazy
+        .exec(Doing(Renaming::Called(entity, other, PhantomData)))?;
+    parts
+        .lazy
+        .exec(Doing(Renaming::Unnamed(entity, alloc, PhantomData)))?;
+    world.maintain(1)?;
+    assert_eq!(rt; length_of_name(&world, entity), Some(5));
+    world.maintain(1)?;
+    assert_eq!(rt; length_of_name(&world, entity), Some(0));
+    Ok(())
+}
+
 /// Tells a story over whatever storages have these types.
 fn tell<R: Abort, N, C, B, S>(rt: &R, alloc: Global, story: Story) -> Result<(), Fail>
 where
@@ -128,6 +160,7 @@ where
         Story::Clone => gives_clones::<R, N, C, B, S>(rt, alloc),
         Story::Goes => lets_names_go::<R, N, C, B, S>(rt, alloc),
         Story::ComesBack => hands_back::<R, N, S>(rt, alloc),
+        Story::Renamed => is_renamed::<R, N, S>(rt, alloc),
     }
 }
 
@@ -144,6 +177,11 @@ fn a_command_gives_a_clone_and_the_name_stays(rt: HostRuntime) -> Result<(), Fai
 #[test]
 fn a_name_goes_with_its_entity(rt: HostRuntime) -> Result<(), Fail> {
     told(&rt, rt.alloc(), Story::Goes)
+}
+
+#[test]
+fn jobs_change_a_name(rt: HostRuntime) -> Result<(), Fail> {
+    told(&rt, rt.alloc(), Story::Renamed)
 }
 
 #[test]

@@ -1,5 +1,5 @@
 //! Jobs of the user's without laws of their own.
-ghost use Rattle.std.specs.Prelude.{◌≡◌, OnOk, OnErr, IfErr};
+ghost use Rattle.std.specs.Prelude.{◌≡◌, OnErr, IfErr};
 ghost use Rattle.std.specs.Fn.{CalledAtMut};
 ghost use Rattle.specs.specs.Laws.Going.{GoesOn, Lengthens};
 ghost use Rattle.specs.specs.Job.Queue.{queued};
@@ -20,8 +20,8 @@ pub trait Act<S: Held>: Sized + Drop {
         core: &mut Core<S>,
         queue: &mut LazyUpdate<S, Doing<Self>>,
     ) -> Result<(), (Self, AllocError)>
-        ensures goes_on { OnOk result (GoesOn (core_state S.table S.ids core.old) (core_state S.table S.ids core.new)) }
-        ensures lengthens { OnOk result (Lengthens (queued queue.old) (queued queue.new)) }
+        ensures goes_on { GoesOn (core_state S.table S.ids core.old) (core_state S.table S.ids core.new) }
+        ensures lengthens { Lengthens (queued queue.old) (queued queue.new) }
         ensures back { IfErr result (λ r. r.0 ≡ self) }
         ensures err_core { OnErr result (core_state S.table S.ids core.new ≡ core_state S.table S.ids core.old) }
         ensures err_queue { OnErr result (queued queue.new ≡ queued queue.old) };
