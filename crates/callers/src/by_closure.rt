@@ -50,7 +50,7 @@ pub fn go_on(ways: &mut MaskedStorage<Way>, paces: &MaskedStorage<Pace>) -> Resu
     })
 }
 
-/// The same by a cursor, with a closure that keeps what it captured: the whole map, as a function of what it was.
+/// The same by a cursor: the whole map, as a function of what it was.
 pub fn go_on_by_cursor(
     ways: &mut MaskedStorage<Way>,
     paces: &MaskedStorage<Pace>,
@@ -59,10 +59,9 @@ pub fn go_on_by_cursor(
         (left (λ i. map.contains_key ways.old.map i && map.contains_key paces.now.map i) 0) ways.old.map) }
     ensures ok { ways.old.room ≡ None → IsOk result }
 {
-    ways.join_mut(paces)
-        .update_each(|way: &mut Way, pace: &Pace| {
-            way.0 = way.0.wrapping_add(pace.0);
-        })
+    ways.join_mut(paces).for_each(|way: &mut Way, pace: &Pace| {
+        way.0 = way.0.wrapping_add(pace.0);
+    })
 }
 
 /// A step of a cursor beside any join writes nothing.

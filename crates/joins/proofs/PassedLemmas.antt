@@ -15,6 +15,7 @@ use Rattle.storages.specs.declared.event.ComponentEvent.TheVariants.{Removed}
 use Rattle.storages.specs.Finds.{got_none, got_left}
 use Rattle.storages.specs.Slot.{Slot, Becomes, IsSame}
 use Rattle.joins.specs.Keys.{keys_of}
+use Rattle.joins.specs.Over.{IsOver}
 use Rattle.joins.specs.Same.{left_same}
 use Rattle.joins.proofs.CursorLemmas.{contains_keys}
 
@@ -50,7 +51,8 @@ module _ {T : Type 0} (m n : map.FinMap nat_cmp T) (q : ℕ → ℕ → Bool) (w
   and_true false b e f = e
 
   -- a walk over the keys goes on where a key that it passed is gone
-  pub walk_without : IsWalkOf (λ l i. has_part (keys_of m) l i && q l i) 0 w → IsWalkOf (λ l i. has_part (keys_of n) l i && q l i) 0 w
+  walk_without : IsOver (λ l i. has_part (keys_of m) l i && q l i) w → IsOver (λ l i. has_part (keys_of n) l i && q l i) w
+  unfolding IsOver
   walk_without h =
       goes_on _ _ w
       (λ l i e. let b = and_parts _ _ e in and_true _ _ (fewer_parts l i b.0) b.1)
@@ -72,7 +74,7 @@ module _ {T : Type 0} (m n : map.FinMap nat_cmp T) (k : ℕ) (either : (n ≡ ma
   others_stay : n ≡ map.remove m k → (x : ℕ) → x ≢ k → map.contains_key n x ≡ map.contains_key m x
   others_stay e x ne = ap is_some (got_left m n k x ne e)
 
-  pub walk_after : (q : ℕ → ℕ → Bool) → IsWalkOf (λ l i. has_part (keys_of m) l i && q l i) 0 w → IsWalkOf (λ l i. has_part (keys_of n) l i && q l i) 0 w
+  pub walk_after : (q : ℕ → ℕ → Bool) → IsOver (λ l i. has_part (keys_of m) l i && q l i) w → IsOver (λ l i. has_part (keys_of n) l i && q l i) w
   walk_after q h =
       elim either [
         | inl e ↦ walk_without m n q w k lt (others_stay e) (ap is_some (got_none m n k e)) h

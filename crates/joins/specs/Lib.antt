@@ -16,6 +16,7 @@ pub mod Indexed
 pub mod Keys
 pub mod Next
 pub mod Optional
+pub mod Over
 pub mod Restricted
 pub mod Restricting
 pub mod Same

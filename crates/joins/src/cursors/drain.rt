@@ -2,7 +2,7 @@
 ghost use Rattle.std.specs.Prelude.{◌≡◌, ℕ, ◌&&◌, ◌||◌, not, true, false, Some, None, Ok, IfSome, IfNone, IfOk, IsOk, OnOk, OnErr, IsSome, [], ◌∷◌, MatchOption, is_some, length};
 ghost use Rattle.std.specs.FinMap as map;
 ghost use Rattle.hibits.specs.Sets.{has_part};
-ghost use Rattle.hibits.specs.WalkOf.{IsWalkOf};
+ghost use Rattle.joins.specs.Over.{IsOver, over_is_fact};
 ghost use Rattle.joins.specs.Keys.{keys_of};
 ghost use Rattle.storages.specs.Limit.{IsIndex};
 
@@ -22,7 +22,7 @@ use storages::{Component, MaskedStorage, UnprotectedStorage};
 pub struct Drain<'a, T: Component, J: Join> {
     storage: &'a mut MaskedStorage<T>,
     steps: Steps<J>,
-    ghost valid: { IsWalkOf (λ l i. has_part (keys_of storage.now.map) l i && J.Mask.has steps.mask l i) 0 steps.walk },
+    ghost valid: { IsOver (λ l i. has_part (keys_of storage.now.map) l i && J.Mask.has steps.mask l i) steps.walk } by { over_is_fact _ _ },
 }
 
 impl<'a, T: Component, J: Join> Drain<'a, T, J> {

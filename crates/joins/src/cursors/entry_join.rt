@@ -4,7 +4,7 @@ ghost use Rattle.std.specs.Borrow.{sem};
 ghost use Rattle.entities.specs.Census.{population};
 ghost use Rattle.entities.specs.Population.{lives};
 ghost use Rattle.hibits.specs.Sets.{has_part};
-ghost use Rattle.hibits.specs.WalkOf.{IsWalkOf};
+ghost use Rattle.joins.specs.Over.{IsOver, over_is_fact};
 
 use crate::cursors::steps::Steps;
 use crate::join::Join;
@@ -24,7 +24,7 @@ pub struct EntryJoin<'a, 'b, T: Component, J: Join> {
     entities: &'b EntitiesRes,
     living: BitSetOr<&'b BitSet, &'b BitSet>,
     steps: Steps<J>,
-    ghost valid: { IsWalkOf (λ l i. (has_part living.0.now.members l i || has_part living.1.now.members l i) && J.Mask.has steps.mask l i) 0 steps.walk },
+    ghost valid: { IsOver (λ l i. (has_part living.0.now.members l i || has_part living.1.now.members l i) && J.Mask.has steps.mask l i) steps.walk } by { over_is_fact _ _ },
     ghost alive: { (i : ℕ) → (has_part living.0.now.members 0 i || has_part living.1.now.members 0 i) ≡ lives (population entities.now) i },
 }
 

@@ -2,7 +2,8 @@
 ghost use Rattle.std.specs.Prelude.{◌≡◌, ℕ, Bool, ◌&&◌, ◌||◌, ◌+◌, ◌<◌, ◌≤◌, true, false, IfSome, IfNone, [], is_some, not};
 ghost use Rattle.std.specs.Option.{ForSome};
 ghost use Rattle.hibits.specs.Left.{left};
-ghost use Rattle.hibits.specs.WalkOf.{IsWalkOf, position};
+ghost use Rattle.hibits.specs.WalkOf.{position};
+ghost use Rattle.joins.specs.Over.{IsOver};
 ghost use Rattle.joins.specs.Next.{StepsTo};
 
 use crate::join::Join;
@@ -51,7 +52,7 @@ impl<J: Join> Steps<J> {
     // Before the first index.
     #[inline(always)]
     pub(crate) fn new<M: Layers>(own: &M, join: J) -> Self
-        ensures walk { IsWalkOf (λ l i. M.has own.now l i && J.Mask.has result.mask l i) 0 result.walk }
+        ensures walk { IsOver (λ l i. M.has own.now l i && J.Mask.has result.mask l i) result.walk }
         ensures position { position result.walk ≡ 0 }
         ensures current { is_some result.current ≡ false }
         ensures mask { (i : ℕ) → J.Mask.has result.mask 0 i ≡ J.has join i }
@@ -72,8 +73,8 @@ impl<J: Join> Steps<J> {
     // Goes on to the next index of both.
     #[inline(always)]
     pub(crate) fn next<M: Layers>(&mut self, own: &M) -> Option<Index>
-        requires { IsWalkOf (λ l i. M.has own.now l i && J.Mask.has self.old.mask l i) 0 self.old.walk }
-        ensures walk { IsWalkOf (λ l i. M.has own.now l i && J.Mask.has self.old.mask l i) 0 self.new.walk }
+        requires { IsOver (λ l i. M.has own.now l i && J.Mask.has self.old.mask l i) self.old.walk }
+        ensures walk { IsOver (λ l i. M.has own.now l i && J.Mask.has self.old.mask l i) self.new.walk }
         ensures items { StepsTo (λ i. M.has own.now 0 i && J.Mask.has self.old.mask 0 i) (position self.old.walk) (position self.new.walk) result }
         ensures member { IfSome result (λ i. M.has own.now 0 i ≡ true) }
         ensures below { IfSome result (λ i. i < INDEX_LIMIT) }

@@ -5,7 +5,7 @@ ghost use Rattle.std.specs.List.{Contains};
 ghost use Rattle.std.specs.FinMap as map;
 ghost use Rattle.std.specs.Option.{ForSome};
 ghost use Rattle.hibits.specs.Sets.{has_part};
-ghost use Rattle.hibits.specs.WalkOf.{IsWalkOf};
+ghost use Rattle.joins.specs.Over.{IsOver, over_is_fact};
 ghost use Rattle.joins.specs.Keys.{keys_of};
 ghost use Rattle.storages.specs.Limit.{IsIndex};
 
@@ -25,7 +25,7 @@ use storages::{Component, MaskedStorage, NotLent, UnprotectedStorage};
 pub struct WriteJoin<'a, T: Component, J: Join> {
     storage: &'a mut MaskedStorage<T>,
     steps: Steps<J>,
-    ghost valid: { IsWalkOf (λ l i. has_part (keys_of storage.now.map) l i && J.Mask.has steps.mask l i) 0 steps.walk },
+    ghost valid: { IsOver (λ l i. has_part (keys_of storage.now.map) l i && J.Mask.has steps.mask l i) steps.walk } by { over_is_fact _ _ },
     ghost there: { ForSome steps.current (λ i. map.contains_key storage.now.map i ≡ true) },
 }
 

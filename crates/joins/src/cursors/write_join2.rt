@@ -4,7 +4,7 @@ ghost use Rattle.std.specs.Borrow.{sem};
 ghost use Rattle.std.specs.FinMap as map;
 ghost use Rattle.std.specs.Option.{ForSome};
 ghost use Rattle.hibits.specs.Sets.{has_part};
-ghost use Rattle.hibits.specs.WalkOf.{IsWalkOf};
+ghost use Rattle.joins.specs.Over.{IsOver, over_is_fact};
 ghost use Rattle.joins.specs.Keys.{keys_of};
 ghost use Rattle.storages.specs.Limit.{IsIndex};
 
@@ -24,7 +24,7 @@ pub struct WriteJoin2<'a, 'b, A: Component, B: Component, J: Join> {
     first: &'a mut MaskedStorage<A>,
     second: &'b mut MaskedStorage<B>,
     steps: Steps<J>,
-    ghost valid: { IsWalkOf (λ l i. (has_part (keys_of first.now.map) l i && has_part (keys_of second.now.map) l i) && J.Mask.has steps.mask l i) 0 steps.walk },
+    ghost valid: { IsOver (λ l i. (has_part (keys_of first.now.map) l i && has_part (keys_of second.now.map) l i) && J.Mask.has steps.mask l i) steps.walk } by { over_is_fact _ _ },
     ghost in_first: { ForSome steps.current (λ i. map.contains_key first.now.map i ≡ true) },
     ghost in_second: { ForSome steps.current (λ i. map.contains_key second.now.map i ≡ true) },
 }

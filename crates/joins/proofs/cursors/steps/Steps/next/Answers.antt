@@ -1,6 +1,15 @@
-use Rattle.std.proofs.Common.{arith}
+use Rattle.std.proofs.Common.{arith, rules}
+use Rattle.joins.specs.Over.{IsOver}
 use Rattle.joins.proofs.BesideLemmas.{give_at_most, steps_from}
 use Rattle.joins.proofs.cursors.steps.Steps.next.Goals as goal
+
+pub next-found-requires : goal.next-found-requires
+unfolding IsOver
+next-found-requires g c = search rules
+
+pub returns-clause-walk : goal.returns-clause-walk
+unfolding IsOver
+returns-clause-walk g c = search rules
 
 pub returns-clause-gives : goal.returns-clause-gives
 returns-clause-gives g c = λ i r e.

@@ -7,7 +7,7 @@ use Rattle.storages.specs.declared.event.ComponentEvent.TheVariants.{Modified}
 use Rattle.storages.specs.Slot.{Slot, Becomes, IsSame}
 use Rattle.storages.specs.Meaning.{HasRoom}
 use Rattle.joins.specs.Cursor.{slot, here, rest, gives}
-use Rattle.joins.proofs.CallLemmas.{at_some, contains_first, moved_over, one_longer, room_less, one_more, all_done, called_here, stopped_here, becomes_each, kept, found, ahead_keeps}
+use Rattle.joins.proofs.CallLemmas.{at_some, moved_over, one_longer, room_less, one_more, all_done, called_here, stopped_here, becomes_each, kept, found, ahead_keeps}
 use Rattle.joins.proofs.cursors.write_join.WriteJoin.update_each.Goals as goal
 
 pub loop-id-init : goal.loop-id-init
@@ -44,17 +44,6 @@ loop-id-preserved g c =
         one_more _ _ _ done i _ _ _ _ _ _ inv.calls.2 (called_here _ _ _ i _ _ _ _ _ c.in-Ok.place c.in-Some-beside.item _ same was (inv.given i _ (next.gives i _ given)) c.f.ensures becomes),
       );
     }
-
-pub f-requires : goal.f-requires
-f-requires g c =
-    let i = c.in-Some._id in
-    let next = c.in-Some.ensures in
-    let beside = c.in-Some-beside.ensures in
-    let inv = c.loop-id.invariant in
-    let was = at_some (λ k. map.get (slot c.beside.new.self).map k ≡ Some c.in-Ok.place.now) _ i (beside.here ∙ next.here) c.in-Ok.ensures.value in
-    let given = at_some (λ k. gives c.next.new.self k c.in-Some-beside.item) _ i next.here beside.given in
-    let among = subst (λ (l : List ℕ). Contains l i) (sym next.rest) (contains_first i _) in
-    c.requires.called i _ _ (sym (inv.ahead i among) ∙ ap (λ (s : Slot _). map.get s.map i) (sym (beside.slot ∙ next.slot)) ∙ was) (inv.given i _ (next.gives i _ given))
 
 pub returns-in-Err-clause-same_reference : goal.returns-in-Err-clause-same_reference
 returns-in-Err-clause-same_reference g c =
