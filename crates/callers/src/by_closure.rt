@@ -1,11 +1,11 @@
 //! Systems by closures: what a storage ends as is known from the closure's own body.
-ghost use Rattle.std.specs.Prelude.{◌≡◌, ◌≢◌, ◌<◌, ◌&&◌, ◌+◌, ◌%◌, ◌^◌, ℕ, Bool, true, false, None, Some, Err, OnOk, IsOk, IsSome, is_some};
+ghost use Rattle.std.specs.Prelude.{◌≡◌, ◌≢◌, ◌<◌, ◌+◌, ◌%◌, ◌^◌, ℕ, Bool, true, false, None, Some, Err, OnOk, IsOk, IsSome, is_some};
 ghost use Rattle.std.specs.FinMap as map;
 ghost use Rattle.std.specs.FinSet as set;
 ghost use Rattle.std.specs.List.{fold};
 ghost use Rattle.callers.specs.Moving.{gone_on, moved, place_at};
-ghost use Rattle.hibits.specs.Left.{left};
 ghost use Rattle.joins.specs.Each.{each_becomes, each_gone};
+ghost use Rattle.joins.specs.Keys.{shared_indices};
 ghost use Rattle.storages.specs.ReadView as read;
 ghost use Rattle.storages.specs.Slot.{indices_of};
 ghost use Rattle.storages.specs.WriteView.{slot};
@@ -56,7 +56,7 @@ pub fn go_on_by_cursor(
     paces: &MaskedStorage<Pace>,
 ) -> Result<(), AllocError>
     ensures map { OnOk result (ways.new.map ≡ each_becomes (λ i w. gone_on (map.get paces.now.map i) w)
-        (left (λ i. map.contains_key ways.old.map i && map.contains_key paces.now.map i) 0) ways.old.map) }
+        (shared_indices ways.old.map (map.contains_key paces.now.map)) ways.old.map) }
     ensures ok { ways.old.room ≡ None → IsOk result }
 {
     ways.join_mut(paces).for_each(|way: &mut Way, pace: &Pace| {
@@ -145,7 +145,7 @@ pub fn all_are_by_cursor(
     other: &BitSet,
     to: Way,
 ) -> Result<(), AllocError>
-    ensures map { OnOk result (ways.new.map ≡ each_becomes (λ _ _. to) (left (λ i. map.contains_key ways.old.map i && set.contains other.now.members i) 0) ways.old.map) }
+    ensures map { OnOk result (ways.new.map ≡ each_becomes (λ _ _. to) (shared_indices ways.old.map (set.contains other.now.members)) ways.old.map) }
     ensures ok { ways.old.room ≡ None → IsOk result }
 {
     ways.join_mut(other)
@@ -156,7 +156,7 @@ pub fn all_are_by_cursor(
 
 /// All that both have is taken out, and nothing else.
 pub fn all_out(ways: &mut MaskedStorage<Way>, other: &BitSet) -> Result<(), AllocError>
-    ensures map { OnOk result (ways.new.map ≡ each_gone (left (λ i. map.contains_key ways.old.map i && set.contains other.now.members i) 0) ways.old.map) }
+    ensures map { OnOk result (ways.new.map ≡ each_gone (shared_indices ways.old.map (set.contains other.now.members)) ways.old.map) }
     ensures ok { ways.old.room ≡ None → IsOk result }
 {
     Drain::new(ways, other).for_each(|_way: Way, _index: Index| {})
@@ -216,7 +216,7 @@ pub fn sum_of(ways: &MaskedStorage<Way>) -> u32
 
 /// How many ways have a pace beside them.
 pub fn paced(ways: &MaskedStorage<Way>, paces: &MaskedStorage<Pace>) -> u32
-    ensures { result ≡ fold (λ sum _. (sum + 1) % 2 ^ 32) 0 (left (λ i. map.contains_key ways.now.map i && map.contains_key paces.now.map i) 0) }
+    ensures { result ≡ fold (λ sum _. (sum + 1) % 2 ^ 32) 0 (shared_indices ways.now.map (map.contains_key paces.now.map)) }
 {
     (ways, paces)
         .join()

@@ -1,16 +1,16 @@
 //! Change sets, joined and given up.
-ghost use Rattle.std.specs.Prelude.{◌≡◌, ◌&&◌, ℕ, Some, true, IfSome};
+ghost use Rattle.std.specs.Prelude.{◌≡◌, ℕ, Some, true, IfSome};
 ghost use Rattle.std.specs.FinMap as map;
 ghost use Rattle.std.specs.FinSet as set;
-ghost use Rattle.hibits.specs.Left.{left};
 ghost use Rattle.joins.specs.Each.{each_becomes};
+ghost use Rattle.joins.specs.Keys.{shared_indices};
 
 use hibits::{BitSet, Index};
 use joins::{ChangeSet, Join};
 
 /// Each change of an index that a set has is the same, and nothing else changed.
 pub fn all_changes_are(changes: &mut ChangeSet<u32>, other: &BitSet, value: u32)
-    ensures { changes.new ≡ each_becomes (λ _ _. value) (left (λ i. map.contains_key changes.old i && set.contains other.now.members i) 0) changes.old }
+    ensures { changes.new ≡ each_becomes (λ _ _. value) (shared_indices changes.old (set.contains other.now.members)) changes.old }
 {
     let mut cursor = changes.join_mut(other);
     while let Some(_id) = cursor.next() {
@@ -22,7 +22,7 @@ pub fn all_changes_are(changes: &mut ChangeSet<u32>, other: &BitSet, value: u32)
 
 /// Each change of an index that a set has is taken back, by a closure, with no proof file.
 pub fn all_changes_taken_back(changes: &mut ChangeSet<u32>, other: &BitSet)
-    ensures { changes.new ≡ each_becomes (λ _ _. 0) (left (λ i. map.contains_key changes.old i && set.contains other.now.members i) 0) changes.old }
+    ensures { changes.new ≡ each_becomes (λ _ _. 0) (shared_indices changes.old (set.contains other.now.members)) changes.old }
 {
     changes
         .join_mut(other)

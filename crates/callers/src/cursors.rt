@@ -1,10 +1,10 @@
 //! Storages written to beside others.
-ghost use Rattle.std.specs.Prelude.{◌≡◌, ◌&&◌, None, IfSome, IfOk, OnOk, OnErr};
+ghost use Rattle.std.specs.Prelude.{◌≡◌, None, IfSome, IfOk, OnOk, OnErr};
 ghost use Rattle.std.specs.FinMap as map;
 ghost use Rattle.std.specs.FinSet as set;
-ghost use Rattle.hibits.specs.Left.{left};
 ghost use Rattle.joins.specs.CursorOfTwo.{first_slot, second_slot};
 ghost use Rattle.joins.specs.Each.{each_becomes, each_gone};
+ghost use Rattle.joins.specs.Keys.{shared_indices};
 ghost use Rattle.storages.specs.Meaning.{HasRoom};
 ghost use Rattle.storages.specs.WriteView.{slot};
 
@@ -63,7 +63,7 @@ pub fn first_in_view_has(
 /// A health at each index of both, and nothing else changed.
 pub fn all_have(storage: &mut MaskedStorage<Health>, other: &BitSet, health: Health)
     requires { storage.old.room ≡ None }
-    ensures { storage.new.map ≡ each_becomes (λ _ _. health) (left (λ i. map.contains_key storage.old.map i && set.contains other.now.members i) 0) storage.old.map }
+    ensures { storage.new.map ≡ each_becomes (λ _ _. health) (shared_indices storage.old.map (set.contains other.now.members)) storage.old.map }
 {
     let mut cursor = storage.join_mut(other);
     while let Some(_id) = cursor.next() {
@@ -107,7 +107,7 @@ pub fn first_taken(
 
 /// All that both have is taken out, and nothing else.
 pub fn all_taken(storage: &mut MaskedStorage<Health>, other: &BitSet) -> Result<(), AllocError>
-    ensures { OnOk result (storage.new.map ≡ each_gone (left (λ i. map.contains_key storage.old.map i && set.contains other.now.members i) 0) storage.old.map) }
+    ensures { OnOk result (storage.new.map ≡ each_gone (shared_indices storage.old.map (set.contains other.now.members)) storage.old.map) }
 {
     let mut cursor = Drain::new(storage, other);
     while let Some(_id) = cursor.next() {

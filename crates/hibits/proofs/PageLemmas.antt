@@ -1,5 +1,5 @@
 -- How a row that is kept in pages follows its set.
-use Rattle.std.proofs.Common.{◌≡◌, ◌≢◌, ℕ, ◌+◌, ◌*◌, ◌/◌, ◌%◌, ◌<◌, ◌≤◌, max, Bool, true, false, ◌||◌, ◌==◌, List, [], ◌∷◌, length, get_or, replicate, refl, sym, ap, ◌∙◌, inl, inr, arith, eq-eqb, eqb-true, add-one, cond}
+use Rattle.std.proofs.Common.{◌≡◌, ◌≢◌, ℕ, ◌+◌, ◌*◌, ◌/◌, ◌%◌, ◌<◌, ◌≤◌, max, Bool, true, false, ◌||◌, ◌==◌, List, [], ◌∷◌, length, get_or, replicate, refl, sym, ap, ◌∙◌, inl, inr, arith, eq-eqb}
 use Rattle.std.specs.Int.{bit_at}
 use Rattle.std.specs.Bool.{if◌then◌else◌}
 use Rattle.std.specs.Ordering.{nat_cmp}
@@ -7,7 +7,6 @@ use Rattle.std.specs.Cmp.{nat_cmp_total, unsigned_tied}
 use Rattle.std.specs.FinSet as set
 use Rattle.std.proofs.lemmas.Bool.{cases_eq, cases_lt, ne_eqb, or_right, true≢false}
 use Rattle.std.proofs.lemmas.List.{length-replicate, get_or-replicate, get_or_past}
-use Rattle.pages.specs.Listed.{list_below, list_below-none, list_below-any}
 use Rattle.hibits.specs.declared.limits.TheConstants.{INDEX_LIMIT}
 use Rattle.hibits.specs.Counts.{count_below, count_same, count_add, count_past}
 use Rattle.hibits.specs.Rows.{row_bit, members_of, IsPaged, IsKept, SameWords}
@@ -138,38 +137,3 @@ module _ (ws page : List ℕ) (k : ℕ) (same : (j : ℕ) → j < 64 → get_or 
 pub page_len : (there : Bool) (n : ℕ) → n ≡ (if there then 64 else 0) → n ≤ 64
 page_len true n e = omega (arith, e)
 page_len false n e = omega (arith, e)
-
--- ---- how many pages are there
--- the numbers below n that are in s
-abbrev pub first_of : set.FinSet nat_cmp → ℕ → set.FinSet nat_cmp
-first_of s n = set.from_list (list_below (set.contains s) n)
-
-none_past : (s : set.FinSet nat_cmp) (n : ℕ) → set.contains (first_of s n) n ≡ false
-none_past s n = set.contains-from_list_nat (list_below (set.contains s) n) n ∙ list_below-none (set.contains s) n n (omega arith)
-
-pub one_page_more : (s : set.FinSet nat_cmp) (n : ℕ) → set.len (first_of s (n + 1)) ≡ set.len (first_of s n) + cond (set.contains s n) 1 0
-one_page_more s n =
-    ap (λ k. set.len (first_of s k)) (add-one n)
-    ∙ elim (set.contains s n) as (λ b. set.len (set.from_list {R = nat_cmp} (cond b (n ∷ list_below (set.contains s) n) (list_below (set.contains s) n))) ≡ set.len (first_of s n) + cond b 1 0) [
-      | true ↦ set.len-insert nat_cmp_total (first_of s n) n ∙ ap (λ b. cond b (set.len (first_of s n)) (set.len (first_of s n) + 1)) (none_past s n)
-      | false ↦ omega arith
-    ]
-
-pub all_pages : (s : set.FinSet nat_cmp) (m : ℕ) → ((k : ℕ) → set.contains s k ≡ true → k < m) → first_of s m ≡ s
-all_pages s m below =
-    set.same_set nat_cmp_total set.nat_cmp-IsAntisymmetric _ _ (λ q.
-    set.contains-from_list_nat (list_below (set.contains s) m) q
-    ∙ elim (cases_lt q m) [
-      | inl lt ↦ list_below-any (set.contains s) q m lt
-      | inr ge ↦
-          list_below-none (set.contains s) q m ge
-          ∙ sym (elim (set.contains s q) as (λ b. set.contains s q ≡ b → b ≡ false) [ true ↦ λ e. let b = below q e in absurd (omega (arith, b)) | false ↦ λ _. refl ] refl)
-    ])
-
-pub one_if_there : (b : Bool) (n a : ℕ) → n ≡ (if b then 64 else 0) → (n == 0) ≡ false → a + cond b 1 0 ≡ a + 1
-one_if_there true n a is some = refl
-one_if_there false n a is some = absurd (true≢false (sym (eq-eqb n 0 is) ∙ some))
-
-pub same_if_none : (b : Bool) (n a : ℕ) → n ≡ (if b then 64 else 0) → (n == 0) ≡ true → a + cond b 1 0 ≡ a
-same_if_none true n a is none = absurd (let e = eqb-true n 0 none in omega (arith, is, e))
-same_if_none false n a is none = let e : a + 0 ≡ a = omega arith in e

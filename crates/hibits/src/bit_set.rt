@@ -12,9 +12,7 @@ use crate::bit_iter::BitIter;
 use crate::error::SetError;
 use crate::layers::{BitSetLike, Layers};
 use crate::limits::{INDEX_LIMIT, Index, LAYERS};
-use crate::lowest::{
-    Lowest, bit_of_lowest, covers_lowest, make_page, ones_of_lowest, pages_of_lowest, put_lowest,
-};
+use crate::lowest::{Lowest, bit_of_lowest, covers_lowest, make_page, ones_of_lowest, put_lowest};
 use crate::reads::Reads;
 use crate::rows::{grow, update_above, wipe, word_at};
 use pages::PagedRow;
@@ -251,7 +249,7 @@ impl BitSet {
     pub fn page_count(&self) -> usize
         ensures { result ≡ set.len self.now.room }
     {
-        pages_of_lowest(&self.layer0)
+        self.layer0.count()
     }
 
     /// As many indices are walked as the set has members. It runs nothing.

@@ -75,17 +75,3 @@ pub(crate) fn ones_of_lowest(words: &Lowest) -> usize
     }
     ones
 }
-
-/// How many pages are there. It looks at each up to the last.
-pub(crate) fn pages_of_lowest(words: &Lowest) -> usize
-    requires { length words.now.items ≤ 2 ^ 32 }
-    ensures { result ≡ set.len words.now.pages }
-{
-    let mut count: usize = 0;
-    for page in 0..words.reach() as u32 {
-        if !words.page(page).is_empty() {
-            count += 1;
-        }
-    }
-    count
-}

@@ -22,6 +22,10 @@ module _ {T I R F : Type 0} (gives : ℕ → I → Type 0) (step : F → MutBor 
   CalledAtEach r [] f s f' s' = (f' ≡ f) × (s' ≡ s)
   CalledAtEach r (i ∷ is) f s f' s' = (g : F) × (m : Slot T) × CalledAt r i f s g m × CalledAtEach r is g m f' s'
 
+  -- each call that answers r leaves what `to` makes of the index and of the component
+  abbrev pub CallsLeave : R → (ℕ → T → T) → Type 0
+  CallsLeave r to = (i : ℕ) (state next : F) (x : MutBor T) (z : I) (y : MutBor T) → gives i z → step state x z r y next → y.now ≡ to i x.now
+
   -- the calls at the first of a list, and none at the index after them, nor behind it
   pub record StoppedIn (r : R) (is : List ℕ) (f : F) (s s' : Slot T) : Type 0 where
     pub done : List ℕ
@@ -64,6 +68,10 @@ module _ {T I : Type 0} (gives : ℕ → I → Type 0) (leaves : MutBor T → I 
 
   abbrev pub EachCalled : List ℕ → Slot T → Slot T → Type 0
   EachCalled is s s' = CalledAtEach gives stateless (tt {0}) is (tt {0}) s (tt {0}) s'
+
+  -- each call leaves what `to` makes of the index and of the component
+  abbrev pub EachLeaves : (ℕ → T → T) → Type 0
+  EachLeaves to = (i : ℕ) (x : MutBor T) (z : I) (y : MutBor T) → gives i z → leaves x z (tt {0}) y → y.now ≡ to i x.now
 
   abbrev pub EachStopped : List ℕ → Slot T → Slot T → Type 0
   EachStopped is s s' = StoppedIn gives stateless (tt {0}) is (tt {0}) s s'

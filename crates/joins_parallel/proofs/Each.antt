@@ -8,8 +8,9 @@ use Rattle.std.proofs.lemmas.Bool.{cases_eq, true≢false}
 use Rattle.hibits.specs.declared.limits.TheConstants.{INDEX_LIMIT}
 use Rattle.hibits.specs.Left.{passing, left}
 use Rattle.storages.specs.Finds.{got_put, got_kept}
-use Rattle.joins_parallel.specs.Replacing.{put_all, or_else, Updates, Remakes, UpdatedAt, RemadeAt, both_have}
+use Rattle.joins_parallel.specs.Replacing.{put_all, or_else, Updates, Remakes, UpdatedAt, RemadeAt}
 use Rattle.joins.specs.Indexed.{Indexed}
+use Rattle.joins.specs.Keys.{shared_indices}
 use Rattle.std.specs.Borrow.{Bor}
 use Rattle.storages.specs.Slot.{Slot}
 
@@ -83,7 +84,7 @@ past_right true b e = e
 past_right false b e = refl
 
 module _ {T I : Type 0} (s s' : Slot T) (p : ℕ → Bool) (gives : ℕ → I → Type 0) where
-  pub update_each : (answers : Bor T → I → Option T → Type 0) → Updates s s' (both_have s p) gives answers
+  pub update_each : (answers : Bor T → I → Option T → Type 0) → Updates s s' (shared_indices s.map p) gives answers
       → (i : ℕ) → i < INDEX_LIMIT → map.contains_key s.map i ≡ true → p i ≡ true → UpdatedAt s s' i gives answers
   update_each answers u i lt has is =
       let f = found_each (λ k y. (x : Bor T) × (z : I) × (map.get s.map k ≡ Some x.now) × gives k z × answers x z y) (λ k. map.contains_key s.map k && p k) i u.values s.map lt (both _ _ has is) u.asked in
@@ -97,18 +98,18 @@ module _ {T I : Type 0} (s s' : Slot T) (p : ℕ → Bool) (gives : ℕ → I �
         becomes = ap (λ (m : map.FinMap nat_cmp T). map.get m i) u.replaces.map ∙ f.2;
       }
 
-  pub update_others : (answers : Bor T → I → Option T → Type 0) → Updates s s' (both_have s p) gives answers → (i : ℕ) → p i ≡ false → map.get s'.map i ≡ map.get s.map i
+  pub update_others : (answers : Bor T → I → Option T → Type 0) → Updates s s' (shared_indices s.map p) gives answers → (i : ℕ) → p i ≡ false → map.get s'.map i ≡ map.get s.map i
   update_others answers u i is =
       ap (λ (m : map.FinMap nat_cmp T). map.get m i) u.replaces.map ∙ elsewhere (λ k. map.contains_key s.map k && p k) i u.values s.map (past_right _ _ is)
 
-  pub remake_others : (answers : Indexed T → I → Option T → Type 0) → Remakes s s' (both_have s p) gives answers → (i : ℕ) → p i ≡ false → map.get s'.map i ≡ map.get s.map i
+  pub remake_others : (answers : Indexed T → I → Option T → Type 0) → Remakes s s' (shared_indices s.map p) gives answers → (i : ℕ) → p i ≡ false → map.get s'.map i ≡ map.get s.map i
   remake_others answers u i is =
       ap (λ (m : map.FinMap nat_cmp T). map.get m i) u.replaces.map ∙ elsewhere (λ k. map.contains_key s.map k && p k) i u.values s.map (past_right _ _ is)
 
   of_paired : (answers : Indexed T → I → Option T → Type 0) (x : Indexed T) (i : ℕ) (z : I) (y : Option T) → x.slot ≡ s → x.index ≡ i → answers x z y → answers (record { slot = s; index = i }) z y
   of_paired answers x i z y e f h = subst (λ (k : ℕ). answers (record { slot = s; index = k }) z y) f (subst (λ (t : Slot T). answers (record { slot = t; index = x.index }) z y) e h)
 
-  pub remake_each : (answers : Indexed T → I → Option T → Type 0) → Remakes s s' (both_have s p) gives answers
+  pub remake_each : (answers : Indexed T → I → Option T → Type 0) → Remakes s s' (shared_indices s.map p) gives answers
       → (i : ℕ) → i < INDEX_LIMIT → map.contains_key s.map i ≡ true → p i ≡ true → RemadeAt s s' i gives answers
   remake_each answers u i lt has is =
       let f = found_each (λ k y. (x : Indexed T) × (z : I) × (x.slot ≡ s) × (x.index ≡ k) × gives k z × answers x z y) (λ k. map.contains_key s.map k && p k) i u.values s.map lt (both _ _ has is) u.asked in

@@ -1,8 +1,17 @@
 -- Components that are changed in their places.
-use Rattle.std.specs.Prelude.{◌≡◌, ℕ, Some}
+use Rattle.std.specs.Prelude.{◌≡◌, ℕ, List, Some, true}
 use Rattle.std.specs.FinMap as map
 use Rattle.std.specs.Borrow.{MutBor}
+use Rattle.hibits.specs.Rows.{row_bit}
 use Rattle.storages.specs.Slot.{Slot}
+
+-- a fact of each member by a row of words
+abbrev pub EachMember : List ℕ → (ℕ → Type 0) → Type 0
+EachMember members P = (i : ℕ) → row_bit members i ≡ true → P i
+
+-- a call may be made with x and with what stands beside it
+abbrev pub MayBeCalled : {T I : Type 0} → (I → Type 0) → (MutBor T → I → Type 0) → T → Type 0
+MayBeCalled beside pre x = (component : MutBor _) (item : _) → component.now ≡ x → beside item → pre component item
 
 module _ {T I : Type 0} (gives : ℕ → I → Type 0) (leaves : MutBor T → I → Unit {0} → MutBor T → Type 0) where
   -- a call with what stands at the index, and a `&mut` to x, may leave y there

@@ -1,8 +1,7 @@
 -- Replacements of components, one after another.
-use Rattle.std.specs.Prelude.{◌≡◌, ℕ, ◌+◌, List, [], ◌∷◌, Option, Some, None, is_some, Bool, ◌&&◌, length}
+use Rattle.std.specs.Prelude.{◌≡◌, ℕ, ◌+◌, List, [], ◌∷◌, Option, Some, None, is_some, length}
 use Rattle.std.specs.List.{AllZip}
 use Rattle.std.specs.Borrow.{Bor}
-use Rattle.hibits.specs.Left.{left}
 use Rattle.joins.specs.Indexed.{Indexed}
 use Rattle.std.specs.FinMap as map
 use Rattle.std.specs.Ordering.{nat_cmp}
@@ -83,17 +82,25 @@ module _ {T : Type 0} where
     pub needs_inner : is_some s'.inner_room ≡ is_some s.inner_room
     pub inner_room : (n : ℕ) → HasRoom s.inner_room (n + length ps) → HasRoom s'.inner_room n
 
+-- what was answered at an index, of its component and of what stands there beside it
+abbrev pub MadeAt : {T I : Type 0} → Slot T → (ℕ → I → Type 0) → (Bor T → I → Option T → Type 0) → ℕ → Option T → Type 0
+MadeAt s gives answers i y = (x : Bor _) × (z : _) × (map.get s.map i ≡ Some x.now) × gives i z × answers x z y
+
+-- what was answered of the storage paired with an index, and of what stands there beside it
+abbrev pub MadeOfPaired : {T I : Type 0} → Slot T → (ℕ → I → Type 0) → (Indexed T → I → Option T → Type 0) → ℕ → Option T → Type 0
+MadeOfPaired s gives answers i y = (x : Indexed _) × (z : _) × (x.slot ≡ s) × (x.index ≡ i) × gives i z × answers x z y
+
 -- Each component at an index of a list, and what stands there beside it, was asked for a value, and each value that there was is the
 -- component now, by one replacement after another.
 pub record Updates {T I : Type 0} (s s' : Slot T) (is : List ℕ) (gives : ℕ → I → Type 0) (answers : Bor T → I → Option T → Type 0) : Type 0 where
   pub values : List (Option T)
-  pub asked : AllZip (λ i y. (x : Bor T) × (z : I) × (map.get s.map i ≡ Some x.now) × gives i z × answers x z y) is values
+  pub asked : AllZip (MadeAt s gives answers) is values
   pub replaces : Replaces s s' is values
 
 -- the same, where the storage paired with the index was asked
 pub record Remakes {T I : Type 0} (s s' : Slot T) (is : List ℕ) (gives : ℕ → I → Type 0) (answers : Indexed T → I → Option T → Type 0) : Type 0 where
   pub values : List (Option T)
-  pub asked : AllZip (λ i y. (x : Indexed T) × (z : I) × (x.slot ≡ s) × (x.index ≡ i) × gives i z × answers x z y) is values
+  pub asked : AllZip (MadeOfPaired s gives answers) is values
   pub replaces : Replaces s s' is values
 
 -- one index of an update: what was made of its component and of what stands beside it is its component now, or that stayed
@@ -113,7 +120,3 @@ pub record RemadeAt {T I : Type 0} (s s' : Slot T) (i : ℕ) (gives : ℕ → I 
   pub beside : gives i item
   pub answer : answers (record { slot = s; index = i }) item value
   pub becomes : map.get s'.map i ≡ or_else value (map.get s.map i)
-
--- the indices that have a component and that another test passes
-abbrev pub both_have : {T : Type 0} → Slot T → (ℕ → Bool) → List ℕ
-both_have s p = left (λ i. map.contains_key s.map i && p i) 0

@@ -4,8 +4,8 @@ ghost use Rattle.std.specs.Borrow.{MutBor};
 ghost use Rattle.std.specs.FinMap as map;
 ghost use Rattle.hibits.specs.Left.{left};
 ghost use Rattle.hibits.specs.Rows.{row_bit};
-ghost use Rattle.joins_parallel.specs.InPlace.{MayLeave, ChangedAt, OnlyChanges};
-ghost use Rattle.joins_parallel.specs.Replacing.{both_have};
+ghost use Rattle.joins.specs.Keys.{shared_indices};
+ghost use Rattle.joins_parallel.specs.InPlace.{EachMember, MayBeCalled, MayLeave, ChangedAt, OnlyChanges};
 
 use crate::pieces::LEAST_SHARED;
 use crate::sharing::change_shared;
@@ -69,13 +69,13 @@ fn change_each<T: Send, I, V: Lookup<I> + Sync, F: Fn(&mut T, I) + Sync>(
 )
     requires threads { 0 < threads }
     requires called { (i : ℕ) (x : MutBor T) (z : I) → i < length slice.old → row_bit members.now i ≡ true → x.now ≡ slice_index_or slice.old i x.now → V.finds values.now i z → F.pre f.now x z }
-    requires ready { (i : ℕ) → row_bit members.now i ≡ true → V.can_look values.now i ≡ true }
-    requires below { (i : ℕ) → row_bit members.now i ≡ true → i < INDEX_LIMIT }
+    requires ready { EachMember members.now (λ i. V.can_look values.now i ≡ true) }
+    requires below { EachMember members.now (λ i. i < INDEX_LIMIT) }
     ensures changed { (i : ℕ) (d : T) → i < length slice.old → row_bit members.now i ≡ true → MayLeave (V.finds values.now) (F.post f.now) i (slice_index_or slice.old i d) (slice_index_or slice.new i d) }
     ensures others { (i : ℕ) (d : T) → i < length slice.old → row_bit members.now i ≡ false → slice_index_or slice.new i d ≡ slice_index_or slice.old i d }
 {
     let change = |place: usize, component: &mut T|
-        requires { (row_bit members.now place ≡ true → (x : MutBor T) (z : I) → x.now ≡ component.now → V.finds values.now place z → F.pre f.now x z) × ((i : ℕ) → row_bit members.now i ≡ true → V.can_look values.now i ≡ true) × ((i : ℕ) → row_bit members.now i ≡ true → i < INDEX_LIMIT) }
+        requires { (row_bit members.now place ≡ true → MayBeCalled (V.finds values.now place) (F.pre f.now) component.now) × EachMember members.now (λ i. V.can_look values.now i ≡ true) × EachMember members.now (λ i. i < INDEX_LIMIT) }
         ensures changed { row_bit members.entry.now place ≡ true → MayLeave (V.finds values.entry.now) (F.post f.entry.now) place component.entry.now component.exit.now }
         ensures others { row_bit members.entry.now place ≡ false → component.exit.now ≡ component.entry.now }
     {
@@ -108,7 +108,7 @@ where
     ensures others { OnOk result ((i : ℕ) → J.has join i ≡ false → map.get storage.new.map i ≡ map.get storage.old.map i) }
     ensures rest { OnOk result (OnlyChanges storage.old storage.new) }
     ensures err { OnErr result (storage.new ≡ storage.old) }
-    ensures idle { both_have storage.old (J.has join) ≡ [] → IsOk result }
+    ensures idle { shared_indices storage.old.map (J.has join) ≡ [] → IsOk result }
 {
     let (mask, values) = join.open();
     let members = row_of(rt.alloc(), BitSetAnd(storage.mask(), mask))?;

@@ -2,9 +2,9 @@
 ghost use Rattle.std.specs.Prelude.{◌≡◌, ◌<◌, ℕ, true, false, [], List, IfOk, IsOk, IsOkAnd, OnOk, OnErr, Option, flat_map};
 ghost use Rattle.std.specs.FinMap as map;
 ghost use Rattle.std.specs.List.{AllZip, All};
-ghost use Rattle.hibits.specs.Left.{left};
 ghost use Rattle.joins.specs.Indexed.{Indexed};
-ghost use Rattle.joins_parallel.specs.Replacing.{Remakes, RemadeAt, both_have, given, at_index};
+ghost use Rattle.joins.specs.Keys.{shared_indices};
+ghost use Rattle.joins_parallel.specs.Replacing.{Remakes, RemadeAt, MadeOfPaired, given, at_index};
 ghost use Rattle.joins_parallel.specs.Cutting.{listed, is_at_words};
 ghost use Rattle.storages.specs.Slot.{IsSame};
 
@@ -40,7 +40,7 @@ where
     T::Storage: Sync,
     requires present { All (λ i. map.contains_key storage.now.map i ≡ true) (listed cut.now) }
     requires ready { All (λ i. V.can_look values.now i ≡ true) (listed cut.now) }
-    ensures made { IfOk result (λ v. (ys : List (Option T)) × AllZip (λ i y. (x : Indexed T) × (z : I) × (x.slot ≡ storage.now) × (x.index ≡ i) × V.finds values.now i z × F.makes f.now x z y) (listed cut.now) ys × (flat_map (λ w. w.items) v.items ≡ given (listed cut.now) ys)) }
+    ensures made { IfOk result (λ v. (ys : List (Option T)) × AllZip (MadeOfPaired storage.now (V.finds values.now) (F.makes f.now)) (listed cut.now) ys × (flat_map (λ w. w.items) v.items ≡ given (listed cut.now) ys)) }
     ensures idle { is_at_words cut.now ≡ false → listed cut.now ≡ [] → IsOkAnd result (λ v. v.items ≡ []) }
 {
     let remake = |id: Index| -> Option<(Index, T)>
@@ -71,11 +71,11 @@ pub fn par_restrict_mut<
 where
     T::Storage: Sync,
     J::Value: Lookup<J::Type> + Sync,
-    ensures ok { OnOk result (Remakes storage.old storage.new (both_have storage.old (J.has join)) (J.gives join) (F.makes f)) }
+    ensures ok { OnOk result (Remakes storage.old storage.new (shared_indices storage.old.map (J.has join)) (J.gives join) (F.makes f)) }
     ensures each { OnOk result ((i : ℕ) → i < INDEX_LIMIT → map.contains_key storage.old.map i ≡ true → J.has join i ≡ true → RemadeAt storage.old storage.new i (J.gives join) (F.makes f)) }
     ensures others { OnOk result ((i : ℕ) → J.has join i ≡ false → map.get storage.new.map i ≡ map.get storage.old.map i) }
     ensures err { OnErr result (IsSame storage.old storage.new) }
-    ensures idle { both_have storage.old (J.has join) ≡ [] → IsOk result }
+    ensures idle { shared_indices storage.old.map (J.has join) ≡ [] → IsOk result }
 {
     let alloc = rt.alloc();
     let (mask, values) = join.open();

@@ -3,13 +3,13 @@ ghost use Rattle.std.specs.Prelude.{◌≡◌, ◌<◌, ◌≤◌, ◌^◌, ℕ,
 ghost use Rattle.std.specs.Borrow.{Bor};
 ghost use Rattle.std.specs.FinMap as map;
 ghost use Rattle.std.specs.List.{AllZip, All};
-ghost use Rattle.hibits.specs.Left.{left};
 ghost use Rattle.storages.specs.declared.event.ComponentEvent.TheVariants.{Modified};
 ghost use Rattle.storages.specs.declared.event.ComponentEvent.{ComponentEvent};
 ghost use Rattle.storages.specs.Meaning.{HasRoom};
 ghost use Rattle.storages.specs.Slot.{IsSame, Becomes};
+ghost use Rattle.joins.specs.Keys.{shared_indices};
 ghost use Rattle.joins_parallel.specs.Cutting.{listed, is_at_words};
-ghost use Rattle.joins_parallel.specs.Replacing.{Updates, UpdatedAt, both_have, given, at_index, PutsEach};
+ghost use Rattle.joins_parallel.specs.Replacing.{Updates, UpdatedAt, MadeAt, given, at_index, PutsEach};
 
 use crate::cut::{Cut, cut_of};
 use crate::pieces::{ask_each, values_count};
@@ -84,7 +84,7 @@ where
     requires called { All (λ i. (x : Bor T) (z : I) → map.get storage.now.map i ≡ Some x.now → V.finds values.now i z → F.pre f.now x z) (listed cut.now) }
     requires present { All (λ i. map.contains_key storage.now.map i ≡ true) (listed cut.now) }
     requires ready { All (λ i. V.can_look values.now i ≡ true) (listed cut.now) }
-    ensures made { IfOk result (λ v. (ys : List (Option T)) × AllZip (λ i y. (x : Bor T) × (z : I) × (map.get storage.now.map i ≡ Some x.now) × V.finds values.now i z × F.post f.now x z y) (listed cut.now) ys × (flat_map (λ w. w.items) v.items ≡ given (listed cut.now) ys)) }
+    ensures made { IfOk result (λ v. (ys : List (Option T)) × AllZip (MadeAt storage.now (V.finds values.now) (F.post f.now)) (listed cut.now) ys × (flat_map (λ w. w.items) v.items ≡ given (listed cut.now) ys)) }
     ensures idle { is_at_words cut.now ≡ false → listed cut.now ≡ [] → IsOkAnd result (λ v. v.items ≡ []) }
 {
     let make = |id: Index| -> Option<(Index, T)>
@@ -122,11 +122,11 @@ where
     T::Storage: Sync,
     J::Value: Lookup<J::Type> + Sync,
     requires called { (i : ℕ) (x : Bor T) (z : J.Type) → map.get storage.old.map i ≡ Some x.now → J.has join i ≡ true → J.gives join i z → F.pre f x z }
-    ensures ok { OnOk result (Updates storage.old storage.new (both_have storage.old (J.has join)) (J.gives join) (F.post f)) }
+    ensures ok { OnOk result (Updates storage.old storage.new (shared_indices storage.old.map (J.has join)) (J.gives join) (F.post f)) }
     ensures each { OnOk result ((i : ℕ) → i < INDEX_LIMIT → map.contains_key storage.old.map i ≡ true → J.has join i ≡ true → UpdatedAt storage.old storage.new i (J.gives join) (F.post f)) }
     ensures others { OnOk result ((i : ℕ) → J.has join i ≡ false → map.get storage.new.map i ≡ map.get storage.old.map i) }
     ensures err { OnErr result (IsSame storage.old storage.new) }
-    ensures idle { both_have storage.old (J.has join) ≡ [] → IsOk result }
+    ensures idle { shared_indices storage.old.map (J.has join) ≡ [] → IsOk result }
 {
     let alloc = rt.alloc();
     let (mask, values) = join.open();

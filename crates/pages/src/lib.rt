@@ -4,6 +4,7 @@
 mod item;
 mod page_table;
 mod paged_row;
+mod row_count;
 mod table;
 
 pub use item::Item;

@@ -194,6 +194,15 @@ impl<T: Item, const LEN: u32> PagedRow<T, LEN> {
         self.behind.fill();
     }
 
+    /// Gives all pages up, with their memory, so that every place reads as the filler.
+    pub fn clear(&mut self)
+        ensures items { self.new.items ≡ [] }
+        ensures pages { self.new.pages ≡ set.empty }
+    {
+        let alloc = *self.row.allocator();
+        *self = PagedRow::new(alloc);
+    }
+
     /// No page from this one on is there: pages are gone over by their numbers below it.
     #[inline(always)]
     pub fn reach(&self) -> usize

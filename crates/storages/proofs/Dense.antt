@@ -6,6 +6,7 @@ use Rattle.std.specs.Option.{is_none}
 use Rattle.std.proofs.lemmas.Grind.{common_steps}
 use Rattle.std.proofs.lemmas.Bool.Decides.{nat_tests}
 use Rattle.std.proofs.lemmas.Bool.{false≢true, or_right, cases_lt}
+use Rattle.std.proofs.lemmas.List.{length-set}
 use Rattle.std.proofs.lemmas.Option.{gets, get_or_from_slice_get, slice_get_within, slice_get-get_or}
 use Rattle.std.specs.Ordering.{nat_cmp}
 use Rattle.std.specs.Cmp.{nat_cmp_total, unsigned_tied}
@@ -26,6 +27,10 @@ get-push_last xs x = grind (arith, common_steps, gets)
 
 pub get-push_other : {X : Type 0} (xs : List X) (x : X) (k : ℕ) → k ≢ length xs → slice_get (xs ++ x ∷ []) k ≡ slice_get xs k
 get-push_other xs x k n = grind (arith, common_steps, gets)
+
+-- a list that is written to is as long as it was
+pub within-set : (xs ys : List ℕ) (i x n : ℕ) → ys ≡ slice_set xs i x → length xs ≤ n → length ys ≤ n
+within-set xs ys i x n is le = let e = ap length is ∙ length-set xs i x in omega (arith, e, le)
 
 pub get-set_same : {X : Type 0} (xs : List X) (i : ℕ) (x : X) → i < length xs → slice_get (slice_set xs i x) i ≡ Some x
 get-set_same xs i x h = grind (arith, common_steps, gets)

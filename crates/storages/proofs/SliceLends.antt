@@ -1,7 +1,7 @@
 -- On components that are lent as a slice.
-use Rattle.std.proofs.Common.{◌≡◌, ℕ, Bool, true, false, cond, List, length, refl, ap, sym, ◌∙◌, arith, None, is_some, IsTrue, Global, ◌⊎◌, inl, inr}
+use Rattle.std.proofs.Common.{◌≡◌, ℕ, ◌^◌, ◌≤◌, Bool, true, false, cond, List, length, refl, ap, sym, ◌∙◌, arith, None, is_some, IsTrue, Global, ◌⊎◌, inl, inr}
 use Rattle.std.specs.Prelude.{Option, Vec, vec_len}
-use Rattle.std.specs.Coded.{Coded-set, coded_bool, coded_ℕ, coded_option}
+use Rattle.std.specs.Coded.{Coded-set, coded_bool, coded_ℕ, coded_option, le_prop}
 use Rattle.std.specs.List.{refill}
 use Rattle.std.specs.FinMap as map
 use Rattle.std.specs.FinSet as set
@@ -32,9 +32,9 @@ pub ArePaged-prop : (len : ℕ) (ids : List ℕ) (places : Paged ℕ) (a b : Are
 ArePaged-prop len ids places a b = λ j. record { paged = λ k i e. Coded-set coded_bool _ _ (a.paged k i e) (b.paged k i e) j }
 
 -- a storage is told by its lists
-pub same-dense : {T : Type 0} (values : Vec T Global) (ids : Vec ℕ Global) (places : Paged ℕ) (a b : IsConsistent (vec_len values) ids.items places.items) (p q : ArePaged PAGE_LEN ids.items places)
-    → ◌≡◌ {A = DenseVecStorage T} (record { values = values; ids = ids; places = places; consistent = a; paged = p }) (record { values = values; ids = ids; places = places; consistent = b; paged = q })
-same-dense values ids places a b p q = λ j. record { values = values; ids = ids; places = places; consistent = IsConsistent-prop _ _ _ a b j; paged = ArePaged-prop _ _ _ p q j }
+pub same-dense : {T : Type 0} (values : Vec T Global) (ids : Vec ℕ Global) (places : Paged ℕ) (a b : IsConsistent (vec_len values) ids.items places.items) (p q : ArePaged PAGE_LEN ids.items places) (v w : length places.items ≤ 2 ^ 32)
+    → ◌≡◌ {A = DenseVecStorage T} (record { values = values; ids = ids; places = places; consistent = a; paged = p; within = v }) (record { values = values; ids = ids; places = places; consistent = b; paged = q; within = w })
+same-dense values ids places a b p q v w = λ j. record { values = values; ids = ids; places = places; consistent = IsConsistent-prop _ _ _ a b j; paged = ArePaged-prop _ _ _ p q j; within = le_prop v w j }
 
 module _ {T : Type 0} (n : ℕ) (ids places : List ℕ) (C : IsConsistent n ids places) where
   -- each value stands beside its index

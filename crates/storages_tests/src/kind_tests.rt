@@ -92,11 +92,7 @@ fn the_last_is_moved<R: Abort, S: Sliced>(rt: &R, shelf: &mut S) {
 
 // The values of indices that are far apart have no gaps, and each has a page, which goes as all do.
 fn far_indices_lie_close<R: Abort, S: Doubled>(rt: &R, shelf: &mut S) {
-    put_all(
-        rt,
-        shelf,
-        &[(0, 1), (4095, 2), (4096, 3), (INDEX_LIMIT - 1, 4)],
-    );
+    put_all(rt, shelf, &[(0, 1), (4095, 2), (4096, 3), (16_777_215, 4)]);
     equal!(rt; shelf.pages(), 4);
     gives!(rt; shelf.take_out(4095), Some(2));
     holds!(rt; shelf.has_slice(&[1, 4, 3]));
@@ -109,6 +105,9 @@ fn far_indices_lie_close<R: Abort, S: Doubled>(rt: &R, shelf: &mut S) {
     holds!(rt; shelf.clear_all());
     holds!(rt; shelf.has_slice(&[]));
     equal!(rt; shelf.pages(), 0);
+    put_all(rt, shelf, &[(INDEX_LIMIT - 1, 6), (0, 7)]);
+    holds!(rt; shelf.has_slice(&[6, 7]));
+    holds!(rt; shelf.clear_all());
 }
 
 // Indices of one page share it, and one beside it has another. A page is made again after all have gone.

@@ -6,7 +6,8 @@ ghost use Rattle.std.specs.FinMap as map;
 ghost use Rattle.std.specs.Option.{ForSome};
 ghost use Rattle.hibits.specs.Sets.{has_part};
 ghost use Rattle.joins.specs.Over.{IsOver, over_is_fact};
-ghost use Rattle.joins.specs.Keys.{keys_of};
+ghost use Rattle.joins.specs.Keys.{keys_of, shared_indices};
+ghost use Rattle.joins.specs.Visits.{CallsLeave};
 ghost use Rattle.storages.specs.Limit.{IsIndex};
 
 use crate::change_set::ChangeSet;
@@ -26,7 +27,6 @@ pub struct ChangeJoin<'a, T: Drop, J: Join> {
 }
 
 impl<'a, T: Combine + Drop, J: Join> ChangeJoin<'a, T, J> {
-    ghost use Rattle.hibits.specs.Left.{left};
     ghost use Rattle.joins.specs.ChangeCursor.{values, changes_name, here, is_given, rest, gives, lends_value};
     ghost use Rattle.joins.specs.ChangeVisits.{ValuesCalled, ValueChanged};
     ghost use Rattle.joins.specs.Each.{each_becomes};
@@ -36,7 +36,7 @@ impl<'a, T: Combine + Drop, J: Join> ChangeJoin<'a, T, J> {
     pub fn new(changes: &'a mut ChangeSet<T>, join: J) -> Self
         ensures same_reference { changes_name result ≡ changes.entry.ghost_name }
         ensures values { values result ≡ changes.old }
-        ensures rest { rest result ≡ left (λ i. map.contains_key changes.old i && J.has join i) 0 }
+        ensures rest { rest result ≡ shared_indices changes.old (J.has join) }
         ensures here { here result ≡ None }
         ensures gives { (i : ℕ) (r : J.Type) → gives result i r → J.gives join i r }
     {
@@ -107,7 +107,7 @@ impl<'a, T: Combine + Drop, J: Join> ChangeJoin<'a, T, J> {
         ensures calls { (last : F) × ValuesCalled (gives self.old) F.step (rest self.old) f (values self.old) last (values self.new) }
         ensures each { (i : ℕ) → Contains (rest self.old) i → ValueChanged (gives self.old) F.step (values self.old) (values self.new) i }
         ensures others { (i : ℕ) → (Contains (rest self.old) i → ⊥) → map.get (values self.new) i ≡ map.get (values self.old) i }
-        ensures becomes { (to : ℕ → T → T) → ((i : ℕ) (state next : F) (x : MutBor T) (z : J.Type) (y : MutBor T) → gives self.old i z → F.step state x z tt y next → y.now ≡ to i x.now) → values self.new ≡ each_becomes to (rest self.old) (values self.old) }
+        ensures becomes { (to : ℕ → T → T) → CallsLeave (gives self.old) F.step tt to → values self.new ≡ each_becomes to (rest self.old) (values self.old) }
     {
         while let Some(_id) = self.next() {
             let Some(item) = self.beside() else {
@@ -122,7 +122,6 @@ impl<'a, T: Combine + Drop, J: Join> ChangeJoin<'a, T, J> {
 }
 
 impl<T: Combine + Drop> ChangeSet<T> {
-    ghost use Rattle.hibits.specs.Left.{left};
     ghost use Rattle.joins.specs.ChangeCursor.{values, changes_name, here, rest, gives};
 
     /// A cursor before the first index that this and the join share, which lends the values for writing.
@@ -130,7 +129,7 @@ impl<T: Combine + Drop> ChangeSet<T> {
     pub fn join_mut<J: Join>(&mut self, join: J) -> ChangeJoin<'_, T, J>
         ensures same_reference { changes_name result ≡ self.entry.ghost_name }
         ensures values { values result ≡ self.old }
-        ensures rest { rest result ≡ left (λ i. map.contains_key self.old i && J.has join i) 0 }
+        ensures rest { rest result ≡ shared_indices self.old (J.has join) }
         ensures here { here result ≡ None }
         ensures gives { (i : ℕ) (r : J.Type) → gives result i r → J.gives join i r }
     {

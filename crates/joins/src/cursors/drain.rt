@@ -3,7 +3,7 @@ ghost use Rattle.std.specs.Prelude.{◌≡◌, ℕ, ◌&&◌, ◌||◌, not, tru
 ghost use Rattle.std.specs.FinMap as map;
 ghost use Rattle.hibits.specs.Sets.{has_part};
 ghost use Rattle.joins.specs.Over.{IsOver, over_is_fact};
-ghost use Rattle.joins.specs.Keys.{keys_of};
+ghost use Rattle.joins.specs.Keys.{keys_of, shared_indices};
 ghost use Rattle.storages.specs.Limit.{IsIndex};
 
 use crate::cursors::steps::Steps;
@@ -26,7 +26,6 @@ pub struct Drain<'a, T: Component, J: Join> {
 }
 
 impl<'a, T: Component, J: Join> Drain<'a, T, J> {
-    ghost use Rattle.hibits.specs.Left.{left};
     ghost use Rattle.joins.specs.Draining.{slot, storage_name, here, component, is_given, rest, gives};
     ghost use Rattle.joins.specs.Each.{each_gone};
     ghost use Rattle.joins.specs.Taking.{TakenAtEach, TakingStopped};
@@ -38,7 +37,7 @@ impl<'a, T: Component, J: Join> Drain<'a, T, J> {
     pub fn new(storage: &'a mut MaskedStorage<T>, join: J) -> Self
         ensures same_reference { storage_name result ≡ storage.entry.ghost_name }
         ensures slot { slot result ≡ storage.old }
-        ensures rest { rest result ≡ left (λ i. map.contains_key storage.old.map i && J.has join i) 0 }
+        ensures rest { rest result ≡ shared_indices storage.old.map (J.has join) }
         ensures here { here result ≡ None }
         ensures gives { (i : ℕ) (r : J.Type) → gives result i r → J.gives join i r }
     {
@@ -51,7 +50,7 @@ impl<'a, T: Component, J: Join> Drain<'a, T, J> {
     pub fn join_with<K: Join>(self, join: K) -> Drain<'a, T, K>
         ensures same_reference { storage_name result ≡ storage_name self.entry }
         ensures slot { slot result ≡ slot self.entry }
-        ensures rest { rest result ≡ left (λ i. map.contains_key (slot self.entry).map i && K.has join i) 0 }
+        ensures rest { rest result ≡ shared_indices (slot self.entry).map (K.has join) }
         ensures here { here result ≡ None }
         ensures gives { (i : ℕ) (r : K.Type) → gives result i r → K.gives join i r }
     {

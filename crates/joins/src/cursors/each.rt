@@ -1,10 +1,10 @@
 //! Loops over a storage that is written to beside a join, by calls of a closure.
-ghost use Rattle.std.specs.Prelude.{◌≡◌, ◌≢◌, ◌<◌, ◌&&◌, ℕ, true, false, Some, None, Ok, Err, OnOk, OnErr, IsOk, is_some, length};
+ghost use Rattle.std.specs.Prelude.{◌≡◌, ◌≢◌, ◌<◌, ℕ, true, false, Some, None, Ok, Err, OnOk, OnErr, IsOk, is_some, length};
 ghost use Rattle.std.specs.Borrow.{MutBor};
 ghost use Rattle.std.specs.FinMap as map;
-ghost use Rattle.hibits.specs.Left.{left};
 ghost use Rattle.joins.specs.Each.{each_becomes};
-ghost use Rattle.joins.specs.Visits.{CalledAtEach, ChangedAt, StoppedIn, RefusedIn, EachCalled, ChangedOnce, EachStopped};
+ghost use Rattle.joins.specs.Keys.{shared_indices};
+ghost use Rattle.joins.specs.Visits.{CalledAtEach, ChangedAt, StoppedIn, RefusedIn, EachCalled, ChangedOnce, EachStopped, CallsLeave, EachLeaves};
 ghost use Rattle.storages.specs.Meaning.{HasRoom};
 ghost use Rattle.storages.specs.Slot.{Slot};
 ghost use Rattle.storages.specs.WriteView as view;
@@ -39,10 +39,10 @@ pub trait ForEach<T: Component> {
         ensures each { OnOk result ((i : ℕ) → i < INDEX_LIMIT → map.contains_key (held self.old).map i ≡ true → J.has join i ≡ true → ChangedAt (J.gives join) F.step tt (held self.old) (held self.new) i) }
         ensures others { OnOk result ((i : ℕ) → J.has join i ≡ false → map.get (held self.new).map i ≡ map.get (held self.old).map i) }
         ensures absent { OnOk result ((i : ℕ) → map.get (held self.old).map i ≡ None → map.get (held self.new).map i ≡ None) }
-        ensures becomes { OnOk result ((to : ℕ → T → T) → ((i : ℕ) (state next : F) (x : MutBor T) (z : J.Type) (y : MutBor T) → J.gives join i z → F.step state x z tt y next → y.now ≡ to i x.now) → (held self.new).map ≡ each_becomes to (left (λ i. map.contains_key (held self.old).map i && J.has join i) 0) (held self.old).map) }
-        ensures calls { OnOk result ((last : F) × CalledAtEach (J.gives join) F.step tt (left (λ i. map.contains_key (held self.old).map i && J.has join i) 0) f (held self.old) last (held self.new)) }
-        ensures err { OnErr result (StoppedIn (J.gives join) F.step tt (left (λ i. map.contains_key (held self.old).map i && J.has join i) 0) f (held self.old) (held self.new)) }
-        ensures succeeds { HasRoom (held self.old).room (length (left (λ i. map.contains_key (held self.old).map i && J.has join i) 0)) → IsOk result }
+        ensures becomes { OnOk result ((to : ℕ → T → T) → CallsLeave (J.gives join) F.step tt to → (held self.new).map ≡ each_becomes to (shared_indices (held self.old).map (J.has join)) (held self.old).map) }
+        ensures calls { OnOk result ((last : F) × CalledAtEach (J.gives join) F.step tt (shared_indices (held self.old).map (J.has join)) f (held self.old) last (held self.new)) }
+        ensures err { OnErr result (StoppedIn (J.gives join) F.step tt (shared_indices (held self.old).map (J.has join)) f (held self.old) (held self.new)) }
+        ensures succeeds { HasRoom (held self.old).room (length (shared_indices (held self.old).map (J.has join))) → IsOk result }
         ensures room { is_some (held self.new).room ≡ is_some (held self.old).room };
 
     /// `for_each_with` of a closure that keeps what it captured as it is, which callers' proofs then know in each call.
@@ -58,10 +58,10 @@ pub trait ForEach<T: Component> {
         ensures each { OnOk result ((i : ℕ) → i < INDEX_LIMIT → map.contains_key (held self.old).map i ≡ true → J.has join i ≡ true → ChangedOnce (J.gives join) (F.post f) (held self.old) (held self.new) i) }
         ensures others { OnOk result ((i : ℕ) → J.has join i ≡ false → map.get (held self.new).map i ≡ map.get (held self.old).map i) }
         ensures absent { OnOk result ((i : ℕ) → map.get (held self.old).map i ≡ None → map.get (held self.new).map i ≡ None) }
-        ensures becomes { OnOk result ((to : ℕ → T → T) → ((i : ℕ) (x : MutBor T) (z : J.Type) (y : MutBor T) → J.gives join i z → F.post f x z tt y → y.now ≡ to i x.now) → (held self.new).map ≡ each_becomes to (left (λ i. map.contains_key (held self.old).map i && J.has join i) 0) (held self.old).map) }
-        ensures calls { OnOk result (EachCalled (J.gives join) (F.post f) (left (λ i. map.contains_key (held self.old).map i && J.has join i) 0) (held self.old) (held self.new)) }
-        ensures err { OnErr result (EachStopped (J.gives join) (F.post f) (left (λ i. map.contains_key (held self.old).map i && J.has join i) 0) (held self.old) (held self.new)) }
-        ensures succeeds { HasRoom (held self.old).room (length (left (λ i. map.contains_key (held self.old).map i && J.has join i) 0)) → IsOk result }
+        ensures becomes { OnOk result ((to : ℕ → T → T) → EachLeaves (J.gives join) (F.post f) to → (held self.new).map ≡ each_becomes to (shared_indices (held self.old).map (J.has join)) (held self.old).map) }
+        ensures calls { OnOk result (EachCalled (J.gives join) (F.post f) (shared_indices (held self.old).map (J.has join)) (held self.old) (held self.new)) }
+        ensures err { OnErr result (EachStopped (J.gives join) (F.post f) (shared_indices (held self.old).map (J.has join)) (held self.old) (held self.new)) }
+        ensures succeeds { HasRoom (held self.old).room (length (shared_indices (held self.old).map (J.has join))) → IsOk result }
         ensures room { is_some (held self.new).room ≡ is_some (held self.old).room };
 
     /// `for_each_with` of a closure that may refuse, which ends the loop: the calls before it stay made, as does what it wrote to its component.
@@ -77,11 +77,11 @@ pub trait ForEach<T: Component> {
         ensures each { OnOk result ((i : ℕ) → i < INDEX_LIMIT → map.contains_key (held self.old).map i ≡ true → J.has join i ≡ true → ChangedAt (J.gives join) F.step (Ok tt) (held self.old) (held self.new) i) }
         ensures others { OnOk result ((i : ℕ) → J.has join i ≡ false → map.get (held self.new).map i ≡ map.get (held self.old).map i) }
         ensures absent { OnOk result ((i : ℕ) → map.get (held self.old).map i ≡ None → map.get (held self.new).map i ≡ None) }
-        ensures becomes { OnOk result ((to : ℕ → T → T) → ((i : ℕ) (state next : F) (x : MutBor T) (z : J.Type) (y : MutBor T) → J.gives join i z → F.step state x z (Ok tt) y next → y.now ≡ to i x.now) → (held self.new).map ≡ each_becomes to (left (λ i. map.contains_key (held self.old).map i && J.has join i) 0) (held self.old).map) }
-        ensures calls { OnOk result ((last : F) × CalledAtEach (J.gives join) F.step (Ok tt) (left (λ i. map.contains_key (held self.old).map i && J.has join i) 0) f (held self.old) last (held self.new)) }
-        ensures memory { (result ≡ Err EachError.OutOfMemory) → StoppedIn (J.gives join) F.step (Ok tt) (left (λ i. map.contains_key (held self.old).map i && J.has join i) 0) f (held self.old) (held self.new) }
-        ensures refused { (e : E) → result ≡ Err (EachError.Refused e) → RefusedIn (J.gives join) F.step (Ok tt) (Err e) (left (λ i. map.contains_key (held self.old).map i && J.has join i) 0) f (held self.old) (held self.new) }
-        ensures succeeds { HasRoom (held self.old).room (length (left (λ i. map.contains_key (held self.old).map i && J.has join i) 0)) → result ≢ Err EachError.OutOfMemory }
+        ensures becomes { OnOk result ((to : ℕ → T → T) → CallsLeave (J.gives join) F.step (Ok tt) to → (held self.new).map ≡ each_becomes to (shared_indices (held self.old).map (J.has join)) (held self.old).map) }
+        ensures calls { OnOk result ((last : F) × CalledAtEach (J.gives join) F.step (Ok tt) (shared_indices (held self.old).map (J.has join)) f (held self.old) last (held self.new)) }
+        ensures memory { (result ≡ Err EachError.OutOfMemory) → StoppedIn (J.gives join) F.step (Ok tt) (shared_indices (held self.old).map (J.has join)) f (held self.old) (held self.new) }
+        ensures refused { (e : E) → result ≡ Err (EachError.Refused e) → RefusedIn (J.gives join) F.step (Ok tt) (Err e) (shared_indices (held self.old).map (J.has join)) f (held self.old) (held self.new) }
+        ensures succeeds { HasRoom (held self.old).room (length (shared_indices (held self.old).map (J.has join))) → result ≢ Err EachError.OutOfMemory }
         ensures room { is_some (held self.new).room ≡ is_some (held self.old).room };
 }
 

@@ -1,10 +1,10 @@
 //! Joins that lend a storage's components for writing, as calls of the storage.
-ghost use Rattle.std.specs.Prelude.{◌≡◌, ℕ, ◌&&◌, None};
+ghost use Rattle.std.specs.Prelude.{◌≡◌, ℕ, None};
 ghost use Rattle.std.specs.Borrow.{sem};
 ghost use Rattle.std.specs.FinMap as map;
-ghost use Rattle.hibits.specs.Left.{left};
 ghost use Rattle.joins.specs.Cursor.{slot, storage_name, here, rest, gives};
 ghost use Rattle.joins.specs.Draining as draining;
+ghost use Rattle.joins.specs.Keys.{shared_indices};
 ghost use Rattle.storages.specs.Slot.{indices_of};
 ghost use Rattle.storages.specs.WriteView as view;
 
@@ -29,7 +29,7 @@ impl<T: Component> JoinMut<T> for MaskedStorage<T> {
     fn join_mut<J: Join>(&mut self, join: J) -> WriteJoin<'_, T, J>
         ensures same_reference { storage_name result ≡ self.entry.ghost_name }
         ensures slot { slot result ≡ self.old }
-        ensures rest { rest result ≡ left (λ i. map.contains_key self.old.map i && J.has join i) 0 }
+        ensures rest { rest result ≡ shared_indices self.old.map (J.has join) }
         ensures here { here result ≡ None }
         ensures gives { (i : ℕ) (r : J.Type) → gives result i r → J.gives join i r }
     {
@@ -55,7 +55,7 @@ impl<'a, T: Component> JoinMut<T> for WriteStorage<'a, T> {
     fn join_mut<J: Join>(&mut self, join: J) -> WriteJoin<'_, T, J>
         ensures* lends { sem 𝓛 (lends_cursor T.row T.Storage.row self.entry result) }
         ensures slot { slot result ≡ view.slot self.old }
-        ensures rest { rest result ≡ left (λ i. map.contains_key (view.slot self.old).map i && J.has join i) 0 }
+        ensures rest { rest result ≡ shared_indices (view.slot self.old).map (J.has join) }
         ensures here { here result ≡ None }
         ensures gives { (i : ℕ) (r : J.Type) → gives result i r → J.gives join i r }
     {

@@ -6,7 +6,7 @@ ghost use Rattle.std.specs.Option.{ForSome};
 ghost use Rattle.entities.specs.Population.{index_of};
 ghost use Rattle.hibits.specs.Sets.{has_part};
 ghost use Rattle.joins.specs.Over.{IsOver, over_is_fact};
-ghost use Rattle.joins.specs.Keys.{keys_of};
+ghost use Rattle.joins.specs.Keys.{keys_of, shared_indices};
 ghost use Rattle.storages.specs.Limit.{IsIndex};
 
 use crate::cursors::steps::Steps;
@@ -50,7 +50,6 @@ impl<'a, 'b, T: Component> RestrictedStorageMut<'a, 'b, T, BitSetAll> {
 }
 
 impl<'a, 'b, T: Component, J: Join> RestrictedStorageMut<'a, 'b, T, J> {
-    ghost use Rattle.hibits.specs.Left.{left};
     ghost use Rattle.joins.specs.Restricting.{slot, storage_name, entities_of, found, here, component, is_given, rest, gives, lends_at};
     ghost use Rattle.storages.specs.Meaning.{HasRoom};
 
@@ -60,7 +59,7 @@ impl<'a, 'b, T: Component, J: Join> RestrictedStorageMut<'a, 'b, T, J> {
         ensures same_reference { storage_name result ≡ storage.entry.ghost_name }
         ensures slot { slot result ≡ storage.old }
         ensures entities { entities_of result ≡ entities.now }
-        ensures rest { rest result ≡ left (λ i. map.contains_key storage.old.map i && J.has join i) 0 }
+        ensures rest { rest result ≡ shared_indices storage.old.map (J.has join) }
         ensures here { here result ≡ None }
         ensures gives { (i : ℕ) (r : J.Type) → gives result i r → J.gives join i r }
     {
@@ -78,7 +77,7 @@ impl<'a, 'b, T: Component, J: Join> RestrictedStorageMut<'a, 'b, T, J> {
         ensures same_reference { storage_name result ≡ storage_name self.entry }
         ensures slot { slot result ≡ slot self.entry }
         ensures entities { entities_of result ≡ entities_of self.entry }
-        ensures rest { rest result ≡ left (λ i. map.contains_key (slot self.entry).map i && K.has join i) 0 }
+        ensures rest { rest result ≡ shared_indices (slot self.entry).map (K.has join) }
         ensures here { here result ≡ None }
         ensures gives { (i : ℕ) (r : K.Type) → gives result i r → K.gives join i r }
     {

@@ -6,7 +6,7 @@ ghost use Rattle.std.specs.FinMap as map;
 ghost use Rattle.std.specs.Option.{ForSome};
 ghost use Rattle.hibits.specs.Sets.{has_part};
 ghost use Rattle.joins.specs.Over.{IsOver, over_is_fact};
-ghost use Rattle.joins.specs.Keys.{keys_of};
+ghost use Rattle.joins.specs.Keys.{keys_of, shared_indices};
 ghost use Rattle.storages.specs.Limit.{IsIndex};
 
 use crate::cursors::each_error::EachError;
@@ -30,10 +30,9 @@ pub struct WriteJoin<'a, T: Component, J: Join> {
 }
 
 impl<'a, T: Component, J: Join> WriteJoin<'a, T, J> {
-    ghost use Rattle.hibits.specs.Left.{left};
     ghost use Rattle.joins.specs.Cursor.{slot, storage_name, here, is_given, rest, gives, lends_item};
     ghost use Rattle.joins.specs.Each.{each_becomes};
-    ghost use Rattle.joins.specs.Visits.{CalledAtEach, ChangedAt, StoppedIn, RefusedIn, EachCalled, ChangedOnce, EachStopped};
+    ghost use Rattle.joins.specs.Visits.{CalledAtEach, ChangedAt, StoppedIn, RefusedIn, EachCalled, ChangedOnce, EachStopped, CallsLeave, EachLeaves};
     ghost use Rattle.storages.specs.Meaning.{HasRoom};
 
     /// Before the first index.
@@ -41,7 +40,7 @@ impl<'a, T: Component, J: Join> WriteJoin<'a, T, J> {
     pub fn new(storage: &'a mut MaskedStorage<T>, join: J) -> Self
         ensures same_reference { storage_name result ≡ storage.entry.ghost_name }
         ensures slot { slot result ≡ storage.old }
-        ensures rest { rest result ≡ left (λ i. map.contains_key storage.old.map i && J.has join i) 0 }
+        ensures rest { rest result ≡ shared_indices storage.old.map (J.has join) }
         ensures here { here result ≡ None }
         ensures gives { (i : ℕ) (r : J.Type) → gives result i r → J.gives join i r }
     {
@@ -121,7 +120,7 @@ impl<'a, T: Component, J: Join> WriteJoin<'a, T, J> {
         ensures calls { OnOk result ((last : F) × CalledAtEach (gives self.old) F.step tt (rest self.old) f (slot self.old) last (slot self.new)) }
         ensures each { OnOk result ((i : ℕ) → Contains (rest self.old) i → ChangedAt (gives self.old) F.step tt (slot self.old) (slot self.new) i) }
         ensures others { OnOk result ((i : ℕ) → (Contains (rest self.old) i → ⊥) → map.get (slot self.new).map i ≡ map.get (slot self.old).map i) }
-        ensures becomes { OnOk result ((to : ℕ → T → T) → ((i : ℕ) (state next : F) (x : MutBor T) (z : J.Type) (y : MutBor T) → gives self.old i z → F.step state x z tt y next → y.now ≡ to i x.now) → (slot self.new).map ≡ each_becomes to (rest self.old) (slot self.old).map) }
+        ensures becomes { OnOk result ((to : ℕ → T → T) → CallsLeave (gives self.old) F.step tt to → (slot self.new).map ≡ each_becomes to (rest self.old) (slot self.old).map) }
         ensures err { OnErr result (StoppedIn (gives self.old) F.step tt (rest self.old) f (slot self.old) (slot self.new)) }
         ensures succeeds { HasRoom (slot self.old).room (length (rest self.old)) → IsOk result }
         ensures room { is_some (slot self.new).room ≡ is_some (slot self.old).room }
@@ -148,7 +147,7 @@ impl<'a, T: Component, J: Join> WriteJoin<'a, T, J> {
         ensures calls { OnOk result (EachCalled (gives self.old) (F.post f) (rest self.old) (slot self.old) (slot self.new)) }
         ensures each { OnOk result ((i : ℕ) → Contains (rest self.old) i → ChangedOnce (gives self.old) (F.post f) (slot self.old) (slot self.new) i) }
         ensures others { OnOk result ((i : ℕ) → (Contains (rest self.old) i → ⊥) → map.get (slot self.new).map i ≡ map.get (slot self.old).map i) }
-        ensures becomes { OnOk result ((to : ℕ → T → T) → ((i : ℕ) (x : MutBor T) (z : J.Type) (y : MutBor T) → gives self.old i z → F.post f x z tt y → y.now ≡ to i x.now) → (slot self.new).map ≡ each_becomes to (rest self.old) (slot self.old).map) }
+        ensures becomes { OnOk result ((to : ℕ → T → T) → EachLeaves (gives self.old) (F.post f) to → (slot self.new).map ≡ each_becomes to (rest self.old) (slot self.old).map) }
         ensures err { OnErr result (EachStopped (gives self.old) (F.post f) (rest self.old) (slot self.old) (slot self.new)) }
         ensures succeeds { HasRoom (slot self.old).room (length (rest self.old)) → IsOk result }
         ensures room { is_some (slot self.new).room ≡ is_some (slot self.old).room }
@@ -179,7 +178,7 @@ impl<'a, T: Component, J: Join> WriteJoin<'a, T, J> {
         ensures calls { OnOk result ((last : F) × CalledAtEach (gives self.old) F.step (Ok tt) (rest self.old) f (slot self.old) last (slot self.new)) }
         ensures each { OnOk result ((i : ℕ) → Contains (rest self.old) i → ChangedAt (gives self.old) F.step (Ok tt) (slot self.old) (slot self.new) i) }
         ensures others { OnOk result ((i : ℕ) → (Contains (rest self.old) i → ⊥) → map.get (slot self.new).map i ≡ map.get (slot self.old).map i) }
-        ensures becomes { OnOk result ((to : ℕ → T → T) → ((i : ℕ) (state next : F) (x : MutBor T) (z : J.Type) (y : MutBor T) → gives self.old i z → F.step state x z (Ok tt) y next → y.now ≡ to i x.now) → (slot self.new).map ≡ each_becomes to (rest self.old) (slot self.old).map) }
+        ensures becomes { OnOk result ((to : ℕ → T → T) → CallsLeave (gives self.old) F.step (Ok tt) to → (slot self.new).map ≡ each_becomes to (rest self.old) (slot self.old).map) }
         ensures memory { (result ≡ Err EachError.OutOfMemory) → StoppedIn (gives self.old) F.step (Ok tt) (rest self.old) f (slot self.old) (slot self.new) }
         ensures refused { (e : E) → result ≡ Err (EachError.Refused e) → RefusedIn (gives self.old) F.step (Ok tt) (Err e) (rest self.old) f (slot self.old) (slot self.new) }
         ensures succeeds { HasRoom (slot self.old).room (length (rest self.old)) → result ≢ Err EachError.OutOfMemory }

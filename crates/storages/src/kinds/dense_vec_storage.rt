@@ -1,5 +1,5 @@
 //! Values without gaps, with a table from ids to places and one back.
-ghost use Rattle.std.specs.Prelude.{refl, ◌≡◌, [], IfSome, vec_len, ⊤};
+ghost use Rattle.std.specs.Prelude.{refl, ◌≡◌, ◌≤◌, ◌^◌, [], IfSome, length, vec_len, ⊤};
 ghost use Rattle.storages.specs.Dense.{IsConsistent, ArePaged, value_of};
 ghost use Rattle.storages.specs.declared.kinds.dense_vec_storage.TheConstants.{PAGE_LEN};
 
@@ -7,7 +7,7 @@ use crate::kinds::room::make_room;
 use crate::slices::{SliceAccess, SliceAccessMut};
 use crate::unprotected::{Kind, TryDefault, UnprotectedStorage};
 use hibits::{BitSet, Index};
-use pages::Pages;
+use pages::PagedRow;
 use std::alloc::{AllocError, Global};
 
 // How many ids a page of the table has.
@@ -16,15 +16,17 @@ const PAGE_LEN: u32 = 64;
 /// Best where few entities have the component. The values have no gaps and no stated order.
 ///
 /// Besides the values it takes 4 bytes for each, 256 for each 64 indices of which one had a value since it was last cleared, and 4 for each 64
-/// indices up to the greatest of these; as lists grow, up to four times that.
+/// indices up to the greatest of these; as lists grow, up to four times that. A look into the table is one load where the indices lie side by side
+/// from 0 on, with no 64 between them that never had a value, and two loads past these.
 pub struct DenseVecStorage<T> {
     values: Vec<T>,
     // the id of each value
     ids: Vec<u32>,
     // the place of each id that has a value, and anything at the others
-    places: Pages<u32, PAGE_LEN>,
+    places: PagedRow<u32, PAGE_LEN>,
     ghost consistent: { IsConsistent (vec_len values) ids.items places.items },
     ghost paged: { ArePaged PAGE_LEN ids.items places },
+    ghost within: { length places.items ≤ 2 ^ 32 },
 }
 
 impl<T: Drop> Drop for DenseVecStorage<T> {
@@ -46,7 +48,7 @@ impl<T> TryDefault for DenseVecStorage<T> {
         Ok(DenseVecStorage {
             values: Vec::new(alloc),
             ids: Vec::new(alloc),
-            places: Pages::new(alloc),
+            places: PagedRow::new(alloc),
         })
     }
 }
@@ -63,12 +65,12 @@ impl<T> DenseVecStorage<T> {
         DenseVecStorage {
             values: Vec::new(alloc),
             ids: Vec::new(alloc),
-            places: Pages::new(alloc),
+            places: PagedRow::new(alloc),
         }
     }
 
     /// How many pages its table from indices to places has, of 64 indices each: one for each of these in which a value was inserted since the
-    /// storage was last cleared. A removal keeps its page. It reads no page.
+    /// storage was last cleared. A removal keeps its page. It looks at each of these up to the last, and reads none.
     pub fn page_count(&self) -> usize
         ensures { result ≡ set.len (dense_pages self.now) }
     {

@@ -10,7 +10,7 @@ use Rattle.storages.proofs.kinds.dense_vec_storage.DenseVecStorageSliceAccessMut
 pub returns : goal.returns
 returns g c =
     let s = c.args.self.now in (
-      (refl, λ w. same-dense (with_values s.values w) s.ids s.places _ _ _ _),
+      (refl, λ w. same-dense (with_values s.values w) s.ids s.places _ _ _ _ _ _),
       record {
         writes_back = tt;
         value = λ at h. subst (λ (xs : List _). Arranges at s.ids.items xs) (sym c.deref_mut.ensures.value) (arrangement _ s.ids.items s.places.items s.consistent s.values.items (sym s.values.ok.0) at h);

@@ -1,5 +1,5 @@
 use Rattle.std.proofs.Common.{◌∙◌, sym, arith}
-use Rattle.storages.proofs.Dense.{place-in, last-paged, value-taken, consistent-after, paged-after, frees-after}
+use Rattle.storages.proofs.Dense.{place-in, last-paged, value-taken, consistent-after, paged-after, frees-after, within-set}
 use Rattle.storages.proofs.kinds.dense_vec_storage.DenseVecStorageUnprotectedStorage.remove.Goals as goal
 
 pub set-requires : goal.set-requires
@@ -25,6 +25,7 @@ invariant_of-self g c =
     record {
       consistent = consistent-after s.values.items s.ids.items s.places.items _ s.consistent (sym s.values.ok.0) c.args.id c.get_present-place.result c.index-last.result.now c.len.result c.get_present-place.ensures c.index-last.ensures (c.len.ensures ∙ s.ids.ok.0) c.requires _ _ _ _ c.swap_remove.ensures.items c.swap_remove-2.ensures.len c.set.ensures.items;
       paged = paged-after s.values.items s.ids.items s.places.items _ s.consistent (sym s.values.ok.0) c.args.id c.get_present-place.result c.index-last.result.now c.len.result c.get_present-place.ensures c.index-last.ensures (c.len.ensures ∙ s.ids.ok.0) c.requires _ _ s.places _ _ s.paged c.swap_remove.ensures.items c.set.ensures.pages;
+      within = within-set _ _ _ _ _ c.set.ensures.items s.within;
     }
 
 pub returns-clause-value : goal.returns-clause-value
