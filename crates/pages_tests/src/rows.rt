@@ -50,6 +50,10 @@ fn fill<T: Item, const LEN: u32>(row: &mut PagedRow<T, LEN>) {
     row.fill();
 }
 
+fn clear<T: Item, const LEN: u32>(row: &mut PagedRow<T, LEN>) {
+    row.clear();
+}
+
 /// How many items a page has, and the last of them.
 fn page<T: Item, const LEN: u32>(row: &PagedRow<T, LEN>, page: u32) -> (usize, Option<T>) {
     let items = row.page(page);
@@ -150,6 +154,25 @@ fn tell_of_a_far_page<R: Abort>(rt: &R, row: &mut PagedRow<u32, 10>) {
 fn a_far_page_keeps_its_items_as_the_row_comes_up_to_it(rt: HostRuntime) -> Result<(), Fail> {
     let mut row = PagedRow::new(rt.alloc());
     tell_of_a_far_page(&rt, &mut row);
+    Ok(())
+}
+
+fn tell_of_an_end<R: Abort>(rt: &R, row: &mut PagedRow<u32, 10>) {
+    have_pages(rt, row, &[0, 47], 2);
+    are_written(rt, row, &[3, 47], 9);
+    clear(row);
+    equal!(rt; count(row), 0);
+    equal!(rt; reach(row), 0);
+    read_as(rt, row, &[3, 47], 0);
+    have_pages(rt, row, &[47, 10], 2);
+    read_as(rt, row, &[10, 47], 0);
+    are_written(rt, row, &[47], 8);
+}
+
+#[test]
+fn a_row_that_is_cleared_begins_anew(rt: HostRuntime) -> Result<(), Fail> {
+    let mut row = PagedRow::new(rt.alloc());
+    tell_of_an_end(&rt, &mut row);
     Ok(())
 }
 
