@@ -16,6 +16,6 @@ bash "$here/room.sh" "$room" || refuse "there is no room"
 cd "$room/crates/bench" || refuse "there is no room"
 mapfile -t words <args
 [ -s stdout ] || refuse "bench/stdout has no checksum"
-rt try --seconds 3600 -- "${words[@]}" >"$room/printed" 2>"$room/said" </dev/null || refuse "the run failed: $(tail -n 20 "$room/said")"
+python3 "$here/../tools/rt_try.py" --seconds 3600 -- "${words[@]}" >"$room/printed" 2>"$room/said" </dev/null || refuse "the run failed: $(tail -n 20 "$room/said")"
 diff stdout "$room/printed" || refuse "it printed otherwise than bench/stdout says"
 echo "1 passed, 0 failed"

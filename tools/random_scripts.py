@@ -15,7 +15,7 @@ import subprocess
 import sys
 import tempfile
 
-from rooms import TOP, make_room
+from rooms import TOP, TRY, make_room, words_of
 from script_model import IDS, LAST_GENERATION, LIMIT, SAVED, SLOTS, World
 
 UNREADABLE = ["frob", "create ", " create", "delete", "delete 0", "insert pos 0:1", "insert tag 0:1 5", "select", "select and pos",
@@ -176,13 +176,13 @@ def groups_of(scripts):
 def unproved_runs(groups):
     """Each script of some groups with its run. Each group is run by one process of the program of tools/many_scripts.rt.src, which `rt try` builds once, in a room of its own."""
     with tempfile.TemporaryDirectory(prefix="many-scripts-") as room:
-        crate = make_room(room, "many_scripts", ["specs_run"], {"main.rt": "tools/many_scripts.rt.src"})
+        crate = make_room(room, "many_scripts", ["specs_run"], {"main.rt": "tools/many_scripts.rt.src"}, words_of("tools/script/without"))
         os.mkdir(f"{room}/cases")
         for k, group in enumerate(groups):
             with open(f"{room}/cases/{k:06}", "w", encoding="utf-8") as it:
                 it.write(END.join(text_of(script) for script in group))
         # with a step alone the interpreter leaves each run to the program that is built with checks
-        words = ["rt", "try", "--seconds", "3600", "--steps", "1", "--cases", f"{room}/cases"]
+        words = [*TRY, "--seconds", "3600", "--steps", "1", "--cases", f"{room}/cases"]
         ran = subprocess.run(words, cwd=crate, stdin=subprocess.DEVNULL, capture_output=True, text=True, check=False)
     printed = re.split(r"== (\d{6})\n", ran.stdout)[1:]
     printed = dict(zip(printed[::2], printed[1::2]))

@@ -3,8 +3,19 @@ crates/ and end in .src, since `rt ci` proves each .rt file of the repository.""
 import os
 import re
 import shutil
+import sys
 
 TOP = os.path.dirname(os.path.dirname(os.path.abspath(__file__)))
+# what tries a crate, where it is called
+TRY = (sys.executable, f"{TOP}/tools/rt_try.py")
+
+
+def words_of(file):
+    """The words of a file of the repository, none where it is not there."""
+    if not os.path.exists(f"{TOP}/{file}"):
+        return []
+    with open(f"{TOP}/{file}", encoding="utf-8") as it:
+        return it.read().split()
 
 
 def copy_crates(room):

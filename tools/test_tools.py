@@ -679,6 +679,44 @@ os.chmod(sys.argv[1], 0o700)
             self.refuses(self.run_in("./specs-try", "one.script"), "it is not built")
 
 
+TRIES = """import sys
+import rtlib
+def main(words):
+    print("looked for names by", rtlib.RATTLE, "before", *words)
+    return 4
+if __name__ == "__main__":
+    print("by itself:", *sys.argv[1:])
+"""
+LOOKS = """RATTLE = "/kit/rattle"
+class Crate:
+    def try_unproved(self): return RATTLE
+"""
+
+
+class TriedWithoutNames(Tree):
+    """tools/rt_try.py, over a stand-in for the kit."""
+
+    def setUp(self):
+        super().setUp()
+        self.take("tools/rt_try.py")
+        self.write("bin/rt", f"#!{sys.executable}\n{TRIES}", runs=True)
+        self.write("bin/rtlib.py", LOOKS)
+
+    def ran(self):
+        return self.run_in("python3", "tools/rt_try.py", "--steps", "1")
+
+    def test_a_try_whose_second_process_ends_at_once(self):
+        self.assertEqual((self.ran().stdout, self.ran().returncode), ("looked for names by true before try --steps 1\n", 4))
+
+    def test_a_kit_of_another_form_is_called_as_it_is(self):
+        for text in ("", 'RATTLE = ""\nclass Crate: pass\n', LOOKS.replace("return RATTLE", "return 1")):
+            self.write("bin/rtlib.py", text)
+            self.assertEqual(self.ran().stdout, "by itself: try --steps 1\n")
+        os.remove(f"{self.top}/bin/rtlib.py")
+        self.write("bin/rt", "#!/bin/sh\necho by itself: $*\n", runs=True)
+        self.assertEqual(self.ran().stdout, "by itself: try --steps 1\n")
+
+
 KIT = """import hashlib, os
 def root_above(folder): return folder
 class Crate:

@@ -10,18 +10,10 @@ import subprocess
 import sys
 import tempfile
 
-from rooms import TOP, make_room
+from rooms import TOP, TRY, make_room, words_of
 
 # `rt try` ends with this line where the program ran to its end
 ENDED = re.compile(r"^run=ended status=0 .*proved=no\n\Z", re.M)
-
-
-def words_of(file):
-    """The words of a file of the repository, none where it is not there."""
-    if not os.path.exists(f"{TOP}/{file}"):
-        return []
-    with open(f"{TOP}/{file}", encoding="utf-8") as it:
-        return it.read().split()
 
 
 def build(to, folder, name, by_word=False):
@@ -36,7 +28,7 @@ def build(to, folder, name, by_word=False):
     try:
         crate = make_room(room, name, uses, sources, without)
         words, told = (["--", to], "") if by_word else ([], to)
-        it = subprocess.run(["rt", "try", "--steps", "1", *words], cwd=crate, input=told, capture_output=True, text=True, errors="replace", check=False)
+        it = subprocess.run([*TRY, "--steps", "1", *words], cwd=crate, input=told, capture_output=True, text=True, errors="replace", check=False)
     finally:
         shutil.rmtree(room)
     if it.returncode != 0 or not ENDED.search(it.stderr) or it.stdout:
