@@ -19,7 +19,7 @@ class Benchmark(Tree):
 
     def setUp(self):
         super().setUp()
-        self.take("bench/try.sh", "bench/room.sh", "bench/prove.sh")
+        self.take("bench/try.sh", "bench/room.sh", "bench/prove.sh", "tools/rt_try.py")
         self.write("HANDLES", "Handles allowed: Threads, Wait.\n")
         self.write("crates.txt", "low: thiserror\nlower: low\n")
         self.write("crates/low/src/lib.rt", SOURCE)
