@@ -3,13 +3,18 @@
 
     python3 tools/chart.py [--check]
 
---check writes nothing: it fails where the picture is not what this makes, or a row of the page has another form. Run at the top of the repository."""
+A workload whose ratio is above its goal has to stand in marks in the page's table of reasons: those that do not are told, and the status is 1.
+--check writes nothing: it fails too where the picture is not what this makes, or a row of the page has another form. Run at the top of the repository."""
 import math
 import re
 import sys
 
 # A workload: its name, what one operation is, the times of both, their ratio, that of 10,000 entities, the goal, and the letter of the measurement.
 ROW = re.compile(r"^\| [a-z]\w*(?:\+\w+)? \| ([^|]+) \| [\d.,]+ \| [\d.,]+ \| ([\d.]+) \| [^|]+ \| [^|]+ \| ([A-Z]) \|$")
+# A workload, its ratio with 100,000 entities and with 10,000, and the goals of both, or of the two as one.
+GOAL = re.compile(r"^\| ([a-z]\w*(?:\+\w+)?) \| [^|]+ \| [\d.,]+ \| [\d.,]+ \| ([\d.]+) \| ([\d.]+) \| ([\d.]+)(?:, ([\d.]+))? \| [A-Z] \|$")
+REASONS = "| Workload | What the built code shows |"
+REASON = re.compile(r"^\| (`[a-z][\w+]*`(?:, `[a-z][\w+]*`)*) \| ")
 HEAD = re.compile(r"^\| Workload \| .* \| Rust, ns \|")
 GROUP = re.compile(r"^## (.+)$")
 MEASURED = re.compile(r"^\| ([A-Z]) \| (\d{4}-\d\d-\d\d) \|")
@@ -35,6 +40,18 @@ def groups(page):
         elif in_table and not HEAD.match(line) and not line.startswith("|-"):
             raise SystemExit(f"docs/BENCHMARKS.md has a row in another form: {line}")
     return [it for it in found if it[2]]
+
+
+def unexplained(page):
+    """The workloads that miss a goal, and of which no row says why."""
+    lines = page.split("\n")
+    told, among_reasons = set(), False
+    for line in lines:
+        among_reasons = line == REASONS or among_reasons and line.startswith("|")
+        if among_reasons and (it := REASON.match(line)):
+            told.update(it[1].strip("`").split("`, `"))
+    rows = [it for it in map(GOAL.match, lines) if it and it[1] not in told]
+    return [it[1] for it in rows if float(it[2]) > float(it[4]) or float(it[3]) > float(it[5] or it[4])]
 
 
 def at(ratio):
@@ -88,16 +105,19 @@ def picture(found):
 
 def main(words):
     with open("docs/BENCHMARKS.md", encoding="utf-8") as it:
-        made = picture(groups(it.read()))
+        page = it.read()
+    made, lacking = picture(groups(page)), unexplained(page)
+    if lacking:
+        print(f"docs/BENCHMARKS.md says by no row why a goal is missed of {', '.join(lacking)}")
     if words != ["--check"]:
         with open("docs/benchmarks.svg", "w", encoding="utf-8") as it:
             it.write(made)
-        return 0
+        return 1 if lacking else 0
     with open("docs/benchmarks.svg", encoding="utf-8") as it:
         same = it.read() == made
     if not same:
         print("docs/benchmarks.svg is not what tools/chart.py makes of docs/BENCHMARKS.md: run it again")
-    return 0 if same else 1
+    return 0 if same and not lacking else 1
 
 
 if __name__ == "__main__":

@@ -168,6 +168,19 @@ class Benchmark(Tree):
         self.refuses(self.table(few="| a_one | 4.000 | 1.000 | 0.25 | DIFFER |\n"), "the checksums of a_one differ")
         self.refuses(self.table(few=""), "nothing was compared")
 
+    def test_a_goal_that_is_missed_has_a_reason(self):
+        self.take("tools/chart.py")
+        rows = self.PAGE.replace("| 9.00 | 9.00 | 0.5 | A |", "| 0.70 | 0.50 | 0.7, 0.6 | A |")
+        why = "\n| Workload | What the built code shows |\n|---|---|\n| `a_one`, `b_two` | as many misses |\n"
+        wants = "says by no row why a goal is missed of a_one\n"
+        for page, told in ((rows, ""), (rows.replace("| 0.70 | 0.50 |", "| 0.71 | 0.50 |"), wants), (rows.replace("| 0.70 | 0.50 |", "| 0.70 | 0.61 |"), wants),
+                           (self.PAGE, wants), (self.PAGE + why, ""), (self.PAGE + why.replace("`a_one`, ", ""), wants),
+                           (self.PAGE + why.replace("| What", "| How"), wants)):
+            self.write("docs/BENCHMARKS.md", page)
+            for words in ((), ("--check",)):
+                ran = self.run_in("python3", "tools/chart.py", *words)
+                self.assertEqual((ran.stdout.removeprefix("docs/BENCHMARKS.md "), ran.returncode), (told, 1 if told else 0))
+
     def test_another_folder(self):
         self.write("room/letter", "")
         self.refuses(self.room(), "has something else in it")
