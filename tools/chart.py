@@ -13,6 +13,7 @@ import sys
 ROW = re.compile(r"^\| [a-z]\w*(?:\+\w+)? \| ([^|]+) \| [\d.,]+ \| [\d.,]+ \| ([\d.]+) \| [^|]+ \| [^|]+ \| ([A-Z]) \|$")
 # A workload, its ratio with 100,000 entities and with 10,000, and the goals of both, or of the two as one.
 GOAL = re.compile(r"^\| ([a-z]\w*(?:\+\w+)?) \| [^|]+ \| [\d.,]+ \| [\d.,]+ \| ([\d.]+) \| ([\d.]+) \| ([\d.]+)(?:, ([\d.]+))? \| [A-Z] \|$")
+# The head of the table of reasons, and a row of it: the workloads, then why.
 REASONS = "| Workload | What the built code shows |"
 REASON = re.compile(r"^\| (`[a-z][\w+]*`(?:, `[a-z][\w+]*`)*) \| ")
 HEAD = re.compile(r"^\| Workload \| .* \| Rust, ns \|")

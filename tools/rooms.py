@@ -6,7 +6,7 @@ import shutil
 import sys
 
 TOP = os.path.dirname(os.path.dirname(os.path.abspath(__file__)))
-# what tries a crate, where it is called
+# the words of `rt try`, as these tools call it
 TRY = (sys.executable, f"{TOP}/tools/rt_try.py")
 
 

@@ -1,6 +1,6 @@
 #!/usr/bin/env python3
 """`rt try` without the second process that it starts beside each: that one reads all sources once more, only to tell early of a name that a check will refuse,
-and takes as much of a processor as the first. What is tried by these tools is checked by the gate.
+and takes about as much of a processor as the first. What is tried by these tools is checked by the gate.
 
     python3 tools/rt_try.py WORD..      as rt try WORD..
 
@@ -12,7 +12,7 @@ import shutil
 import sys
 
 
-def kit():
+def command():
     """The kit's command rt as a module, whose main takes the words."""
     path = os.path.realpath(shutil.which("rt") or sys.exit("the command rt is not on the PATH"))
     if not os.path.isfile(f"{os.path.dirname(path)}/rtlib.py"):
@@ -24,9 +24,9 @@ def kit():
     return found
 
 
-def alone():
-    """The command rt whose `try` starts that process as one that ends at once, with no other change."""
-    rt = kit()
+def main_without_names():
+    """The main of rt, whose `try` starts that process as one that ends at once."""
+    rt = command()
     if not callable(rt.main) or "RATTLE" not in rt.rtlib.Crate.try_unproved.__code__.co_names:
         raise AttributeError
     rt.rtlib.RATTLE = "true"
@@ -37,7 +37,7 @@ if __name__ == "__main__":
     sys.dont_write_bytecode = True
     words = ["try", *sys.argv[1:]]
     try:
-        main = alone()
+        main = main_without_names()
     except (AttributeError, ImportError, SyntaxError):
         os.execvp("rt", ["rt", *words])
     sys.exit(main(words))
