@@ -1,5 +1,5 @@
 //! Values without gaps, with a table from ids to places and one back.
-ghost use Rattle.std.specs.Prelude.{refl, ◌≡◌, ◌≤◌, ◌^◌, [], IfSome, length, vec_len, ⊤};
+ghost use Rattle.std.specs.Prelude.{refl, ◌≡◌, ◌≤◌, ◌<◌, ◌^◌, [], IfSome, IsSome, length, vec_len, ⊤};
 ghost use Rattle.storages.specs.Dense.{IsConsistent, ArePaged, value_of};
 ghost use Rattle.storages.specs.declared.kinds.dense_vec_storage.TheConstants.{PAGE_LEN};
 
@@ -187,7 +187,8 @@ impl<T: Drop> SliceAccessMut<T> for DenseVecStorage<T> {
 // The place of the value that is pushed next. There is always one, since each value has an index of its own.
 #[inline(always)]
 fn next_place<T>(values: &Vec<T>) -> Option<u32>
-    ensures { IfSome result (λ place. place ≡ vec_len values.now) }
+    ensures place { IfSome result (λ place. place ≡ vec_len values.now) }
+    ensures fits { vec_len values.now < 2 ^ 32 → IsSome result }
 {
     u32::try_from(values.len()).ok()
 }

@@ -8,7 +8,8 @@ use crate::unprotected::{Kind, TryDefault, UnprotectedStorage};
 use hibits::{BitSet, Index};
 use std::alloc::{AllocError, Global};
 
-/// Components without gaps and without a slice, found by a table in pages: a get takes two loads, three where an index lies far from the others, and no hash. It takes what `DenseVecStorage` takes.
+/// Components without gaps and without a slice, found by a table in pages: a get takes two loads, three past the first 64 indices of which none
+/// ever had a value, and no hash. It takes what `DenseVecStorage` takes.
 ///
 /// Ports `specs::storage::HashMapStorage`, which is a hash map.
 pub struct HashMapStorage<T> {
