@@ -9,7 +9,7 @@
 # BENCH_ROOM the one where bench/prove.sh proves and builds this repository's.
 set -euo pipefail
 here=$(cd "$(dirname "$0")/.." && pwd)
-baseline=$(cd "$here" && cd "${SPECS_BASELINE:-../shared/baseline}" 2>/dev/null && pwd) || baseline=
+baseline=$(cd "$here" && cd "${SPECS_BASELINE:-}" 2>/dev/null && pwd) || baseline=
 [ -f "$baseline/assemble.sh" ] || {
   echo "bench/compare.sh: it needs the same workloads over specs 0.17.0 in Rust: set SPECS_BASELINE to a folder whose assemble.sh DEST builds DEST/target/release/bench" >&2
   exit 1

@@ -82,7 +82,7 @@ def pieces(lines, indent):
         if not line.startswith(indent) or text.startswith((" ", "}", ")")):
             continue
         if text.startswith("///"):
-            doc.append(text[3:].removeprefix(" "))
+            doc.append(re.sub(r"\[(`\w+`)\]\(crate::[\w:]+\)", r"\1", text[3:].removeprefix(" ")))
         elif text.startswith("//"):
             plain.append(text[2:].removeprefix(" "))
         elif text.startswith("#["):

@@ -73,6 +73,9 @@ class Gate(Tree):
         self.write("bench/try.sh", "echo '1 passed, 0 failed'\n")
         for name in (*GATE_TOOLS, "refusals.py"):
             self.write(f"tools/{name}", "print('3 passed, 0 failed')\n")
+        self.write("specs-try", "#!/bin/sh\ncat\n", runs=True)
+        for name in ("script", "expected"):
+            self.write(f"examples/session.{name}", "create\n")
         self.write("tools/refused_tests.py", "")
         self.write("tools/refused_steps.py", "print('4 passed, 0 failed')\n")
         self.rt("echo '5 passed, 0 failed'")
@@ -94,12 +97,16 @@ class Gate(Tree):
         self.assertEqual(ran.stdout.split("\n")[-2], "16 passed, 0 failed")
 
     def test_it_refuses_memory_to_a_built_program(self):
-        self.write("crates/specs_run_main/out/specs_run_main", "#!/bin/sh\n", runs=True)
+        self.write("crates/specs_run_main/out/specs_run_main", "#!/bin/sh\ncat\n", runs=True)
         ran = self.gate()
         self.accepts(ran)
         self.assertEqual(ran.stdout.split("\n")[-2], "19 passed, 0 failed")
         self.write("tools/refusals.py", "print('3 passed, 1 failed')\n")
         self.refuses(self.gate(), "the refusals failed")
+
+    def test_a_session_that_is_printed_otherwise(self):
+        self.write("examples/session.expected", "0:1\n")
+        self.refuses(self.gate(), "the session of docs/SCRIPT.md is printed otherwise")
 
     def test_it_refuses_memory_to_built_tests(self):
         listing = "import sys\nif '--list' in sys.argv:\n    print('low_tests a')\nelse:\n"
@@ -310,6 +317,16 @@ class WrongBodies(Tree):
     def test_a_text_that_is_not_read(self):
         self.says("wrong", "src/lib.rt:4:5: error: expected an expression")
         self.refuses(self.tried(), "NOT SHOWN: the check has no line for its function")
+
+    def test_a_text_that_no_program_may_have(self):
+        self.write("crates/low/wrong/two.edit", WRONG.replace("clause: returns", "says: there is no method `two`"))
+        for said, is_shown in (("src/lib.rt:4:5: error[unknown-method]: there is no method `two`", True), ("src/lib.rt:4:5: error: there is no method `two`", False),
+                               ("src/lib.rt:4:5: error[unknown-method]: another", False)):
+            self.says("wrong", said)
+            if is_shown:
+                self.accepts(self.tried("--anew"))
+            else:
+                self.refuses(self.tried("--anew"), "NOT SHOWN: it does not say")
 
     def test_a_right_variant(self):
         self.write("crates/low/right/sum.edit", RIGHT)

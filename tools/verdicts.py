@@ -35,6 +35,8 @@ class Said:
             before = before[before.rfind("\nfn ") + 1 :]
             self.open = list(dict.fromkeys([*listed, *LEFT_OPEN.findall(before)]))
         self.is_refused = is_own
+        # the sources themselves are refused, so that no function is looked at
+        self.is_no_program = self.line is None and re.search(r"^src/\S+: error\[", text, re.M) is not None
         self.erring, self.errors = errors_in(text, function)
         # only then is what is not open proved; a function that is not proved for one that it calls has all of its own goals
         waits = self.line is not None and re.match(r"(not proved|no proof): it calls ", self.line) is not None

@@ -8,8 +8,9 @@ An edit has the lines of a must-fail edit ('file: src/FILE', 'old: TEXT', 'new: 
 it breaks what it names, and 'fn: PATH', the function that has to be refused, as the check names it without its crate. Then, as often as it is so,
 'clause: WORD', a clause that the body breaks: each has to be left open by the prover's search. WORD is the name of a clause that the function promises; of a promise without
 a name `returns`, or the goal as it begins, as `returns-then-contains`; of what a call wants or a type keeps the goal's name, as `f-requires` or `invariant_of-self`.
-Where the check refuses a function before it looks at its clauses (a loop without an end, a step that a table of shared words forbids), 'says: TEXT'
-stands in the place of the clause: what the check must say. An edit that reaches beyond its function (a constant) has a line 'alone: WHY', and is tried alone.
+Where the check refuses a function before it looks at its clauses (a loop without an end, a step that a table of shared words forbids, a call that the types
+do not allow), 'says: TEXT' stands in the place of the clause: what the check must say. An edit that reaches beyond its function (a constant, or a call by
+which no function of the crate is looked at) has a line 'alone: WHY', and is tried alone.
 
 A right variant is the same function in another right form. It has lines 'beside: NAME' in the place of clauses: the wrong bodies of its function beside which
 it stands. None of the clauses that these name may be left open of it: so what refuses them is the clause, and not that the body is another.
@@ -90,7 +91,7 @@ class Trial:
         self.rounds += 1
         said = self.said = Said(text, self.edit.crate, self.edit.function)
         if self.edit.says:
-            does = self.edit.says in text and said.is_refused
+            does = self.edit.says in text and (said.is_refused or said.is_no_program)
             self.told = does, f"refused: {self.edit.says}" if does else f"NOT SHOWN: it does not say {self.edit.says}"
             return True
         self.told = judge(said, self.edit)
