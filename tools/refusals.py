@@ -8,6 +8,8 @@ A library that counts requests (tools/refuse_memory.c) is loaded before the prog
 The program is given tools/all_lines.script a line at a time. A line that is refused memory is given again, and the plain model of
 tools/script_model.py judges each reply, with the refused line as one that changed nothing, or that kept the part that docs/SCRIPT.md names.
 
+Before a refused line of ASKED is given again, another is given that asks what stands.
+
 Where more room than a line needs is refused, it asks for less: then nothing is told, and the output is the same with one request more.
 Where the program finds no memory for itself (its streams, the text of a line), it ends with status 1, and what it wrote is a beginning of the whole.
 
@@ -29,6 +31,7 @@ SCRIPT = f"{TOP}/crates/specs_run_main/out/specs_run_main"
 LINES = f"{TOP}/tools/all_lines.script"
 SECONDS = 120
 REFUSED = "error: out of memory"
+ASKED = {"index hp": "find 81"}
 
 
 class Refuser:
@@ -108,7 +111,7 @@ class Talk:
             if reply == REFUSED + "\n" or reply.endswith(" stopped\n"):
                 self.refused += 1
                 if self.refused < 3:
-                    left.append(line)
+                    left += [line, ASKED[line]] if line in ASKED else [line]
 
 
 def kept(world, line):
@@ -199,11 +202,12 @@ def wrong_talk(whole, talk):
         return None if is_begun else f"no refusal is told, status {talk.status}"
     if len(refused) > 1:
         return f"{len(refused)} lines are refused"
-    if talk.status != 0 or len(talk.said) != len(whole.said) + 1:
-        return f"status {talk.status} after {len(talk.said)} replies"
     line, reply = talk.said[refused[0]]
+    again = refused[0] + 1 + (line in ASKED)
+    if talk.status != 0 or len(talk.said) != len(whole.said) + again - refused[0]:
+        return f"status {talk.status} after {len(talk.said)} replies"
     keeps = line.startswith(("load", "save-all", "maintain"))
-    rest = talk.said[: refused[0]] + talk.said[refused[0] + 1 :]
+    rest = talk.said[: refused[0]] + talk.said[again:]
     return None if keeps or rest == whole.said else f"after {line!r}, refused, the replies are others"
 
 

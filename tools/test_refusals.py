@@ -66,6 +66,15 @@ class ScriptsAreJudged(unittest.TestCase):
         self.assertIsNotNone(disagreement([*begun, stopped, ("get pos 0:1", "none")]))
 
 
+    def test_a_refused_index_leaves_the_earlier_one(self):
+        begun = [("register hp", "ok"), ("create", "0:1"), ("index hp", "ok"), ("insert hp 0:1 81", "none")]
+        whole = talk([*begun, ("index hp", "ok")])
+        for found, is_right in (("[0]", True), ("[]", False), ("error: no index", False)):
+            said = talk([*begun, ("index hp", REFUSED), ("find 81", found), ("index hp", "ok")])
+            self.assertEqual(wrong_talk(whole, said) is None, is_right, found)
+        self.assertIsNotNone(wrong_talk(whole, talk([*begun, ("index hp", REFUSED), ("index hp", "ok")])))
+
+
 class TheScriptHasAllLines(unittest.TestCase):
     def test_each_line_of_the_document_stands_in_the_script(self):
         table = read(LINES.replace("tools/all_lines.script", "docs/SCRIPT.md")).split("## Lines")[1].split("## Refusals")[0]

@@ -22,6 +22,8 @@ mod listed;
 #[cfg(test)]
 mod own_jobs;
 #[cfg(test)]
+mod phases;
+#[cfg(test)]
 mod saved_worlds;
 #[cfg(test)]
 mod stories;

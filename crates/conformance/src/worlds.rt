@@ -5,6 +5,7 @@ use crate::calls::{
     born, delete, die, does, entity, fresh, health, healths, is_there, lives, mark, position,
     positions, raised, run, selects,
 };
+use crate::phases::third_pass_is_refused;
 use crate::stories::{self, told};
 use composed::Empty;
 use script_slots::{Health, Position};
@@ -231,6 +232,7 @@ pub enum Story {
     RefusesTheFirstStale,
     EndsAtMaintain,
     TakesUpAPhase,
+    ThirdPassIsRefused,
 }
 
 fn tell<R: Abort, P, H, S: CloneStorages + Has<Position, P> + Has<Health, H>>(
@@ -252,6 +254,7 @@ fn tell<R: Abort, P, H, S: CloneStorages + Has<Position, P> + Has<Health, H>>(
         Story::RefusesTheFirstStale => refuses_the_first_stale(rt, world),
         Story::EndsAtMaintain => ends_at_maintain(rt, world),
         Story::TakesUpAPhase => takes_up_a_phase(rt, alloc, world),
+        Story::ThirdPassIsRefused => third_pass_is_refused(rt, alloc, world),
     }
 }
 
@@ -332,5 +335,14 @@ fn what_a_phase_left_is_taken_up_by_maintain(rt: HostRuntime) -> Result<(), Fail
         &rt,
         rt.alloc(),
         stories::Story::Worlds(Story::TakesUpAPhase),
+    )
+}
+
+#[test]
+fn a_phase_of_two_entities_refuses_the_third_pass(rt: HostRuntime) -> Result<(), Fail> {
+    told(
+        &rt,
+        rt.alloc(),
+        stories::Story::Worlds(Story::ThirdPassIsRefused),
     )
 }

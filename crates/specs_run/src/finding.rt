@@ -86,7 +86,7 @@ pub fn answered<'a, S: Has<Health, I>, I>(
     }
 }
 
-/// A new index; an earlier one is ended first.
+/// A new index, in the place of an earlier one, which stays where the new one is refused.
 fn make<S: Has<Health, I>, I>(
     core: &mut Core<S>,
     index: &mut HealthIndex,
@@ -99,8 +99,9 @@ fn make<S: Has<Health, I>, I>(
             }
         }
     }
+    let made = core.make_index(HealthValue)?;
     end(core, index);
-    *index = Some(core.make_index(HealthValue)?);
+    *index = Some(made);
     Ok(())
 }
 
