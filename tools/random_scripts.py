@@ -163,9 +163,11 @@ def text_of(script):
 
 
 def proved_runs(scripts):
-    """Each script with its run by ./specs-run."""
+    """Each script with its run by ./specs-run, which is built first, so that no run tells of it."""
+    program = os.path.join(TOP, "specs-run")
+    subprocess.run([program], stdin=subprocess.DEVNULL, check=False)
     for script in scripts:
-        yield script, subprocess.run([os.path.join(TOP, "specs-run")], input=text_of(script), capture_output=True, text=True, check=False)
+        yield script, subprocess.run([program], input=text_of(script), capture_output=True, text=True, check=False)
 
 
 def groups_of(scripts):
