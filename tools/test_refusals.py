@@ -65,7 +65,6 @@ class ScriptsAreJudged(unittest.TestCase):
         self.assertIsNone(disagreement([*begun, stopped, ("get pos 0:1", "5"), ("maintain 2", "deleted [] ran 1 refused 0 left 0")]))
         self.assertIsNotNone(disagreement([*begun, stopped, ("get pos 0:1", "none")]))
 
-
     def test_a_refused_index_leaves_the_earlier_one(self):
         begun = [("register hp", "ok"), ("create", "0:1"), ("index hp", "ok"), ("insert hp 0:1 81", "none")]
         whole = talk([*begun, ("index hp", "ok")])
