@@ -90,6 +90,11 @@ impl<I, S: Has<Score, I>> Act<S> for Tribe<I> {
 pub struct Flood;
 
 impl<S: Storages> Act<S> for Flood {
+    ghost use Rattle.specs.specs.Laws.Reached.{OnlyLiving};
+    ghost use Rattle.specs.specs.World.People.{NobodyLives};
+
+    ghost acts = { λ _ old new. OnlyLiving old → NobodyLives new.people };
+
     fn act(
         self,
         core: &mut Core<S>,

@@ -1,18 +1,20 @@
 //! Systems by closures: what a storage ends as is known from the closure's own body.
-ghost use Rattle.std.specs.Prelude.{◌≡◌, ◌≢◌, ◌<◌, ◌+◌, ◌%◌, ◌^◌, ℕ, Bool, true, false, None, Some, Err, OnOk, IsOk, IsSome, is_some};
+ghost use Rattle.std.specs.Prelude.{◌≡◌, ◌≢◌, ◌<◌, ◌+◌, ◌%◌, ◌^◌, ℕ, Bool, true, false, [], None, Some, Err, OnOk, IsOk, IsSome, is_some};
 ghost use Rattle.std.specs.FinMap as map;
 ghost use Rattle.std.specs.FinSet as set;
 ghost use Rattle.std.specs.List.{fold};
 ghost use Rattle.callers.specs.Moving.{gone_on, moved, place_at};
+ghost use Rattle.joins.specs.Cursor.{here, rest, is_given};
 ghost use Rattle.joins.specs.Each.{each_becomes, each_gone};
 ghost use Rattle.joins.specs.Keys.{shared_indices};
 ghost use Rattle.storages.specs.ReadView as read;
 ghost use Rattle.storages.specs.Slot.{indices_of};
+ghost use Rattle.storages.specs.WriteView as view;
 ghost use Rattle.storages.specs.WriteView.{slot};
 
 use entities::EntitiesRes;
 use hibits::{BitSet, INDEX_LIMIT, Index};
-use joins::{Drain, EachError, EntryJoin, ForEach, Join, JoinMut, RestrictedStorageMut};
+use joins::{Drain, EachError, EntryJoin, ForEach, Join, JoinMut, RestrictedStorageMut, WriteJoin};
 use std::alloc::AllocError;
 use storages::{Component, MaskedStorage, ReadStorage, VecStorage, WriteStorage};
 
@@ -62,6 +64,30 @@ pub fn go_on_by_cursor(
     ways.join_mut(paces).for_each(|way: &mut Way, pace: &Pace| {
         way.0 = way.0.wrapping_add(pace.0);
     })
+}
+
+/// Each way goes on by one, in a view: it is of the same storage then, beside the same entities.
+pub fn go_on_in_view<J: Join<Type: Drop>>(
+    ways: &mut WriteStorage<'_, Way>,
+    join: J,
+) -> Result<(), AllocError>
+    ensures storage { view.storage_name ways.new ≡ view.storage_name ways.old }
+    ensures entities { view.entities_of ways.new ≡ view.entities_of ways.old }
+{
+    ways.for_each_with(join, |way: &mut Way, _beside: J::Type| {
+        way.0 = way.0.wrapping_add(1);
+    })
+}
+
+/// A cursor goes as far as there is memory. Where it ends, nothing is left; else it stands at an index, with what is beside it given already.
+pub fn go_as_far_as_it_goes<J: Join<Type: Drop>>(cursor: &mut WriteJoin<'_, Way, J>) -> bool
+    ensures ended { result ≡ true → rest cursor.new ≡ [] }
+    ensures stands { result ≡ false → IsSome (here cursor.new) × (is_given cursor.new ≡ true) }
+{
+    let went = cursor.for_each(|way: &mut Way, _beside: J::Type| {
+        way.0 = way.0.wrapping_add(1);
+    });
+    went.is_ok()
 }
 
 /// A step of a cursor beside any join writes nothing.

@@ -1,10 +1,10 @@
 //! Players by their points, from an index of a world.
-ghost use Rattle.std.specs.Prelude.{IfSome};
+ghost use Rattle.std.specs.Prelude.{◌≡◌, true, IfSome};
 ghost use Rattle.specs.specs.Indexing.{IsEmitting, Knows};
 ghost use Rattle.specs.specs.Reading.Following.{IsFollowed};
 ghost use Rattle.specs.specs.World.State.{core_state};
 
-use specs::{Component, Core, DenseVecStorage, FlaggedStorage, Has, KeyIndex, KeyOf};
+use specs::{Component, Core, DenseVecStorage, FlaggedStorage, Has, KeyIndex, KeyOf, WriteStorage};
 
 /// The points of a player. Readers are told of each change.
 #[derive(Clone, Copy, Debug, PartialEq, Eq)]
@@ -34,4 +34,17 @@ pub fn board<S: Has<Points, I>, I>(core: &mut Core<S>) -> Option<KeyIndex<Points
     ensures followed { IfSome result (λ x. IsEmitting (S.part core.old.parts.storages) → IsFollowed S.the_slot x.reader (core_state S.table S.ids core.new)) }
 {
     core.make_index(ByPoints).ok()
+}
+
+/// Whether a second refresh went well where the first did, which it always does: nothing is left to read.
+pub fn refreshed_twice(
+    index: &mut KeyIndex<Points, ByPoints>,
+    points: &mut WriteStorage<'_, Points>,
+) -> bool
+    ensures { result ≡ true }
+{
+    match index.refresh(points) {
+        Ok(()) => index.refresh(points).is_ok(),
+        Err(_) => true,
+    }
 }

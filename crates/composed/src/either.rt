@@ -11,6 +11,12 @@ pub enum Either<A, B> {
 }
 
 impl<A: fmt::Display, B: fmt::Display> fmt::Display for Either<A, B> {
+    ghost use Rattle.composed.specs.Both.{of_either};
+
+    ghost output = { of_either A.output B.output };
+
+    ghost styled_output = { of_either A.styled_output B.styled_output };
+
     fn fmt<W: fmt::Write>(&self, f: &mut fmt::Formatter<W>) -> fmt::Result {
         match self {
             Either::First(value) => value.fmt(f),

@@ -13,14 +13,22 @@ use storages::Component;
 
 /// A struct of storages that can be made empty.
 pub trait Empty: Held + Sized {
-    /// No component type is registered, and no marker has been given an id. It takes no memory.
+    // What else holds of an empty one: of markers, that no id is mapped to an entity.
+    ghost IsBlank: { Self → Type 0 };
+
+    /// No component type is registered, no marker has been given an id, and no id leads to an entity. It takes no memory.
     fn empty(alloc: Global) -> Self
         ensures none { (slot : Self.Slot) → Self.table result slot ≡ None }
         ensures empty { HasNoValue (Self.table result) }
-        ensures ids { AllLeft Self.marks.holds (Self.ids result) };
+        ensures ids { AllLeft Self.marks.holds (Self.ids result) }
+        ensures blank { IsBlank result };
 }
 
 impl<T: Component + Drop> Empty for Only<T> {
+    ghost use Rattle.std.specs.Prelude.{⊤};
+
+    ghost IsBlank = { λ s. ⊤ };
+
     #[tactic(auto, using(crate::proofs::Sides::has_no_value))]
     fn empty(_alloc: Global) -> Self {
         Only::new()
@@ -28,6 +36,11 @@ impl<T: Component + Drop> Empty for Only<T> {
 }
 
 impl<T> Empty for Marking<SimpleMarker<T>, SimpleMarkerAllocator<T>> {
+    ghost use Rattle.std.specs.Prelude.{◌≡◌, ℕ, None};
+    ghost use Rattle.saveload.specs.Simple.{given};
+
+    ghost IsBlank = { λ m. (id : ℕ) → given m.allocator id ≡ None };
+
     #[tactic(auto, using(crate::proofs::Sides::has_no_value))]
     fn empty(alloc: Global) -> Self {
         Marking::new(alloc)
@@ -35,6 +48,8 @@ impl<T> Empty for Marking<SimpleMarker<T>, SimpleMarkerAllocator<T>> {
 }
 
 impl<A: Empty, B: Empty> Empty for Both<A, B> {
+    ghost IsBlank = { λ s. A.IsBlank s.first × B.IsBlank s.rest };
+
     #[tactic(auto, using(crate::proofs::Sides::has_no_value, crate::proofs::Sides::all_left))]
     fn empty(alloc: Global) -> Self {
         Both {

@@ -7,6 +7,7 @@ use Rattle.entities.specs.declared.create_iter.CreateIterAtomic.{CreateIterAtomi
 use Rattle.entities.specs.declared.entity.Entity.{Entity}
 use Rattle.hibits.specs.declared.limits.TheConstants.{INDEX_LIMIT}
 use Rattle.entities.specs.Census.{Census, population}
+use Rattle.entities.specs.Kept.{GrowsByNeed}
 use Rattle.entities.specs.Population.{Population, MayBeBorn, NoneFree, NoneUnused, born_pending, index_of, generation_of}
 
 -- the entities that it was lent
@@ -29,6 +30,6 @@ Gives old (Some (Ok e)) new =
 Gives old (Some (Err x)) new =
     (has_failed old ≡ false) × (has_failed new ≡ true) × (x ≡ OutOfMemory) × (length (lent_to old).now.generations < (lent_to old).now.room → ⊥) × NoneFree (peopled old) × (NoneUnused (peopled old) → ⊥) × ((lent_to new).now ≡ (lent_to old).now)
 
--- and it has the same entities, and as much room
+-- and it has the same entities, and no less room, and more only as a birth needs
 abbrev pub CreatesNext : CreateIterAtomic → Option (Result Entity CreateError) → CreateIterAtomic → Type 0
-CreatesNext old r new = ((lent_to new).ghost_name ≡ (lent_to old).ghost_name) × ((lent_to old).now.room ≤ (lent_to new).now.room) × Gives old r new
+CreatesNext old r new = ((lent_to new).ghost_name ≡ (lent_to old).ghost_name) × ((lent_to old).now.room ≤ (lent_to new).now.room) × GrowsByNeed (lent_to old).now (lent_to new).now × Gives old r new

@@ -1,10 +1,10 @@
 -- What the allocator keeps of its parts.
-use Rattle.std.specs.Prelude.{◌≡◌, ◌≢◌, ℕ, ℤ, pos, nat_abs, int_lt, ◌+◌, ◌<◌, ◌≤◌, Bool, true, not, ◌&&◌, List, length, slice_index_or, nat_lt, ◌==◌, if◌then◌else◌}
+use Rattle.std.specs.Prelude.{◌≡◌, ◌≢◌, ℕ, ℤ, pos, nat_abs, int_lt, ◌+◌, ◌*◌, ◌<◌, ◌≤◌, max, Bool, true, not, ◌&&◌, List, length, slice_index_or, nat_lt, ◌==◌, if◌then◌else◌}
 use Rattle.std.specs.List.{count_by}
 use Rattle.hibits.specs.declared.limits.TheConstants.{INDEX_LIMIT}
 use Rattle.hibits.specs.Sets.{Layered, HasRoom}
-use Rattle.entities.specs.Population.{last_generation}
-use Rattle.entities.specs.Census.{Census, has, living_of}
+use Rattle.entities.specs.Population.{is_free, last_generation}
+use Rattle.entities.specs.Census.{Census, has, living_of, population}
 
 -- whether a generation is one of an index that was born, is dead, and may be born again
 abbrev pub free_at : ℤ → Bool
@@ -44,6 +44,12 @@ pub record IsKept (generations : List ℤ) (free : List ℕ) (room listed stacke
   pub stack : IsStacked generations free
   pub sets : AreSets generations alive raised killed
   pub roomy : IsRoomy (length generations) room listed stacked alive raised killed
+
+-- how much room a birth may get: none where an index is free or has room, else for at most twice as many indices as were born, or for the first 64
+pub record GrowsByNeed (c c' : Census) : Type 0 where
+  pub kept : length c.generations < c.room → c'.room ≡ c.room
+  pub reused : (i : ℕ) → is_free (population c) i ≡ true → c'.room ≡ c.room
+  pub grown : c'.room ≤ max c.room (max 64 (2 * length c.generations))
 
 -- the same but for the room
 pub record SameBut (c c' : Census) : Type 0 where

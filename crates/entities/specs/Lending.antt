@@ -32,9 +32,9 @@ name_of_builder b = (lent_to_builder b).ghost_name
 abbrev pub BuilderRests : MutBor Census → Result EntityResBuilder CreateError → Fml
 BuilderRests s r = RestsIfErr whole.the_row s name_of_builder r (Unchanged s)
 
--- where an outcome was an error, the entity of a builder is marked, if it lives
+-- where an outcome was an error, the entity of a builder is marked, if it lives, and no room goes
 abbrev pub KeptRests : {E : Type 0} → EntityResBuilder → Result EntityResBuilder E → Fml
-KeptRests b r = RestsIfErr whole.the_row (lent_to_builder b) name_of_builder r (λ n. MarkedIfAlive (population (lent_to_builder b).now) (entity_built b) (population n))
+KeptRests b r = RestsIfErr whole.the_row (lent_to_builder b) name_of_builder r (λ n. MarkedIfAlive (population (lent_to_builder b).now) (entity_built b) (population n) × (n.room ≡ (lent_to_builder b).now.room))
 
 -- the error, if it is one
 abbrev pub err_of : {T E : Type 0} → Result T E → Option E

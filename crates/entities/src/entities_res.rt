@@ -1,11 +1,11 @@
 //! The entities of a world.
-ghost use Rattle.std.specs.Prelude.{◌≡◌, ℕ, ◌+◌, ◌-◌, ◌≤◌, ◌≢◌, ◌<ℤ◌, ◌↔◌, pos, true, false, length, slice_get, Some, ◌<◌, IsTrue, IfOk, IfErr, IsOk, OnOk, OnErr};
+ghost use Rattle.std.specs.Prelude.{◌≡◌, ℕ, ◌+◌, ◌-◌, ◌≤◌, ◌≢◌, ◌<ℤ◌, ◌↔◌, pos, max, true, false, length, slice_get, Some, ◌<◌, IsTrue, IfOk, IfErr, IsOk, OnOk, OnErr};
 ghost use Rattle.std.specs.Borrow.{sem, RestsIfErr};
 ghost use Rattle.std.specs.FinSet as set;
 ghost use Rattle.entities.specs.Population.{no_one, MayBeBorn, NoneFree, NoneUnused, born_pending, mark, lives, IsAlive, generation_now, generation_reported, index_of, generation_of, number_of};
 ghost use Rattle.entities.specs.declared.entity.Entity.{Entity};
 ghost use Rattle.entities.specs.Census.{population};
-ghost use Rattle.entities.specs.Kept.{SameBut};
+ghost use Rattle.entities.specs.Kept.{GrowsByNeed, SameBut};
 ghost use Rattle.entities.specs.Upcoming.{upcoming};
 ghost use Rattle.entities.specs.Phase.Reserve.{IsReserve, givable, with_births};
 
@@ -78,6 +78,7 @@ impl EntitiesRes {
         ensures err { OnErr result (self.new ≡ self.old) }
         ensures had_room { length self.old.generations < self.old.room → IsOk result }
         ensures room { self.old.room ≤ self.new.room }
+        ensures takes { GrowsByNeed self.old self.new }
     {
         self.allocator.allocate_atomic()
     }
@@ -112,6 +113,7 @@ impl EntitiesRes {
         ensures memory { IfErr result (λ e. e ≡ CreateError.OutOfMemory → NoneUnused (population self.old) → ⊥) }
         ensures had_room { length self.old.generations < self.old.room → IsOk result }
         ensures room { IfOk result (λ b. self.old.room ≤ (lent_to_builder b).now.room) }
+        ensures takes { IfOk result (λ b. GrowsByNeed self.old (lent_to_builder b).now) }
     {
         let entity = self.create()?;
         Ok(EntityResBuilder {
@@ -221,6 +223,7 @@ impl EntitiesRes {
         ensures ok { OnOk result (end ≤ self.new.room) }
         ensures err { OnErr result (self.new ≡ self.old) }
         ensures grows { self.old.room ≤ self.new.room }
+        ensures bound { self.new.room ≤ max self.old.room end }
     {
         self.allocator.make_room(end)
     }

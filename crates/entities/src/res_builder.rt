@@ -74,7 +74,8 @@ impl Drop for EntityResBuilder<'_> {
     ghost use Rattle.entities.specs.Lending.{lent_to_builder, entity_built};
 
     fn drop(self)
-        ensures { MarkedIfAlive (population (lent_to_builder self.entry).now) (entity_built self.entry) (population self.exit.0.now) }
+        ensures marked { MarkedIfAlive (population (lent_to_builder self.entry).now) (entity_built self.entry) (population self.exit.0.now) }
+        ensures room { self.exit.0.now.room ≡ (lent_to_builder self.entry).now.room }
     {
         let EntityResBuilder { entities, entity } = self;
         let _ = entities.delete(entity);

@@ -63,6 +63,15 @@ module _ (s s' : set.FinSet nat_cmp) (p : ℕ) (is : s' ≡ set.insert s p) wher
   pub not_grown : (k : ℕ) → k ≢ p → set.contains s' k ≡ true → set.contains s k ≡ true
   not_grown k ne e = sym (in_it k ∙ ap (λ b. b || set.contains s k) (ne_eqb k p ne)) ∙ e
 
+-- a page that is there is made by nothing
+pub grown_already : (s : set.FinSet nat_cmp) (p : ℕ) → set.contains s p ≡ true → s ≡ set.insert s p
+grown_already s p has =
+    set.same_set nat_cmp_total set.nat_cmp-IsAntisymmetric _ _ (λ k.
+    elim (cases_eq k p) [
+      | inl at ↦ ap (set.contains s) at ∙ has ∙ sym (ap (set.contains (set.insert s p)) at ∙ in_grown s _ p refl)
+      | inr other ↦ sym (in_insert s p k ∙ ap (λ b. b || set.contains s k) (ne_eqb k p other))
+    ])
+
 module _ (ws vs : List ℕ) (pages : set.FinSet nat_cmp) (ok : IsPaged ws pages) where
   pub paged_grown : (p : ℕ) (pages' : set.FinSet nat_cmp) → pages' ≡ set.insert pages p → SameWords ws vs → length vs ≡ max (length ws) ((p + 1) * 64) → IsPaged vs pages'
   paged_grown p pages' is same len = record {

@@ -93,8 +93,9 @@ impl BitSet {
         Ok(empty)
     }
 
-    /// Gets room for an index, and for no block after its own: after it is Ok, each later `add` of this index is Ok.
+    /// Gets room for the block of an index, and for no other: after it is Ok, each later `add` of this index is Ok.
     #[inline(always)]
+    #[tactic(auto, using(crate::proofs::PageLemmas::grown_already))]
     pub fn reserve_for(&mut self, id: Index) -> Result<(), SetError>
         ensures members { self.new.members ≡ self.old.members }
         ensures ok { OnOk result (HasRoom self.new id × id < INDEX_LIMIT) }
@@ -102,6 +103,7 @@ impl BitSet {
         ensures limit { (result ≡ Err SetError.IndexLimit) ↔ (INDEX_LIMIT ≤ id) }
         ensures room { (i : ℕ) → HasRoom self.old i → HasRoom self.new i }
         ensures no_further { (i : ℕ) → id / 4096 < i / 4096 → HasRoom self.new i → HasRoom self.old i }
+        ensures blocks { OnOk result (self.new.room ≡ set.insert self.old.room (id / 4096)) }
         ensures had_room { HasRoom self.old id → IsOk result }
         ensures kept { HasRoom self.old id → self.new ≡ self.old }
     {
@@ -131,6 +133,7 @@ impl BitSet {
         ensures error { IfErr result (λ e. e ≡ SetError.OutOfMemory) }
         ensures room { (i : ℕ) → HasRoom self.old i → HasRoom self.new i }
         ensures no_further { (i : ℕ) → id / 4096 < i / 4096 → HasRoom self.new i → HasRoom self.old i }
+        ensures blocks { OnOk result (self.new.room ≡ set.insert self.old.room (id / 4096)) }
     {
         grow(&mut self.layer3, (id / 16_777_216) as usize + 1)?;
         grow(&mut self.layer2, (id / 262144) as usize + 1)?;
@@ -141,6 +144,7 @@ impl BitSet {
 
     /// Adds an index, and says whether it was there. Ports `hibitset::BitSet::add`.
     #[inline(always)]
+    #[tactic(auto, using(crate::proofs::PageLemmas::grown_already))]
     pub fn add(&mut self, id: Index) -> Result<bool, SetError>
         ensures was { IfOk result (λ was. was ≡ set.contains self.old.members id) }
         ensures members { OnOk result (self.new.members ≡ set.insert self.old.members id) }
@@ -150,6 +154,7 @@ impl BitSet {
         ensures limit { (result ≡ Err SetError.IndexLimit) ↔ (INDEX_LIMIT ≤ id) }
         ensures room { (i : ℕ) → HasRoom self.old i → HasRoom self.new i }
         ensures no_further { (i : ℕ) → id / 4096 < i / 4096 → HasRoom self.new i → HasRoom self.old i }
+        ensures blocks { OnOk result (self.new.room ≡ set.insert self.old.room (id / 4096)) }
         ensures had_room { HasRoom self.old id → IsOk result }
         ensures kept { HasRoom self.old id → self.new.room ≡ self.old.room }
     {

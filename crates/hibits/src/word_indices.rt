@@ -1,5 +1,5 @@
 //! The indices that a word stands for.
-ghost use Rattle.std.specs.Prelude.{◌≡◌, ℕ, ◌+◌, ◌-◌, ◌*◌, ◌^◌, ◌<◌, ◌≤◌, [], ◌∷◌, MatchOption, IfSome, length};
+ghost use Rattle.std.specs.Prelude.{◌≡◌, ℕ, ◌+◌, ◌-◌, ◌*◌, ◌^◌, ◌<◌, ◌≤◌, [], ◌∷◌, MatchOption, IfSome, IfNone, length};
 ghost use Rattle.hibits.specs.Words.{indices_of};
 
 use crate::limits::{INDEX_LIMIT, Index, LAYERS};
@@ -50,6 +50,7 @@ impl WordIndices {
     pub fn next(&mut self) -> Option<Index>
         ensures items { MatchOption result (indices_of self.old ≡ []) (λ i. indices_of self.old ≡ i ∷ indices_of self.new) }
         ensures below { IfSome result (λ i. i < INDEX_LIMIT) }
+        ensures stays { IfNone result (self.new ≡ self.old) }
     {
         if self.word == 0 {
             return None;

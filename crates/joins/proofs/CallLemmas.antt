@@ -14,7 +14,7 @@ use Rattle.storages.specs.declared.event.ComponentEvent.TheVariants.{Modified}
 use Rattle.storages.specs.Slot.{Slot, with_option, Becomes, IsSame}
 use Rattle.storages.specs.Meaning.{HasRoom}
 use Rattle.joins.specs.Each.{each_becomes}
-use Rattle.joins.specs.Visits.{CalledAt, CalledAtEach, ChangedAt, StoppedIn, RefusedIn}
+use Rattle.joins.specs.Visits.{CalledAt, CalledAtEach, ChangedAt, StoppedIn, StoppedAt, RefusedIn, RefusedAt}
 
 -- what holds of an option's value holds of the value that it is
 pub at_some : (P : ℕ → Type 0) (o : Option ℕ) (i : ℕ) → o ≡ Some i → IfSome o P → P i
@@ -156,6 +156,16 @@ module _ {T I R F : Type 0} (gives : ℕ → I → Type 0) (step : F → MutBor 
     same = subst (λ (u : Slot T). IsSame u s') same h;
   }
 
+  -- and a cursor stands at it
+  pub stands_here : (is done rest : List ℕ) (i : ℕ) (left : List ℕ) (f : F) (s : Slot T) (f' : F) (m t s' : Slot T) → is ≡ done ++ rest → rest ≡ i ∷ left → t ≡ m
+      → CalledAtEach gives step r done f s f' m → IsSame t s' → (stands : Option ℕ) (behind : List ℕ) → stands ≡ Some i → behind ≡ left → StoppedAt gives step r is f s s' stands behind
+  unfolding stopped_here
+  stands_here is done rest i left f s f' m t s' e next same c h stands behind at ahead = record {
+    stop = stopped_here is done rest i left f s f' m t s' e next same c h;
+    here = at;
+    rest = ahead;
+  }
+
 module _ {T I R F : Type 0} (gives : ℕ → I → Type 0) (step : F → MutBor T → I → R → MutBor T → F → Type 0) (r refusal : R) where
   -- the call at the next of them refused
   pub refused_here : (is done rest : List ℕ) (i : ℕ) (left : List ℕ) (f : F) (s : Slot T) (f' : F) (m : Slot T) (g : F) (s' : Slot T) → is ≡ done ++ rest → rest ≡ i ∷ left
@@ -170,6 +180,17 @@ module _ {T I R F : Type 0} (gives : ℕ → I → Type 0) (step : F → MutBor 
     calls = c;
     last = g;
     call = subst (λ (x : R). CalledAt gives step x i f' m g s') this d;
+  }
+
+  -- and a cursor stands at it
+  pub refused_stands_here : (is done rest : List ℕ) (i : ℕ) (left : List ℕ) (f : F) (s : Slot T) (f' : F) (m : Slot T) (g : F) (s' : Slot T) → is ≡ done ++ rest → rest ≡ i ∷ left
+      → CalledAtEach gives step r done f s f' m → (answer : R) → answer ≡ refusal → CalledAt gives step answer i f' m g s'
+      → (stands : Option ℕ) (behind : List ℕ) → stands ≡ Some i → behind ≡ left → RefusedAt gives step r refusal is f s s' stands behind
+  unfolding refused_here
+  refused_stands_here is done rest i left f s f' m g s' e next c answer this d stands behind at ahead = record {
+    stop = refused_here is done rest i left f s f' m g s' e next c answer this d;
+    here = at;
+    rest = ahead;
   }
 
 -- the indices that are left keep what they had where the first of them is written to

@@ -1,5 +1,6 @@
 -- Calls of a closure on components that are taken out.
-use Rattle.std.proofs.Common.{◌≡◌, ℕ, ◌++◌, List, [], ◌∷◌, refl, sym, ◌∙◌, ap, subst}
+use Rattle.std.proofs.Common.{◌≡◌, ℕ, ◌++◌, List, [], ◌∷◌, Some, refl, sym, ◌∙◌, ap, subst}
+use Rattle.std.specs.Prelude.{Option}
 use Rattle.std.specs.List.{Contains}
 use Rattle.std.specs.List.Sorted.{IsStrictlyIncreasing}
 use Rattle.std.specs.FinMap as map
@@ -7,7 +8,7 @@ use Rattle.std.specs.Ordering.{nat_cmp}
 use Rattle.storages.specs.Finds.{got_left}
 use Rattle.storages.specs.Slot.{Slot, IsSame}
 use Rattle.joins.specs.Each.{each_gone}
-use Rattle.joins.specs.Taking.{TakenAt, TakenAtEach, TakingStopped}
+use Rattle.joins.specs.Taking.{TakenAt, TakenAtEach, TakingStopped, TakingStoppedAt}
 use Rattle.joins.proofs.CallLemmas.{contains_behind, first_once}
 
 module _ {T I F : Type 0} (gives : ℕ → I → Type 0) (step : F → T → I → Unit {0} → F → Type 0) where
@@ -44,6 +45,16 @@ module _ {T I F : Type 0} (gives : ℕ → I → Type 0) (step : F → T → I �
     mid = m;
     calls = c;
     same = subst (λ (u : Slot T). IsSame u s') same h;
+  }
+
+  -- and a cursor stands at it
+  pub taking_stands_here : (is done rest : List ℕ) (i : ℕ) (left : List ℕ) (f : F) (s : Slot T) (f' : F) (m t s' : Slot T) → is ≡ done ++ rest → rest ≡ i ∷ left → t ≡ m
+      → TakenAtEach gives step done f s f' m → IsSame t s' → (stands : Option ℕ) (behind : List ℕ) → stands ≡ Some i → behind ≡ left → TakingStoppedAt gives step is f s s' stands behind
+  unfolding taking_stopped
+  taking_stands_here is done rest i left f s f' m t s' e next same c h stands behind at ahead = record {
+    stop = taking_stopped is done rest i left f s f' m t s' e next same c h;
+    here = at;
+    rest = ahead;
   }
 
 -- the indices that are left keep what they had where the first of them is taken out

@@ -1,5 +1,5 @@
 -- Calls of a closure on the components that a walk takes out.
-use Rattle.std.specs.Prelude.{◌≡◌, ℕ, List, [], ◌∷◌, ◌++◌, Some}
+use Rattle.std.specs.Prelude.{◌≡◌, ℕ, List, [], ◌∷◌, ◌++◌, Option, Some}
 use Rattle.std.specs.FinMap as map
 use Rattle.storages.specs.Slot.{Slot, Takes, IsSame}
 
@@ -28,3 +28,9 @@ module _ {T I F : Type 0} (gives : ℕ → I → Type 0) (step : F → T → I �
     pub mid : Slot T
     pub calls : TakenAtEach done f s state mid
     pub same : IsSame mid s'
+
+  -- such calls, after which a cursor stands at the index that had none, before those behind it
+  pub record TakingStoppedAt (is : List ℕ) (f : F) (s s' : Slot T) (stands : Option ℕ) (behind : List ℕ) : Type 0 where
+    pub stop : TakingStopped is f s s'
+    pub here : stands ≡ Some stop.at
+    pub rest : behind ≡ stop.left

@@ -1,5 +1,5 @@
 -- Calls of a closure at each index of a walk that writes.
-use Rattle.std.specs.Prelude.{◌≡◌, ℕ, List, [], ◌∷◌, ◌++◌, Some}
+use Rattle.std.specs.Prelude.{◌≡◌, ℕ, List, [], ◌∷◌, ◌++◌, Option, Some}
 use Rattle.std.specs.FinMap as map
 use Rattle.std.specs.Borrow.{MutBor}
 use Rattle.storages.specs.declared.event.ComponentEvent.TheVariants.{Modified}
@@ -37,6 +37,12 @@ module _ {T I R F : Type 0} (gives : ℕ → I → Type 0) (step : F → MutBor 
     pub calls : CalledAtEach r done f s state mid
     pub same : IsSame mid s'
 
+  -- such calls, after which a cursor stands at the index that had none, before those behind it
+  pub record StoppedAt (r : R) (is : List ℕ) (f : F) (s s' : Slot T) (stands : Option ℕ) (behind : List ℕ) : Type 0 where
+    pub stop : StoppedIn r is f s s'
+    pub here : stands ≡ Some stop.at
+    pub rest : behind ≡ stop.left
+
   -- the calls at the first of a list, and one at the index after them that answers `refusal`, and none behind it
   pub record RefusedIn (r refusal : R) (is : List ℕ) (f : F) (s s' : Slot T) : Type 0 where
     pub done : List ℕ
@@ -48,6 +54,12 @@ module _ {T I R F : Type 0} (gives : ℕ → I → Type 0) (step : F → MutBor 
     pub calls : CalledAtEach r done f s state mid
     pub last : F
     pub call : CalledAt refusal at state mid last s'
+
+  -- such calls, after which a cursor stands at the index of the one that answers `refusal`, before those behind it
+  pub record RefusedAt (r refusal : R) (is : List ℕ) (f : F) (s s' : Slot T) (stands : Option ℕ) (behind : List ℕ) : Type 0 where
+    pub stop : RefusedIn r refusal is f s s'
+    pub here : stands ≡ Some stop.at
+    pub rest : behind ≡ stop.left
 
   -- the call at one index, as the map shows it
   pub record ChangedAt (r : R) (s s' : Slot T) (i : ℕ) : Type 0 where
@@ -75,6 +87,9 @@ module _ {T I : Type 0} (gives : ℕ → I → Type 0) (leaves : MutBor T → I 
 
   abbrev pub EachStopped : List ℕ → Slot T → Slot T → Type 0
   EachStopped is s s' = StoppedIn gives stateless (tt {0}) is (tt {0}) s s'
+
+  abbrev pub EachStoppedAt : List ℕ → Slot T → Slot T → Option ℕ → List ℕ → Type 0
+  EachStoppedAt is s s' stands behind = StoppedAt gives stateless (tt {0}) is (tt {0}) s s' stands behind
 
   abbrev pub ChangedOnce : Slot T → Slot T → ℕ → Type 0
   ChangedOnce s s' i = ChangedAt gives stateless (tt {0}) s s' i

@@ -1,11 +1,11 @@
 //! The values of a join.
-ghost use Rattle.std.specs.Prelude.{◌≡◌, ℕ, ◌+◌, ◌-◌, ◌*◌, ◌≤◌, ◌<◌, true, false, MatchOption, IfSome, IfNone, [], ⊤};
+ghost use Rattle.std.specs.Prelude.{◌≡◌, ℕ, ◌+◌, ◌-◌, ◌*◌, ◌^◌, ◌≤◌, ◌<◌, true, false, MatchOption, IfSome, IfNone, [], ⊤, min};
 ghost use Rattle.std.specs.Iterator.{item_count, MakesProgress};
 ghost use Rattle.std.specs.List.{FoldsTo, fold};
 ghost use Rattle.hibits.specs.Left.{left};
 ghost use Rattle.entities.specs.Census.{population};
 ghost use Rattle.entities.specs.Population.{index_of, IsAlive};
-ghost use Rattle.joins.specs.Next.{GivesNext, GivesLater};
+ghost use Rattle.joins.specs.Next.{GivesNext, GivesLater, GivesStill, GoesForward};
 
 use crate::join::Join;
 use crate::lookup::Lookup;
@@ -33,6 +33,7 @@ impl<J: Join> JoinIter<J> {
         ensures position { result.keys.position ≡ 0 }
         ensures cost { J.Mask.cost result.keys.mask ≡ J.cost join }
         ensures most { J.Mask.most result.keys.mask ≡ J.most join }
+        ensures reads { result.keys.reads ≡ min (J.cost join) (2 ^ 64 - 1) }
     {
         let (mask, values) = join.open();
         JoinIter {
@@ -41,8 +42,8 @@ impl<J: Join> JoinIter<J> {
         }
     }
 
-    /// How many words of plain sets were read so far. A join of k plain sets, of which the smallest has n members, reads at most
-    /// k(4n + 1).
+    /// How many words of plain sets were read so far: at first what one word of the join costs, and no step makes it less. A join of k plain
+    /// sets, of which the smallest has n members, reads at most k(4n + 1).
     #[inline(always)]
     pub fn reads(&self) -> u64
         ensures reads { result ≡ self.now.keys.reads }
@@ -60,6 +61,7 @@ impl<J: Join> JoinIter<J> {
         ensures ended { IfNone result (left (J.Mask.has self.new.keys.mask 0) self.new.keys.position ≡ []) }
         ensures later_gives { (i : ℕ) (r : J.Type) → self.new.keys.position ≤ i → J.value_gives self.new.values i r → J.value_gives self.old.values i r }
         ensures again_gives { J.repeats ≡ true → (i : ℕ) (r : J.Type) → J.value_gives self.new.values i r → J.value_gives self.old.values i r }
+        ensures reads { self.old.keys.reads ≤ self.new.keys.reads }
     {
         let id = self.keys.next()?;
         Some(J::get(&mut self.values, id))
@@ -148,7 +150,10 @@ impl<J: Join> Iterator for JoinIter<J> {
     ghost next_gives = { λ s r t. (t.keys.mask ≡ s.keys.mask)
         × GivesNext (J.Mask.has s.keys.mask 0) (J.value_gives s.values) s.keys.position t.keys.position r
         × IfNone r (left (J.Mask.has t.keys.mask 0) t.keys.position ≡ [])
-        × GivesLater (J.value_gives s.values) (J.value_gives t.values) t.keys.position };
+        × GivesLater (J.value_gives s.values) (J.value_gives t.values) t.keys.position
+        × (J.repeats ≡ true → GivesStill (J.value_gives s.values) (J.value_gives t.values))
+        × GoesForward s.keys.position t.keys.position r
+        × (s.keys.reads ≤ t.keys.reads) };
 
     ghost remaining = { item_count (λ s. left (J.Mask.has s.keys.mask 0) s.keys.position) };
 

@@ -19,7 +19,7 @@ is_at_words (Words v) = true
 abbrev pub values_of : {X : Type 0} → List (Option X) → List X
 values_of os = filter_map (λ o. o) os
 
--- each index of a list was asked once, in turn, and what was answered are these values
+-- there is one answer for each index of a list, in turn, and these are the values among them
 pub record Asked {X : Type 0} (answers : ℕ → Option X → Type 0) (is : List ℕ) (xs : List X) : Type 0 where
   pub options : List (Option X)
   pub each : AllZip answers is options

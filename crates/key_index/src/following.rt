@@ -1,10 +1,9 @@
 //! Keys as the components of a storage have them.
-ghost use Rattle.std.specs.Prelude.{◌≡◌, ◌<◌, ◌==◌, ◌||◌, ℕ, not, IfOk, OnOk, cond};
+ghost use Rattle.std.specs.Prelude.{◌≡◌, ◌==◌, ◌||◌, ℕ, [], not, IsOk, IfOk, OnOk};
 ghost use Rattle.std.specs.BTreeSet.{contains};
 ghost use Rattle.std.specs.Ordering.{nat_cmp};
 ghost use Rattle.storages.specs.Named.{is_named};
-ghost use Rattle.key_index.specs.Indexed.{Keeps, key_in};
-ghost use Rattle.key_index.specs.Keys.{key_at};
+ghost use Rattle.key_index.specs.Indexed.{FollowsEvents, Keeps, key_in};
 
 use crate::key_lists::KeyLists;
 use crate::key_of::KeyOf;
@@ -57,7 +56,8 @@ fn follow_few<T: Component<Storage: UnprotectedStorage<T>>, K: KeyOf<T>>(
     events: &[ComponentEvent],
     masked: &MaskedStorage<T>,
 ) -> Result<(), AllocError>
-    ensures { OnOk result ((i : ℕ) → i < INDEX_LIMIT → key_at lists.new i ≡ cond (is_named i events.now) (key_in (K.key key.now) masked.now i) (key_at lists.old i)) }
+    ensures ok { OnOk result (FollowsEvents (K.key key.now) events.now lists.old lists.new masked.now) }
+    ensures idle { events.now ≡ [] → IsOk result }
 {
     for (place, event) in events.iter().enumerate() {
         let id = event.id();
@@ -77,7 +77,7 @@ fn follow_many<T: Component<Storage: UnprotectedStorage<T>>, K: KeyOf<T>>(
     events: &[ComponentEvent],
     masked: &MaskedStorage<T>,
 ) -> Result<(), AllocError>
-    ensures { OnOk result ((i : ℕ) → i < INDEX_LIMIT → key_at lists.new i ≡ cond (is_named i events.now) (key_in (K.key key.now) masked.now i) (key_at lists.old i)) }
+    ensures ok { OnOk result (FollowsEvents (K.key key.now) events.now lists.old lists.new masked.now) }
 {
     let mut followed = BTreeSet::new(alloc);
     for event in events {
@@ -90,7 +90,7 @@ fn follow_many<T: Component<Storage: UnprotectedStorage<T>>, K: KeyOf<T>>(
     Ok(())
 }
 
-// The same, by what is faster for so many events.
+// The same, by what is faster for so many events. Where there are none it takes no memory.
 pub(crate) fn follow<T: Component<Storage: UnprotectedStorage<T>>, K: KeyOf<T>>(
     alloc: Global,
     lists: &mut KeyLists<K::Key>,
@@ -98,7 +98,8 @@ pub(crate) fn follow<T: Component<Storage: UnprotectedStorage<T>>, K: KeyOf<T>>(
     events: &[ComponentEvent],
     masked: &MaskedStorage<T>,
 ) -> Result<(), AllocError>
-    ensures { OnOk result ((i : ℕ) → i < INDEX_LIMIT → key_at lists.new i ≡ cond (is_named i events.now) (key_in (K.key key.now) masked.now i) (key_at lists.old i)) }
+    ensures ok { OnOk result (FollowsEvents (K.key key.now) events.now lists.old lists.new masked.now) }
+    ensures idle { events.now ≡ [] → IsOk result }
 {
     if events.len() <= FEW {
         follow_few(lists, key, events, masked)

@@ -1,12 +1,13 @@
 //! The index.
-ghost use Rattle.std.specs.Prelude.{◌≡◌, ℕ, None, Some, [], Err, false, true, IfOk, OnOk, OnErr, IfErr};
+ghost use Rattle.std.specs.Prelude.{◌≡◌, ℕ, None, Some, [], Err, false, true, IsOk, IfOk, OnOk, OnErr, IfErr};
 ghost use Rattle.storages.specs.WriteView.{slot, entities_of, storage_name};
+ghost use Rattle.storages.specs.Meaning.{HasRoom};
 ghost use Rattle.storages.specs.Slot.{IsSame};
 ghost use Rattle.storages.specs.Tracking.{Turns, with_reader, after_read, without_reader};
 ghost use Rattle.storages.specs.Unread.{unread_of};
 ghost use Rattle.storages.specs.Heard.{OthersKeep};
 ghost use Rattle.key_index.specs.Keys.{key_at, indices_with};
-ghost use Rattle.key_index.specs.Indexed.{Covers, IsIndexOf, Keeps};
+ghost use Rattle.key_index.specs.Indexed.{Covers, FollowsSlot, IsIndexOf, Keeps};
 
 use crate::following::{all_keys, follow};
 use crate::key_lists::KeyLists;
@@ -54,6 +55,7 @@ where
         ensures key { IfOk result (λ x. x.key ≡ key) }
         ensures fresh { IfOk result (λ x. x.stale ≡ false) }
         ensures reader { IfOk result (λ x. x.reader ≡ (slot storage.old).channel.registered) }
+        ensures unused { IfOk result (λ x. unread_of x.reader (slot storage.old).channel.readers ≡ None) }
         ensures begins { IfOk result (λ x. unread_of x.reader (slot storage.new).channel.readers ≡ Some []) }
         ensures others { IfOk result (λ x. OthersKeep x.reader (slot storage.old).channel (slot storage.new).channel) }
         ensures keeps { IfOk result (λ x. Keeps (K.key key) x.lists (slot storage.new)) }
@@ -94,14 +96,18 @@ where
     }
 
     /// Reads the events, and brings the indices that stand in them up to the storage now; a stale index is built from the storage. It takes what
-    /// the reading takes, and for each index that stands in events, once, a search in the lists of two keys. Where events were turned off, or written by hand, it follows
-    /// what was told, and may not be the storage's: its clauses ask that each index of which it keeps another key stands in an event.
+    /// the reading takes, and for each index that stands in events, once, a search in the lists of two keys. Where it is not stale and nothing is unread, it takes
+    /// no memory, and succeeds. Where events were turned off, or written by hand, it follows what was told, and each index that stands in no event keeps its key. Then it
+    /// may not be the storage's: `ok` and `keeps` ask that each index of which it keeps another key stands in an event.
     pub fn refresh(&mut self, storage: &mut WriteStorage<'_, T>) -> Result<(), IndexError>
         ensures ok { (self.old.stale ≡ false → Covers (K.key self.old.key) self.old.lists self.old.reader (slot storage.old)) → OnOk result (IsIndexOf (K.key self.old.key) K.Key.cmp self.new.lists (slot storage.new)) }
         ensures keeps { (self.old.stale ≡ false → Covers (K.key self.old.key) self.old.lists self.old.reader (slot storage.old)) → OnOk result (Keeps (K.key self.old.key) self.new.lists (slot storage.new)) }
+        ensures follows { self.old.stale ≡ false → OnOk result (FollowsSlot K.key self.old self.new (slot storage.old) (slot storage.new)) }
+        ensures idle { self.old.stale ≡ false → unread_of self.old.reader (slot storage.old).channel.readers ≡ Some [] → IsOk result }
         ensures fresh { OnOk result (self.new.stale ≡ false) }
         ensures memory { result ≡ Err IndexError.OutOfMemory → self.new.stale ≡ true }
         ensures unknown { result ≡ Err IndexError.UnknownReader → unread_of self.old.reader (slot storage.old).channel.readers ≡ None }
+        ensures unregistered { unread_of self.old.reader (slot storage.old).channel.readers ≡ None → result ≡ Err IndexError.UnknownReader }
         ensures unchanged { result ≡ Err IndexError.UnknownReader → self.new ≡ self.old }
         ensures rest { result ≡ Err IndexError.UnknownReader → IsSame (slot storage.old) (slot storage.new) }
         ensures slot { Turns (slot storage.old) (slot storage.new) (after_read self.old.reader (slot storage.old).channel) }
@@ -141,12 +147,14 @@ where
         }
     }
 
-    /// Ends the index, and its reader if it is still registered.
+    /// Ends the index, and its reader if it is still registered. No room for events is lost.
     pub fn end(self, storage: &mut WriteStorage<'_, T>)
     where
         K: Drop,
+        ensures room { (n : ℕ) → HasRoom (slot storage.old).room n → HasRoom (slot storage.new).room n }
         ensures slot { Turns (slot storage.old) (slot storage.new) (without_reader self.reader (slot storage.old).channel) }
         ensures gone { unread_of self.reader (slot storage.new).channel.readers ≡ None }
+        ensures unregistered { unread_of self.reader (slot storage.old).channel.readers ≡ None → IsSame (slot storage.old) (slot storage.new) }
         ensures others { OthersKeep self.reader (slot storage.old).channel (slot storage.new).channel }
         ensures entities { entities_of storage.new ≡ entities_of storage.old }
         ensures same_reference { storage_name storage.new ≡ storage_name storage.old }

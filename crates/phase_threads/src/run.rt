@@ -1,5 +1,5 @@
 //! A phase from its opening to its close.
-ghost use Rattle.std.specs.Prelude.{◌≡◌, ◌<◌, ◌≤◌, length, IfOk, IfErr, OnErr};
+ghost use Rattle.std.specs.Prelude.{◌≡◌, ◌+◌, ◌<◌, ◌≤◌, length, max, IfOk, IfErr, OnOk, OnErr};
 ghost use Rattle.std.specs.List.{All};
 ghost use Rattle.entities.specs.Census.{population};
 ghost use Rattle.entities.specs.Phase.Reserve.{givable};
@@ -93,7 +93,7 @@ fn run_open<A: Send + Drop, F: Fn(&Shared<'_>, &mut Pass) -> A + Sync>(
     ensures back { IfOk result (λ r. r.0.passes_back ≡ length passes.items) }
     ensures same { OnErr result (population shared.exit.0.now ≡ population (entities_of shared.entry)) }
     ensures memory { IfErr result (λ e. e ≡ OpenError.OutOfMemory) }
-    ensures room { (entities_of shared.entry).room ≤ shared.exit.0.now.room }
+    ensures room { shared.exit.0.now.room ≡ (entities_of shared.entry).room }
 {
     let mut seats = match Seats::of(alloc, passes) {
         Ok(seats) => seats,
@@ -136,6 +136,7 @@ pub fn in_threads_by<A: Send + Drop, F: Fn(&Shared<'_>, &mut Pass) -> A + Sync>(
     ensures back { IfOk result (λ r. r.0.passes_back ≡ passes) }
     ensures same { OnErr result (population entities.new ≡ population entities.old) }
     ensures room { entities.old.room ≤ entities.new.room }
+    ensures takes { OnOk result (entities.new.room ≤ max entities.old.room (length entities.old.generations + reserve)) }
     ensures many { IfErr result (λ e. e ≡ OpenError.TooManyPasses → MOST_PASSES < passes) }
     ensures limit { IfErr result (λ e. e ≡ OpenError.IndexLimit → passes ≤ MOST_PASSES × givable (population entities.old) < reserve) }
     ensures memory { IfErr result (λ e. e ≡ OpenError.OutOfMemory → passes ≤ MOST_PASSES × reserve ≤ givable (population entities.old)) }
@@ -162,6 +163,7 @@ pub fn in_threads<T: Turn + Sync>(
     ensures back { IfOk result (λ r. r.0.passes_back ≡ passes) }
     ensures same { OnErr result (population entities.new ≡ population entities.old) }
     ensures room { entities.old.room ≤ entities.new.room }
+    ensures takes { OnOk result (entities.new.room ≤ max entities.old.room (length entities.old.generations + reserve)) }
     ensures many { IfErr result (λ e. e ≡ OpenError.TooManyPasses → MOST_PASSES < passes) }
     ensures limit { IfErr result (λ e. e ≡ OpenError.IndexLimit → passes ≤ MOST_PASSES × givable (population entities.old) < reserve) }
     ensures memory { IfErr result (λ e. e ≡ OpenError.OutOfMemory → passes ≤ MOST_PASSES × reserve ≤ givable (population entities.old)) }

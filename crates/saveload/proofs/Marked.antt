@@ -16,7 +16,7 @@ use Rattle.saveload.specs.declared.error.SaveError.{SaveError}
 use Rattle.saveload.specs.declared.error.SaveError.TheVariants.{Unmarked, Custom, OutOfMemory, IdsExhausted, IdTaken}
 use Rattle.saveload.specs.Conversion.{Conversion, Has, AllNamed, IsFirstUnnamed, Refuses}
 use Rattle.saveload.specs.Saved.{entity_at, all_marked, RefusesSave}
-use Rattle.saveload.specs.Closing.{one_more, add_new, new_in, marked_in, HasMarked, LeadsTo, RefusesMarking, MarksSome, MarksThese, MarksBefore, MarksUpTo, RefusesAll}
+use Rattle.saveload.specs.Closing.{one_more, add_new, new_in, marked_in, HasMarked, LeadsTo, RefusesMarking, MarksSome, MarksThese, AllAlive, MarksBefore, MarksUpTo, RefusesAll}
 use Rattle.saveload.specs.Closing.LeadsTo.{next}
 use Rattle.saveload.specs.Places.{has_either}
 use Rattle.std.specs.Ordering.{nat_cmp}
@@ -111,40 +111,68 @@ module _ {M : Type 0} where
       let put : finmap.get s'.map (index_of e) ≡ Some x = ap (λ (m : finmap.FinMap nat_cmp M). finmap.get m (index_of e)) i ∙ get-insert s.map (index_of e) x (index_of e) ∙ ap (λ b. cond b (Some x) (finmap.get s.map (index_of e))) (eq-eqb (index_of e) (index_of e) refl) in
       subst (λ w. IsSome (found_in w s' e)) (sym same) (ap (λ b. is_some (cond b (finmap.get s'.map (index_of e)) None)) alive ∙ ap is_some put)
 
+-- what is one of the lists together is one of the list of some one
+has_flat : (refs : Entity → List Entity) (es : List Entity) (x : Entity) → Has (flat_map refs es) x → (e : Entity) × Has es e × Has (refs e) x
+has_flat refs [] x h = absurd h
+has_flat refs (e ∷ es) x h = elim (has_either (refs e) (flat_map refs es) x h) [
+  | inl l ↦ (e, inl refl, l)
+  | inr r ↦ let k = has_flat refs es x r in (k.0, inr k.1, k.2)
+]
+
+alive_if : {M : Type 0} (b : Bool) (o : Option M) → IsSome (cond b o None) → b ≡ true
+alive_if true o h = refl
+alive_if false o h = absurd (false≢true h)
+
+-- those that find their markers are alive
+pub named_are_alive : {M : Type 0} (c c' : Census) (s : Slot M) (xs : List Entity) → c' ≡ c → AllNamed (found_in c' s) xs → AllAlive (population c) xs
+named_are_alive c c' s xs same h x k = subst (λ w. is_alive (population w) x ≡ true) same (alive_if (is_alive (population c') x) (finmap.get s.map (index_of x)) (h x k))
+
+-- what some refer to is alive, where it finds its markers
+pub referred_are_alive : {M : Type 0} (c c' : Census) (s : Slot M) (refs : Entity → List Entity) (es : List Entity) → c' ≡ c → ((e : Entity) → Has es e → AllNamed (found_in c' s) (refs e)) → AllAlive (population c) (flat_map refs es)
+referred_are_alive c c' s refs es same h x k = let f = has_flat refs es x k in named_are_alive c c' s (refs f.0) same (h f.0 f.1) x f.2
+
+pub one_alive : (people : Population) (e : Entity) → is_alive people e ≡ true → AllAlive people (e ∷ [])
+one_alive people e a x (inl same) = subst (λ y. is_alive people y ≡ true) same a
+one_alive people e a x (inr n) = absurd n
+
+alive_both : (people : Population) (xs ys : List Entity) → AllAlive people xs → AllAlive people ys → AllAlive people (xs ++ ys)
+alive_both people xs ys f g x h = elim (has_either xs ys x h) [ inl l ↦ f x l | inr r ↦ g x r ]
+
 split_at : (xs : List Entity) (i : ℕ) (d : Entity) → i < length xs → xs ≡ take i xs ++ get_or xs i d ∷ drop (i + 1) xs
 split_at xs i d lt = sym (take-append-drop i xs) ∙ ap (λ l. take i xs ++ l) (drop_more xs i d lt)
 
 module _ {M : Type 0} where
   -- none of a list got a mark
-  pub before_all : (xs : List Entity) (s s' : Slot M) → s'.map ≡ s.map → MarksBefore xs s s' xs
-  before_all xs s s' e = record { before = []; parts = refl; marked = marks_nobody s s' e }
+  pub before_all : (people : Population) (xs : List Entity) (s s' : Slot M) → s'.map ≡ s.map → MarksBefore people xs s s' xs
+  before_all people xs s s' e = record { before = []; parts = refl; alive = λ x h. absurd h; marked = marks_nobody s s' e }
 
   -- each of a list has one
-  pub after_all : (xs : List Entity) (s s' : Slot M) → HasMarked s s' (new_in (marked_in s) xs) → MarksBefore xs s s' []
-  after_all xs s s' h = record { before = xs; parts = sym (append-nil xs); marked = h }
+  pub after_all : (people : Population) (xs : List Entity) (s s' : Slot M) → AllAlive people xs → HasMarked s s' (new_in (marked_in s) xs) → MarksBefore people xs s s' []
+  after_all people xs s s' a h = record { before = xs; parts = sym (append-nil xs); alive = a; marked = h }
 
   -- those before one of a list have marks, and then it came to this one
-  one_later : (s s' s'' : Slot M) (xs : List Entity) (i : ℕ) (d : Entity) → i < length xs → HasMarked s s' (new_in (marked_in s) (take i xs)) → (after : List Entity)
-      → MarksBefore (get_or xs i d ∷ []) s' s'' after → MarksBefore xs s s'' (after ++ drop (i + 1) xs)
-  one_later s s' s'' xs i d lt h after m = record {
+  one_later : (people people' : Population) (s s' s'' : Slot M) (xs : List Entity) (i : ℕ) (d : Entity) → people' ≡ people → i < length xs → AllAlive people (take i xs) → HasMarked s s' (new_in (marked_in s) (take i xs)) → (after : List Entity)
+      → MarksBefore people' (get_or xs i d ∷ []) s' s'' after → MarksBefore people xs s s'' (after ++ drop (i + 1) xs)
+  one_later people people' s s' s'' xs i d same lt a h after m = record {
     before = take i xs ++ m.before;
     parts = split_at xs i d lt ∙ ap (λ l. take i xs ++ (l ++ drop (i + 1) xs)) m.parts ∙ ap (λ l. take i xs ++ l) (append_assoc m.before after (drop (i + 1) xs)) ∙ sym (append_assoc (take i xs) m.before (after ++ drop (i + 1) xs));
+    alive = alive_both people (take i xs) m.before a (subst (λ w. AllAlive w m.before) same m.alive);
     marked = marks_more s s' s'' (take i xs) m.before h m.marked;
   }
 
-  pub stops_at : (people people' : Population) (s s' s'' : Slot M) (xs : List Entity) (i : ℕ) (d : Entity) → people' ≡ people → i < length xs → HasMarked s s' (new_in (marked_in s) (take i xs))
-      → (e : SaveError) → RefusesMarking people' (MarksBefore (get_or xs i d ∷ []) s' s'') e → RefusesMarking people (MarksBefore xs s s'') e
-  stops_at people people' s s' s'' xs i d same lt h (Unmarked x) r = (r.0 ++ drop (i + 1) xs, one_later s s' s'' xs i d lt h (x ∷ r.0) r.1, subst (λ w. is_alive w x ≡ false) same r.2)
-  stops_at people people' s s' s'' xs i d same lt h (Custom t) r = absurd r
-  stops_at people people' s s' s'' xs i d same lt h OutOfMemory r = (r.0 ++ drop (i + 1) xs, one_later s s' s'' xs i d lt h r.0 r.1)
-  stops_at people people' s s' s'' xs i d same lt h IdsExhausted r = (r.0, r.1 ++ drop (i + 1) xs, one_later s s' s'' xs i d lt h (r.0 ∷ r.1) r.2)
-  stops_at people people' s s' s'' xs i d same lt h IdTaken r = (r.0, r.1 ++ drop (i + 1) xs, one_later s s' s'' xs i d lt h (r.0 ∷ r.1) r.2)
+  pub stops_at : (people people' : Population) (s s' s'' : Slot M) (xs : List Entity) (i : ℕ) (d : Entity) → people' ≡ people → i < length xs → AllAlive people (take i xs) → HasMarked s s' (new_in (marked_in s) (take i xs))
+      → (e : SaveError) → RefusesMarking people' (MarksBefore people' (get_or xs i d ∷ []) s' s'') e → RefusesMarking people (MarksBefore people xs s s'') e
+  stops_at people people' s s' s'' xs i d same lt a h (Unmarked x) r = (r.0 ++ drop (i + 1) xs, one_later people people' s s' s'' xs i d same lt a h (x ∷ r.0) r.1, subst (λ w. is_alive w x ≡ false) same r.2)
+  stops_at people people' s s' s'' xs i d same lt a h (Custom t) r = absurd r
+  stops_at people people' s s' s'' xs i d same lt a h OutOfMemory r = (r.0 ++ drop (i + 1) xs, one_later people people' s s' s'' xs i d same lt a h r.0 r.1)
+  stops_at people people' s s' s'' xs i d same lt a h IdsExhausted r = (r.0, r.1 ++ drop (i + 1) xs, one_later people people' s s' s'' xs i d same lt a h (r.0 ∷ r.1) r.2)
+  stops_at people people' s s' s'' xs i d same lt a h IdTaken r = (r.0, r.1 ++ drop (i + 1) xs, one_later people people' s s' s'' xs i d same lt a h (r.0 ∷ r.1) r.2)
 
   -- what the listed ones before one refer to has marks, and then it came to what this one refers to
-  pub came_to : (refs : Entity → List Entity) (start es ys : List Entity) (s s' s'' : Slot M) (i : ℕ) (d : Entity) → i < length es
-      → es ≡ start ++ new_in (marked_in s) (flat_map refs (take i es)) → HasMarked s s' (new_in (marked_in s) (flat_map refs (take i es))) → LeadsTo refs start (get_or es i d) → ys ≡ refs (get_or es i d)
-      → (after : List Entity) → MarksBefore ys s' s'' after → MarksUpTo refs start s s'' after
-  came_to refs start es ys s s' s'' i d lt list h led is after m = record {
+  pub came_to : (people people' : Population) (refs : Entity → List Entity) (start es ys : List Entity) (s s' s'' : Slot M) (i : ℕ) (d : Entity) → people' ≡ people → i < length es
+      → es ≡ start ++ new_in (marked_in s) (flat_map refs (take i es)) → AllAlive people (flat_map refs (take i es)) → HasMarked s s' (new_in (marked_in s) (flat_map refs (take i es))) → LeadsTo refs start (get_or es i d) → ys ≡ refs (get_or es i d)
+      → (after : List Entity) → MarksBefore people' ys s' s'' after → MarksUpTo people refs start s s'' after
+  came_to people people' refs start es ys s s' s'' i d same lt list a h led is after m = record {
     done = take i es;
     here = get_or es i d;
     later = drop (i + 1) es;
@@ -152,6 +180,7 @@ module _ {M : Type 0} where
     led = led;
     before = m.before;
     parts = sym is ∙ m.parts;
+    alive = alive_both people (flat_map refs (take i es)) m.before a (subst (λ w. AllAlive w m.before) same m.alive);
     marked = marks_more s s' s'' (flat_map refs (take i es)) m.before h m.marked;
   }
 
@@ -182,14 +211,6 @@ pub has_one : {X : Type 0} (xs : List X) (y x : X) → Has xs y → Has (y ∷ [
 has_one xs y x h (inl e) = subst (Has xs) e h
 has_one xs y x h (inr n) = absurd n
 
--- what is one of the lists together is one of the list of some one
-has_flat : (refs : Entity → List Entity) (es : List Entity) (x : Entity) → Has (flat_map refs es) x → (e : Entity) × Has es e × Has (refs e) x
-has_flat refs [] x h = absurd h
-has_flat refs (e ∷ es) x h = elim (has_either (refs e) (flat_map refs es) x h) [
-  | inl l ↦ (e, inl refl, l)
-  | inr r ↦ let k = has_flat refs es x r in (k.0, inr k.1, k.2)
-]
-
 -- each of a list that is longer by what one of it refers to is led to
 pub led_more : (refs : Entity → List Entity) (start es es' : List Entity) (m : ℕ → Bool) (e : Entity) (xs : List Entity) → Has es e → xs ≡ refs e → es' ≡ es ++ new_in m xs → ((x : Entity) → Has es x → LeadsTo refs start x) → (x : Entity) → Has es' x → LeadsTo refs start x
 led_more refs start es es' m e xs h is list led x k = elim (has_either es (new_in m xs) x (subst (λ l. Has l x) list k)) [
@@ -216,7 +237,7 @@ first_none g (y ∷ xs) x (inr h) a = first_none g xs x h.1 (λ z k. a z (inr k)
 
 -- a save of which each reference has a marker is refused for another cause
 pub save_refused : {M V D : Type 0} (c : Conversion M V D) (g : Entity → Option M) (values : Entity → V) (es start : List Entity) (people : Population) (s s' : Slot M)
-    → ((e : Entity) → Has es e → AllNamed g (c.references (values e))) → MarksThese (λ e. c.references (values e)) start s s' es
+    → ((e : Entity) → Has es e → AllNamed g (c.references (values e))) → MarksThese people (λ e. c.references (values e)) start s s' es
     → (e : SaveError) → RefusesSave c g values es e → RefusesAll c people values start s s' e
 save_refused c g values es start people s s' a m (Unmarked x) h = absurd (first_none g (c.references (values h.0)) x h.2 (a h.0 h.1))
 save_refused c g values es start people s s' a m (Custom t) h = (es, m, h)
@@ -225,7 +246,7 @@ save_refused c g values es start people s s' a m IdsExhausted h = absurd h
 save_refused c g values es start people s s' a m IdTaken h = absurd h
 
 pub marking_refused : {M V D : Type 0} (c : Conversion M V D) (values : Entity → V) (start : List Entity) (people : Population) (s s' : Slot M) (e : SaveError)
-    → RefusesMarking people (MarksUpTo (λ x. c.references (values x)) start s s') e → RefusesAll c people values start s s' e
+    → RefusesMarking people (MarksUpTo people (λ x. c.references (values x)) start s s') e → RefusesAll c people values start s s' e
 marking_refused c values start people s s' (Unmarked x) h = h
 marking_refused c values start people s s' (Custom t) h = absurd h
 marking_refused c values start people s s' OutOfMemory h = inr (inl h)

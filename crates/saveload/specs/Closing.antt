@@ -50,14 +50,19 @@ pub data LeadsTo (refs : Entity → List Entity) (start : List Entity) : Entity 
 abbrev pub IsMentioned : (Entity → List Entity) → List Entity → Entity → Type 0
 IsMentioned refs start x = (e : Entity) × LeadsTo refs start e × Has (refs e) x
 
--- just those of a list have marks that stand before some last ones
-pub record MarksBefore {M : Type 0} (xs : List Entity) (s s' : Slot M) (after : List Entity) : Type 0 where
+-- each of a list is alive
+abbrev pub AllAlive : Population → List Entity → Type 0
+AllAlive people xs = (x : Entity) → Has xs x → is_alive people x ≡ true
+
+-- just those of a list have marks that stand before some last ones; each that stands there is alive
+pub record MarksBefore {M : Type 0} (people : Population) (xs : List Entity) (s s' : Slot M) (after : List Entity) : Type 0 where
   pub before : List Entity
   pub parts : xs ≡ before ++ after
+  pub alive : AllAlive people before
   pub marked : HasMarked s s' (new_in (marked_in s) before)
 
--- just those have marks to which the first ones refer, of those that are led to, and of what the next refers to those before some last ones
-pub record MarksUpTo {M : Type 0} (refs : Entity → List Entity) (start : List Entity) (s s' : Slot M) (after : List Entity) : Type 0 where
+-- just those have marks to which the first ones refer, of those that are led to, and of what the next refers to those before some last ones; each that is referred to there is alive
+pub record MarksUpTo {M : Type 0} (people : Population) (refs : Entity → List Entity) (start : List Entity) (s s' : Slot M) (after : List Entity) : Type 0 where
   pub done : List Entity
   pub here : Entity
   pub later : List Entity
@@ -65,6 +70,7 @@ pub record MarksUpTo {M : Type 0} (refs : Entity → List Entity) (start : List 
   pub led : LeadsTo refs start here
   pub before : List Entity
   pub parts : refs here ≡ before ++ after
+  pub alive : AllAlive people (flat_map refs done ++ before)
   pub marked : HasMarked s s' (new_in (marked_in s) (flat_map refs done ++ before))
 
 -- why marking stopped, and before which ones: there was no memory, or the next one isn't alive, or there was no id for it
@@ -81,32 +87,33 @@ pub record MarksSome {M : Type 0} (people : Population) (Mentioned : Entity → 
   pub marked : HasMarked s s' added
   pub each : (x : Entity) → Has added x → Mentioned x × (is_alive people x ≡ true)
 
--- just those that a list leads to, and that had no mark, have got one, so that all of these have a mark
-pub record MarksThese {M : Type 0} (refs : Entity → List Entity) (start : List Entity) (s s' : Slot M) (all : List Entity) : Type 0 where
+-- just those that a list leads to, and that had no mark, have got one, so that all of these have a mark; each that is referred to is alive
+pub record MarksThese {M : Type 0} (people : Population) (refs : Entity → List Entity) (start : List Entity) (s s' : Slot M) (all : List Entity) : Type 0 where
   pub added : List Entity
   pub parts : all ≡ start ++ added
   pub closed : IsClosed (marked_in s) refs start all
   pub marked : HasMarked s s' added
+  pub alive : AllAlive people (flat_map refs all)
 
-abbrev pub MarksAll : {M : Type 0} → (Entity → List Entity) → List Entity → Slot M → Slot M → Type 0
-MarksAll refs start s s' = (all : List Entity) × MarksThese refs start s s' all
+abbrev pub MarksAll : {M : Type 0} → Population → (Entity → List Entity) → List Entity → Slot M → Slot M → Type 0
+MarksAll people refs start s s' = (all : List Entity) × MarksThese people refs start s s' all
 
 -- there was no memory: before anything was marked, on the way, or once all were marked
-abbrev pub MarksFirst : {M : Type 0} → (Entity → List Entity) → List Entity → Slot M → Slot M → Type 0
-MarksFirst refs start s s' = HasMarked s s' [] ⊎ (((after : List Entity) × MarksUpTo refs start s s' after) ⊎ MarksAll refs start s s')
+abbrev pub MarksFirst : {M : Type 0} → Population → (Entity → List Entity) → List Entity → Slot M → Slot M → Type 0
+MarksFirst people refs start s s' = HasMarked s s' [] ⊎ (((after : List Entity) × MarksUpTo people refs start s s' after) ⊎ MarksAll people refs start s s')
 
 -- once all were marked, one of them may be refused for this cause
-abbrev pub MarksAndRefuses : {M V D : Type 0} → Conversion M V D → (Entity → V) → List Entity → Slot M → Slot M → List ℕ → Type 0
-MarksAndRefuses c values start s s' text =
-    (all : List Entity) × MarksThese (λ e. c.references (values e)) start s s' all × ((e : Entity) × Has all e × c.unsaved (values e) text)
+abbrev pub MarksAndRefuses : {M V D : Type 0} → Conversion M V D → Population → (Entity → V) → List Entity → Slot M → Slot M → List ℕ → Type 0
+MarksAndRefuses c people values start s s' text =
+    (all : List Entity) × MarksThese people (λ e. c.references (values e)) start s s' all × ((e : Entity) × Has all e × c.unsaved (values e) text)
 
 -- why what a list leads to was not saved, and who has a mark: marking stopped, or one was refused for a cause of its own once all were marked, or there was no memory
 abbrev pub RefusesAll : {M V D : Type 0} → Conversion M V D → Population → (Entity → V) → List Entity → Slot M → Slot M → SaveError → Type 0
-RefusesAll c people values start s s' (Unmarked x) = RefusesMarking people (MarksUpTo (λ e. c.references (values e)) start s s') (Unmarked x)
-RefusesAll c people values start s s' (Custom t) = MarksAndRefuses c values start s s' (string_bytes t)
-RefusesAll c people values start s s' OutOfMemory = MarksFirst (λ e. c.references (values e)) start s s'
-RefusesAll c people values start s s' IdsExhausted = RefusesMarking people (MarksUpTo (λ e. c.references (values e)) start s s') IdsExhausted
-RefusesAll c people values start s s' IdTaken = RefusesMarking people (MarksUpTo (λ e. c.references (values e)) start s s') IdTaken
+RefusesAll c people values start s s' (Unmarked x) = RefusesMarking people (MarksUpTo people (λ e. c.references (values e)) start s s') (Unmarked x)
+RefusesAll c people values start s s' (Custom t) = MarksAndRefuses c people values start s s' (string_bytes t)
+RefusesAll c people values start s s' OutOfMemory = MarksFirst people (λ e. c.references (values e)) start s s'
+RefusesAll c people values start s s' IdsExhausted = RefusesMarking people (MarksUpTo people (λ e. c.references (values e)) start s s') IdsExhausted
+RefusesAll c people values start s s' IdTaken = RefusesMarking people (MarksUpTo people (λ e. c.references (values e)) start s s') IdTaken
 
 -- those of a list and what they lead to are saved, and just these last got markers, as `Gives` says
 pub record SavesAll {M V D : Type 0} (c : Conversion M V D) (marker_of : Entity → Option M) (values : Entity → V) (s s' : Slot M) (Gives : List Entity → Type 0)

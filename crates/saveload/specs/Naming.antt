@@ -2,7 +2,7 @@
 use Rattle.std.specs.Prelude.{◌≡◌, ℕ, ◌+◌, pos, Bool, List, [], ◌∷◌, Option, Some, ◌⊎◌, map as list_map, option_map, ◌==◌, if◌then◌else◌}
 use Rattle.std.specs.FinMap as map
 use Rattle.entities.specs.declared.entity.Entity.{Entity}
-use Rattle.entities.specs.Population.{Population, IsAlive, MayBeBorn, born_pending, mark, index_of, generation_of}
+use Rattle.entities.specs.Population.{Population, IsAlive, MayBeBorn, NoneFree, NoneUnused, born_pending, mark, index_of, generation_of}
 use Rattle.entities.specs.Census.{Census, population}
 use Rattle.storages.specs.Slot.{Slot}
 
@@ -41,6 +41,10 @@ pub record Knows {I : Type 0} (s : Naming I) (id : I) (e : Entity) : Type 0 wher
 -- no entity is there that the id names
 abbrev pub NamesNobody : {I : Type 0} → Naming I → I → Type 0
 NamesNobody s id = (e : Entity) → Knows s id e → ⊥
+
+-- an entity is there that the id names, or an index for a new one: one is free, or one is unused
+abbrev pub CanBeNamed : {I : Type 0} → Naming I → I → Type 0
+CanBeNamed s id = NamesNobody s id → NoneFree s.people × NoneUnused s.people → ⊥
 
 -- the id names a new entity, which gets the marker
 pub record Makes {I : Type 0} (eq : I → I → Bool) (old : Naming I) (id : I) (e : Entity) (new : Naming I) : Type 0 where

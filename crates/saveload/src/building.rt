@@ -45,6 +45,7 @@ impl<'a> WithMarker for EntityResBuilder<'a> {
         ensures err_ids { OnErr result (M.Allocator.ids allocator.new ≡ M.Allocator.ids allocator.old) }
         ensures refused { IfErr result IsOfIds }
         ensures used_up { result ≡ Err MarkError.IdsExhausted → M.Allocator.ids allocator.old ≡ Some 0 }
+        ensures memory { result ≡ Err MarkError.OutOfMemory → M.Allocator.ids allocator.old ≡ Some 0 → ⊥ }
         ensures drawn { result ≡ Err MarkError.IdTaken → M.Allocator.ids allocator.old ≡ None }
     {
         let outcome = mark_at(&self, storage, allocator);
@@ -68,6 +69,7 @@ where
     ensures err_ids { OnErr result (M.Allocator.ids allocator.new ≡ M.Allocator.ids allocator.old) }
     ensures refused { IfErr result IsOfIds }
     ensures used_up { result ≡ Err MarkError.IdsExhausted → M.Allocator.ids allocator.old ≡ Some 0 }
+    ensures memory { result ≡ Err MarkError.OutOfMemory → M.Allocator.ids allocator.old ≡ Some 0 → ⊥ }
     ensures drawn { result ≡ Err MarkError.IdTaken → M.Allocator.ids allocator.old ≡ None }
 {
     let entity = builder.entity();

@@ -1,7 +1,7 @@
 //! Components that refer to entities.
-ghost use Rattle.std.specs.Prelude.{◌≡◌, Option, Some, None, IfOk, IfErr};
+ghost use Rattle.std.specs.Prelude.{◌≡◌, ◌∷◌, [], Option, Some, None, IfOk, IfErr};
 ghost use Rattle.entities.specs.declared.entity.Entity.{Entity as Being};
-ghost use Rattle.saveload.specs.Conversion.{Conversion, IsFaithful, Answers, AllNamed, GivesEach, IsOwn, entity_conversion, entity_faithful};
+ghost use Rattle.saveload.specs.Conversion.{Conversion, IsFaithful, Answers, AllNamed, GivesEach, IsOwn, NoCause, entity_conversion, entity_faithful};
 ghost use Rattle.saveload.specs.Stops.{IsOfStoring};
 
 use crate::error::{LoadError, SaveError};
@@ -64,19 +64,33 @@ impl<M: Marker> ConvertSaveload<M> for Entity {
         Ok(list)
     }
 
+    /// As the trait says. Where `ids` gives none for it, it is refused as `SaveError::Unmarked`.
     fn convert_into<F: Fn(Entity) -> Option<M>>(
         &self,
         _alloc: Global,
         ids: F,
-    ) -> Result<M, SaveError> {
+    ) -> Result<M, SaveError>
+        requires { F.IsAlwaysCallable ids }
+        ensures exact { (f : Being → M) → GivesEach (F.post ids) (self.now ∷ []) f → IfOk result (λ m. m ≡ f self.now) }
+        ensures refused { (g : Being → Option M) → Answers (F.post ids) (self.now ∷ []) g → AllNamed g (self.now ∷ []) → IfErr result (IsOwn NoCause) }
+        ensures named { IfOk result (λ m. F.post ids self.now (Some m)) }
+        ensures unnamed { IfErr result (λ e. (e ≡ SaveError.Unmarked self.now) × F.post ids self.now None) }
+    {
         ids(*self).ok_or(SaveError::Unmarked(*self))
     }
 
+    /// As the trait says. Where `ids` gives none for the marker, the answer is `LoadError::NotTheForm`.
     fn convert_from<F: Fn(M) -> Option<Entity>>(
         saved: M,
         _alloc: Global,
         ids: F,
-    ) -> Result<Entity, LoadError> {
+    ) -> Result<Entity, LoadError>
+        requires { F.IsAlwaysCallable ids }
+        ensures exact { (f : M → Being) → GivesEach (F.post ids) (saved ∷ []) f → IfOk result (λ v. v ≡ f saved) }
+        ensures refused { (f : M → Being) → GivesEach (F.post ids) (saved ∷ []) f → IfErr result (IsOfStoring NoCause) }
+        ensures named { IfOk result (λ v. F.post ids saved (Some v)) }
+        ensures unnamed { IfErr result (λ e. (e ≡ LoadError.NotTheForm) × F.post ids saved None) }
+    {
         ids(saved).ok_or(LoadError::NotTheForm)
     }
 

@@ -54,6 +54,8 @@ impl<R, V> Datum<R, V> {
 
 /// It is written as its value.
 impl<R, V: fmt::Debug> fmt::Debug for Datum<R, V> {
+    ghost debug_output = { λ d. V.debug_output d.value };
+
     fn fmt<W: fmt::Write>(&self, f: &mut fmt::Formatter<W>) -> fmt::Result {
         self.value.fmt(f)
     }

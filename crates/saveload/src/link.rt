@@ -1,5 +1,8 @@
 //! Components that are a reference to another entity and nothing more.
-ghost use Rattle.std.specs.Prelude.{◌≡◌, ⊤, refl};
+ghost use Rattle.std.specs.Prelude.{◌≡◌, ◌∷◌, [], Option, Some, None, IfOk, IfErr, ⊤, refl};
+ghost use Rattle.entities.specs.declared.entity.Entity.{Entity as Being};
+ghost use Rattle.saveload.specs.Conversion.{Answers, AllNamed, GivesEach, IsOwn, NoCause};
+ghost use Rattle.saveload.specs.Stops.{IsOfStoring};
 ghost use Rattle.saveload.specs.Wrapped.{link_conversion, link_faithful};
 
 use crate::convert::ConvertSaveload;
@@ -64,6 +67,10 @@ impl<R> Copy for Link<R> {}
 
 /// It is written as its entity, whatever `R` is.
 impl<R> fmt::Debug for Link<R> {
+    ghost use Rattle.entities.specs.Texts.{entity_text};
+
+    ghost debug_output = { λ l. Some (entity_text l.entity) };
+
     fn fmt<W: fmt::Write>(&self, f: &mut fmt::Formatter<W>) -> fmt::Result {
         self.entity.fmt(f)
     }
@@ -90,19 +97,33 @@ impl<M: Marker, R> ConvertSaveload<M> for Link<R> {
         Ok(list)
     }
 
+    /// As the trait says. Where `ids` gives none for its entity, that one is refused as `SaveError::Unmarked`.
     fn convert_into<F: Fn(Entity) -> Option<M>>(
         &self,
         _alloc: Global,
         ids: F,
-    ) -> Result<M, SaveError> {
+    ) -> Result<M, SaveError>
+        requires { F.IsAlwaysCallable ids }
+        ensures exact { (f : Being → M) → GivesEach (F.post ids) (self.now.entity ∷ []) f → IfOk result (λ m. m ≡ f self.now.entity) }
+        ensures refused { (g : Being → Option M) → Answers (F.post ids) (self.now.entity ∷ []) g → AllNamed g (self.now.entity ∷ []) → IfErr result (IsOwn NoCause) }
+        ensures named { IfOk result (λ m. F.post ids self.now.entity (Some m)) }
+        ensures unnamed { IfErr result (λ e. (e ≡ SaveError.Unmarked self.now.entity) × F.post ids self.now.entity None) }
+    {
         ids(self.entity).ok_or(SaveError::Unmarked(self.entity))
     }
 
+    /// As the trait says. Where `ids` gives none for the marker, the answer is `LoadError::NotTheForm`.
     fn convert_from<F: Fn(M) -> Option<Entity>>(
         saved: M,
         _alloc: Global,
         ids: F,
-    ) -> Result<Self, LoadError> {
+    ) -> Result<Self, LoadError>
+        requires { F.IsAlwaysCallable ids }
+        ensures exact { (f : M → Being) → GivesEach (F.post ids) (saved ∷ []) f → IfOk result (λ v. v.entity ≡ f saved) }
+        ensures refused { (f : M → Being) → GivesEach (F.post ids) (saved ∷ []) f → IfErr result (IsOfStoring NoCause) }
+        ensures named { IfOk result (λ v. F.post ids saved (Some v.entity)) }
+        ensures unnamed { IfErr result (λ e. (e ≡ LoadError.NotTheForm) × F.post ids saved None) }
+    {
         match ids(saved) {
             Some(entity) => Ok(Link::new(entity)),
             None => Err(LoadError::NotTheForm),

@@ -52,7 +52,7 @@ pub trait DeserializeComponents<M: Marker> {
 
     /// Stores what was saved at an entity that is alive, place by place, by the entities that `ids` gives: a component, which takes
     /// the place of the one that was there, or none, which takes that one out. After a refusal the places before the refused one stay. An
-    /// entity that is not alive gets nothing, and is not refused.
+    /// entity that is not alive gets nothing, and is not refused: the storages stay as they were, and their readers are told of nothing.
     ///
     /// Ports `DeserializeComponents::deserialize_entity`.
     fn deserialize_entity<F: Fn(M) -> Option<Entity>>(
@@ -70,6 +70,7 @@ pub trait DeserializeComponents<M: Marker> {
         ensures stopped { is_alive (population entities.now) entity ≡ true → IfErr result (λ e. PutsSome Partly conversion (F.post ids) saved entity e (rows self.old) (rows self.new)) }
         ensures refused { (f : M → Being) → GivesEach (F.post ids) (conversion.mentions saved) f → IfErr result (IsOfStoring (conversion.unloaded saved)) }
         ensures dead { is_alive (population entities.now) entity ≡ false → rows self.new ≡ rows self.old }
+        ensures untouched { is_alive (population entities.now) entity ≡ false → self.new ≡ self.old }
         ensures alive { OnErr result (is_alive (population entities.now) entity ≡ true) };
 
     ghost faithful: { IsFaithful conversion };
@@ -157,6 +158,7 @@ pub(crate) fn store_place<
     ensures told { IsTold masked.old masked.new }
     ensures err { OnErr result (column masked.new ≡ column masked.old) }
     ensures dead { is_alive (population entities.now) entity ≡ false → column masked.new ≡ column masked.old }
+    ensures untouched { is_alive (population entities.now) entity ≡ false → masked.new ≡ masked.old }
     ensures alive { OnErr result (is_alive (population entities.now) entity ≡ true) }
     ensures refused { (f : M → Being) → GivesEach (F.post ids.now) ((place T.conversion).mentions saved) f
         → IfErr result (IsOfStoring ((place T.conversion).unloaded saved)) }
@@ -204,6 +206,7 @@ pub(crate) fn store_with_rest<
     ensures refused { (f : M → Being) → GivesEach (F.post ids) ((both (place A.conversion) R.conversion).mentions saved) f
         → IfErr result (IsOfStoring ((both (place A.conversion) R.conversion).unloaded saved)) }
     ensures dead { is_alive (population entities.now) entity ≡ false → beside first.new (R.rows rest.new) ≡ beside first.old (R.rows rest.old) }
+    ensures untouched { is_alive (population entities.now) entity ≡ false → (first.new ≡ first.old) × (rest.new ≡ rest.old) }
     ensures alive { OnErr result (is_alive (population entities.now) entity ≡ true) }
 {
     let (place, others) = saved;

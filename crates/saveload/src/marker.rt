@@ -8,7 +8,7 @@ ghost use Rattle.storages.specs.Life.{is_alive};
 ghost use Rattle.storages.specs.Limit.{IsIndex};
 ghost use Rattle.storages.specs.Slot.{IsSame};
 ghost use Rattle.storages.specs.WriteView.{slot, entities_of, found, storage_name};
-ghost use Rattle.saveload.specs.Naming.{naming, ids_in, Names, NamesNone, UpdatesKnown, PutsWhole, once_given, put_id, put_at};
+ghost use Rattle.saveload.specs.Naming.{naming, ids_in, CanBeNamed, Names, NamesNone, UpdatesKnown, PutsWhole, once_given, put_id, put_at};
 ghost use Rattle.saveload.specs.Remapping.{living_ids};
 ghost use Rattle.saveload.specs.Told.{IsTold};
 ghost use Rattle.saveload.specs.Marking.{MarksNew, IsOfIds, MayHaveGiven, TakesOne};
@@ -81,7 +81,7 @@ pub trait MarkerAllocator<M: Marker> {
     ghost unmapped: { (a : Self) (id : M.Identifier) → ids a ≡ None → MayBeNew a id → mapping a id ≡ None };
 
     /// A marker of the given id, or of a new one, which is then mapped to the entity. A refusal leaves the map; for a given id
-    /// it is want of memory.
+    /// it is want of memory. Whether a new one is left is looked at before memory is asked for.
     fn allocate(&mut self, entity: Entity, id: Option<M::Identifier>) -> Result<M, MarkError>
         ensures given { (i : M.Identifier) → id ≡ Some i → IfOk result (λ m. M.id_of m ≡ i) }
         ensures new { id ≡ None → IfOk result (λ m. MayBeNew self.old (M.id_of m)) }
@@ -93,6 +93,7 @@ pub trait MarkerAllocator<M: Marker> {
         ensures passes { (i : M.Identifier) → id ≡ Some i → OnOk result (ids_past self.new ≡ once_given (ids_past self.old) i) }
         ensures err_ids { OnErr result (ids_past self.new ≡ ids_past self.old) }
         ensures used_up { result ≡ Err MarkError.IdsExhausted → ids self.old ≡ Some 0 }
+        ensures memory { id ≡ None → result ≡ Err MarkError.OutOfMemory → ids self.old ≡ Some 0 → ⊥ }
         ensures drawn { result ≡ Err MarkError.IdTaken → ids self.old ≡ None }
         ensures taken { result ≡ Err MarkError.IdTaken → is_some (mapping self.old (coming self.old)) ≡ true };
 
@@ -103,7 +104,8 @@ pub trait MarkerAllocator<M: Marker> {
     /// The entity that a marker names: the one that its id is mapped to, if that is alive and has a marker of this id, which is
     /// then updated; else a new one, whose birth is pending, with this marker. Each other marker stays as it was.
     ///
-    /// After a refusal each marker is as it was; an entity that was made is marked, and the id may be mapped to it.
+    /// After a refusal each marker is as it was; an entity that was made is marked, and the id may be mapped to it. Want of memory is told
+    /// only where there is an entity to update, or an index that is free or unused.
     fn retrieve_entity(
         &mut self,
         marker: M,
@@ -113,6 +115,7 @@ pub trait MarkerAllocator<M: Marker> {
         ensures named { IfOk result (λ e. Names M.Identifier.eq (naming M.id_of mapping ids_past entities.old self.old storage.old) (M.id_of marker) e (naming M.id_of mapping ids_past entities.new self.new storage.new)) }
         ensures err { OnErr result (NamesNone M.Identifier.eq (naming M.id_of mapping ids_past entities.old self.old storage.old) (M.id_of marker) (naming M.id_of mapping ids_past entities.new self.new storage.new)) }
         ensures limit { result ≡ Err CreateError.IndexLimit → NoneFree (population entities.old) × NoneUnused (population entities.old) }
+        ensures memory { result ≡ Err CreateError.OutOfMemory → CanBeNamed (naming M.id_of mapping ids_past entities.old self.old storage.old) (M.id_of marker) }
         ensures told { IsTold storage.old storage.new }
         ensures known { IfOk result (λ e. UpdatesKnown M.updated (naming M.id_of mapping ids_past entities.old self.old storage.old) (M.id_of marker) marker e storage.old storage.new) }
         ensures whole { IfOk result (λ e. PutsWhole (naming M.id_of mapping ids_past entities.old self.old storage.old) (M.id_of marker) marker e storage.old storage.new) }
@@ -148,7 +151,8 @@ pub trait MarkerAllocator<M: Marker> {
     /// Gives an entity that is alive a marker of a new id, if it has none. The answer is whether it is new, and none for an
     /// entity that isn't alive; the marker is then found in the storage.
     ///
-    /// The entity and its marker are looked for first: a refused entity is alive and has none. A refused call takes no id, and leaves the storage as before; where
+    /// The entity and its marker are looked for first, then whether an id is left: a refused entity is alive and has none, and want of memory is
+    /// not told where the ids are used up. A refused call takes no id, and leaves the storage as before; where
     /// memory for the marker was refused, an id may stay mapped.
     fn mark(
         &mut self,
@@ -172,6 +176,7 @@ pub trait MarkerAllocator<M: Marker> {
         ensures err_past { OnErr result (ids_past self.new ≡ ids_past self.old) }
         ensures refused { IfErr result IsOfIds }
         ensures used_up { result ≡ Err MarkError.IdsExhausted → ids self.old ≡ Some 0 }
+        ensures memory { result ≡ Err MarkError.OutOfMemory → ids self.old ≡ Some 0 → ⊥ }
         ensures drawn { result ≡ Err MarkError.IdTaken → ids self.old ≡ None }
         ensures taken { result ≡ Err MarkError.IdTaken → is_some (mapping self.old (coming self.old)) ≡ true };
 }

@@ -33,7 +33,7 @@ pub(crate) fn mark_all<M: Marker, A: MarkerAllocator<M>, P: SerializeComponents<
     ensures named { OnOk result ((e : Being) → Has list.new.items e → AllNamed (λ x. found markers.new x) (P.conversion.references (P.values places.now e))) }
     ensures marks { MarksSome (population (entities_of markers.old)) (IsMentioned (λ e. P.conversion.references (P.values places.now e)) list.old.items) (slot markers.old) (slot markers.new) }
     ensures refused { IfErr result (RefusesMarking (population (entities_of markers.old))
-        (MarksUpTo (λ e. P.conversion.references (P.values places.now e)) list.old.items (slot markers.old) (slot markers.new))) }
+        (MarksUpTo (population (entities_of markers.old)) (λ e. P.conversion.references (P.values places.now e)) list.old.items (slot markers.old) (slot markers.new))) }
     ensures gives { OnOk result (AddsInTurn M.id_of M.Identifier.eq A.MayBeNew A.mapping A.ids
         allocator.old (slot markers.old) list.old.items allocator.new (slot markers.new) list.new.items) }
     ensures stops { OnErr result (MarksUntil M.id_of M.Identifier.eq A.MayBeNew A.mapping A.ids allocator.old (slot markers.old) allocator.new (slot markers.new)) }
@@ -62,7 +62,8 @@ fn mark_references<M: Marker, A: MarkerAllocator<M>>(
     ensures marked { OnOk result (HasMarked (slot markers.old) (slot markers.new) (new_in (marked_in (slot markers.old)) references.now)) }
     ensures named { OnOk result (AllNamed (λ e. found markers.new e) references.now) }
     ensures marks { MarksSome (population (entities_of markers.old)) (Has references.now) (slot markers.old) (slot markers.new) }
-    ensures refused { IfErr result (RefusesMarking (population (entities_of markers.old)) (MarksBefore references.now (slot markers.old) (slot markers.new))) }
+    ensures refused { IfErr result (RefusesMarking (population (entities_of markers.old))
+        (MarksBefore (population (entities_of markers.old)) references.now (slot markers.old) (slot markers.new))) }
     ensures gives { OnOk result (AddsInTurn M.id_of M.Identifier.eq A.MayBeNew A.mapping A.ids
         allocator.old (slot markers.old) list.old.items allocator.new (slot markers.new) list.new.items) }
     ensures stops { OnErr result (MarksUntil M.id_of M.Identifier.eq A.MayBeNew A.mapping A.ids allocator.old (slot markers.old) allocator.new (slot markers.new)) }
@@ -88,7 +89,8 @@ fn mark_one<M: Marker, A: MarkerAllocator<M>>(
     ensures marked { OnOk result (HasMarked (slot markers.old) (slot markers.new) (new_in (marked_in (slot markers.old)) (entity ∷ []))) }
     ensures named { OnOk result (IsSome (found markers.new entity)) }
     ensures marks { MarksSome (population (entities_of markers.old)) (Has (entity ∷ [])) (slot markers.old) (slot markers.new) }
-    ensures refused { IfErr result (RefusesMarking (population (entities_of markers.old)) (MarksBefore (entity ∷ []) (slot markers.old) (slot markers.new))) }
+    ensures refused { IfErr result (RefusesMarking (population (entities_of markers.old))
+        (MarksBefore (population (entities_of markers.old)) (entity ∷ []) (slot markers.old) (slot markers.new))) }
     ensures gives { OnOk result (AddsInTurn M.id_of M.Identifier.eq A.MayBeNew A.mapping A.ids
         allocator.old (slot markers.old) list.old.items allocator.new (slot markers.new) list.new.items) }
     ensures stops { OnErr result (MarksUntil M.id_of M.Identifier.eq A.MayBeNew A.mapping A.ids allocator.old (slot markers.old) allocator.new (slot markers.new)) }

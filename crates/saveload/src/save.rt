@@ -1,5 +1,5 @@
 //! Saving the entities that have markers, and those that they refer to.
-ghost use Rattle.std.specs.Prelude.{◌≡◌, ◌++◌, ℕ, true, Some, None, Err, IfOk, IfErr, OnOk, OnErr, IsSome, List, [], ◌∷◌};
+ghost use Rattle.std.specs.Prelude.{◌≡◌, ◌++◌, ℕ, true, Some, None, Err, IfOk, IfErr, OnOk, OnErr, IsOk, IsSome, List, [], ◌∷◌};
 ghost use Rattle.std.specs.FinMap as map;
 ghost use Rattle.entities.specs.declared.entity.Entity.{Entity};
 ghost use Rattle.entities.specs.Census.{population};
@@ -24,7 +24,7 @@ use std::alloc::{AllocError, Global};
 use storages::{MaskedStorage, ReadStorage, WriteStorage};
 
 /// Saves every entity that is alive and has a marker, ascending. It marks nothing: a reference to one without a marker is refused, so what a
-/// saved list refers to is saved in it.
+/// saved list refers to is saved in it. Where none has a marker it takes no memory, and is not refused.
 ///
 /// Ports `SerializeComponents::serialize`.
 pub fn serialize<M: Marker + Copy, P: SerializeComponents<M>>(
@@ -38,14 +38,16 @@ pub fn serialize<M: Marker + Copy, P: SerializeComponents<M>>(
     ensures distinct { TellsApart M.id_of (λ e. found markers.now e) → IfOk result (λ rs. DistinctIds M.id_of rs.items) }
     ensures refused { IfErr result (RefusesSave P.conversion (λ e. found markers.now e) (λ e. P.values places.now e)
         (marked_read markers.now)) }
+    ensures idle { marked_read markers.now ≡ [] → IsOk result }
 {
     let list = marked(alloc, markers.fetched_entities(), markers.storage())?;
     save_list(alloc, places, markers, &list)
 }
 
 /// Saves every entity that is alive and has a marker, ascending, and then those that they lead to, which get markers, in the order in
-/// which they are first mentioned. After a refusal the markers that were given stay: of those that are mentioned the first ones have one, in
-/// that order. Each was given a new id, which names it, in that order; one that was refused may have left its id with the allocator.
+/// which they are first mentioned. It stops at the first that is mentioned and not alive, even where another one at its index has a marker. After a
+/// refusal the markers that were given stay: of those that are mentioned the first ones, which are alive, have one, in that order. Each was given
+/// a new id, which names it, in that order; one that was refused may have left its id with the allocator.
 ///
 /// Ports `SerializeComponents::serialize_recursive`.
 pub fn serialize_recursive<M: Marker + Copy, A: MarkerAllocator<M>, P: SerializeComponents<M>>(
@@ -81,6 +83,7 @@ pub(crate) fn marked<M: Marker>(
 ) -> Result<Vec<Entity>, AllocError>
     ensures list { IfOk result (λ v. v.items ≡ all_marked (population entities.now) markers.now) }
     ensures whole { IfOk result (λ v. (e : Entity) → IsSome (found_in entities.now markers.now e) → Has v.items e) }
+    ensures idle { all_marked (population entities.now) markers.now ≡ [] → IsOk result }
 {
     limited(markers);
     let mask = BitSetAnd(entities.living(), markers.mask());
@@ -109,6 +112,7 @@ fn save_list<M: Marker + Copy, P: SerializeComponents<M>>(
     requires { AllNamed (λ e. found markers.now e) list.now }
     ensures saved { IfOk result (λ rs. IsSavedList P.conversion (λ e. found markers.now e) (λ e. P.values places.now e) list.now rs.items) }
     ensures refused { IfErr result (RefusesSave P.conversion (λ e. found markers.now e) (λ e. P.values places.now e) list.now) }
+    ensures idle { list.now ≡ [] → IsOk result }
 {
     let mut records = Vec::with_capacity(alloc, list.len())?;
     for e in list {

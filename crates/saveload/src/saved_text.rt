@@ -63,6 +63,10 @@ impl SavedText {
 
 /// As the `String` is shown.
 impl fmt::Debug for SavedText {
+    ghost use Rattle.std.specs.Fmt.{debug_str};
+
+    ghost debug_output = { λ s. debug_str s };
+
     fn fmt<W: fmt::Write>(&self, f: &mut fmt::Formatter<W>) -> fmt::Result {
         fmt::Debug::fmt(&self.text, f)
     }

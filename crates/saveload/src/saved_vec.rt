@@ -72,6 +72,10 @@ impl<T: Copy + Drop> SavedVec<T> {
 
 /// As the `Vec` is shown.
 impl<T: fmt::Debug> fmt::Debug for SavedVec<T> {
+    ghost use Rattle.std.specs.Fmt.{debug_list};
+
+    ghost debug_output = { λ v. debug_list T.debug_output v };
+
     fn fmt<W: fmt::Write>(&self, f: &mut fmt::Formatter<W>) -> fmt::Result {
         fmt::Debug::fmt(&self.list, f)
     }

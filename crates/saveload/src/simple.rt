@@ -1,5 +1,5 @@
 //! Markers that are numbers.
-ghost use Rattle.std.specs.Prelude.{◌≡◌, ℕ, ◌+◌, ◌^◌, ◌≤◌, ◌⊎◌, max, true, false, Option, Some, None, Ok, Err, IfOk, IfErr, OnOk, OnErr, is_some, ⊤, refl};
+ghost use Rattle.std.specs.Prelude.{◌≡◌, ℕ, ◌+◌, ◌^◌, ◌<◌, ◌≤◌, ◌⊎◌, max, true, false, Option, Some, None, Ok, Err, IfOk, IfErr, OnOk, OnErr, is_some, ⊤, refl};
 ghost use Rattle.entities.specs.Census.{population};
 ghost use Rattle.storages.specs.Life.{is_alive};
 ghost use Rattle.storages.specs.Slot.{IsSame};
@@ -54,7 +54,14 @@ impl<T> Clone for SimpleMarker<T> {
 
 impl<T> Copy for SimpleMarker<T> {}
 
+/// It is written as its number.
 impl<T> fmt::Display for SimpleMarker<T> {
+    ghost use Rattle.std.specs.Fmt.{decimal, styled_decimal};
+
+    ghost output = { λ m. Some (decimal m.id) };
+
+    ghost styled_output = { λ m s. Some (styled_decimal s m.id) };
+
     fn fmt<W: fmt::Write>(&self, f: &mut fmt::Formatter<W>) -> fmt::Result {
         self.id.fmt(f)
     }
@@ -147,6 +154,7 @@ impl<T> MarkerAllocator<SimpleMarker<T>> for SimpleMarkerAllocator<T> {
         ensures new { id ≡ None → IfOk result (λ m. m.id ≡ self.old.next) }
         ensures next { IfOk result (λ m. self.new.next ≡ max self.old.next (m.id + 1)) }
         ensures exhausted { result ≡ Err MarkError.IdsExhausted → (id ≡ None) × (2 ^ 64 ≤ self.old.next) }
+        ensures memory { id ≡ None → result ≡ Err MarkError.OutOfMemory → self.old.next < 2 ^ 64 }
         ensures others { IfErr result (λ e. (e ≡ MarkError.IdsExhausted → ⊥) → e ≡ MarkError.OutOfMemory) }
         ensures mapped { IfOk result (λ m. given self.new ≡ put_id (⟦<u64 as PartialEq>⟧.eq) (given self.old) m.id entity) }
         ensures err { OnErr result (given self.new ≡ given self.old) }
@@ -219,6 +227,7 @@ impl<T> MarkerAllocator<SimpleMarker<T>> for SimpleMarkerAllocator<T> {
         ensures err_next { OnErr result (self.new.next ≡ self.old.next) }
         ensures err_mapped { OnErr result (MayHaveGiven (⟦<u64 as PartialEq>⟧.eq) (λ id. id ≡ self.old.next) entity (given self.old) (given self.new)) }
         ensures exhausted { result ≡ Err MarkError.IdsExhausted → 2 ^ 64 ≤ self.old.next }
+        ensures memory { result ≡ Err MarkError.OutOfMemory → self.old.next < 2 ^ 64 }
         ensures others { IfErr result (λ e. (e ≡ MarkError.IdsExhausted → ⊥) → e ≡ MarkError.OutOfMemory) }
         ensures refused { IfErr result IsOfIds }
         ensures takes { IfOk result (λ o. o ≡ Some true → TakesOne (numbers_from self.old.next) (numbers_from self.new.next)) }

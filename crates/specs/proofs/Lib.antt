@@ -15,3 +15,4 @@ pub mod Phases
 pub mod AllDie
 pub mod Following
 pub mod Covering
+pub mod Repeating

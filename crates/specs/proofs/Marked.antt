@@ -67,14 +67,14 @@ left_after (Err e) a b takes keeps = tt
 
 -- an entity that is alive and lacks a marker gets none because of the ids, or of memory
 pub refused_by : {A V : Type 0} (r : Result A MarkError) (left : Option ℕ) (p : Population) (field : Option (Column V)) (e : Entity) → LacksMarker p field e
-    → (r ≡ Err failure.IdsExhausted → left ≡ Some 0) → (r ≡ Err failure.IdTaken → left ≡ None) → IfErr r IsOfIds → IfErr r (FieldMarkerIsRefused left p field e)
-refused_by (Ok a) left p field e lacks up drawn ids = tt
-refused_by (Err failure.Unregistered) left p field e lacks up drawn (inl x) = absurd (cc)
-refused_by (Err failure.Unregistered) left p field e lacks up drawn (inr (inl x)) = absurd (cc)
-refused_by (Err failure.Unregistered) left p field e lacks up drawn (inr (inr x)) = absurd (cc)
-refused_by (Err failure.NoMarker) left p field e lacks up drawn (inl x) = absurd (cc)
-refused_by (Err failure.NoMarker) left p field e lacks up drawn (inr (inl x)) = absurd (cc)
-refused_by (Err failure.NoMarker) left p field e lacks up drawn (inr (inr x)) = absurd (cc)
-refused_by (Err failure.IdsExhausted) left p field e lacks up drawn ids = (lacks, up refl)
-refused_by (Err failure.IdTaken) left p field e lacks up drawn ids = (lacks, drawn refl)
-refused_by (Err failure.OutOfMemory) left p field e lacks up drawn ids = lacks
+    → (r ≡ Err failure.IdsExhausted → left ≡ Some 0) → (r ≡ Err failure.IdTaken → left ≡ None) → (r ≡ Err failure.OutOfMemory → left ≡ Some 0 → ⊥) → IfErr r IsOfIds → IfErr r (FieldMarkerIsRefused left p field e)
+refused_by (Ok a) left p field e lacks up drawn some ids = tt
+refused_by (Err failure.Unregistered) left p field e lacks up drawn some (inl x) = absurd (cc)
+refused_by (Err failure.Unregistered) left p field e lacks up drawn some (inr (inl x)) = absurd (cc)
+refused_by (Err failure.Unregistered) left p field e lacks up drawn some (inr (inr x)) = absurd (cc)
+refused_by (Err failure.NoMarker) left p field e lacks up drawn some (inl x) = absurd (cc)
+refused_by (Err failure.NoMarker) left p field e lacks up drawn some (inr (inl x)) = absurd (cc)
+refused_by (Err failure.NoMarker) left p field e lacks up drawn some (inr (inr x)) = absurd (cc)
+refused_by (Err failure.IdsExhausted) left p field e lacks up drawn some ids = (lacks, up refl)
+refused_by (Err failure.IdTaken) left p field e lacks up drawn some ids = (lacks, drawn refl)
+refused_by (Err failure.OutOfMemory) left p field e lacks up drawn some ids = (lacks, some refl)

@@ -2,7 +2,7 @@
 use Rattle.std.specs.Prelude.{◌≡◌, ℕ, true, Option, List, [], ◌∷◌, MatchOption, Vec}
 use Rattle.std.specs.Option.{IfSome}
 use Rattle.std.specs.declared.cmp.Ordering.{Ordering}
-use Rattle.key_index.specs.Indexed.{CoversSlot, IsFresh, IsIndexOfSlot, KeepsSlot}
+use Rattle.key_index.specs.Indexed.{CoversSlot, FollowsSlot, IsFresh, IsIndexOfSlot, KeepsSlot}
 use Rattle.key_index.specs.declared.key_index.KeyIndex.{KeyIndex}
 use Rattle.storages.specs.Channel.{Channel}
 use Rattle.storages.specs.Slot as masked
@@ -57,6 +57,11 @@ module _ {T : Type 0} where
     -- if there is a storage, the index is stale, or each index of which it keeps another key stands in an event that its reader has not read
     abbrev pub Knows : KeyIndex T K Q → Option (masked.Slot T) → Type 0
     Knows x field = IsFresh x → IfSome field (CoversSlot key x)
+
+    -- if there is a storage, the index has now the key that the storage has at each index that stood in an event which its reader had not read,
+    -- and at every other the key that it kept
+    abbrev pub FollowsAll : KeyIndex T K Q → KeyIndex T K Q → Option (masked.Slot T) → Option (masked.Slot T) → Type 0
+    FollowsAll x x' field field' = IfSome field (λ s. IfSome field' (FollowsSlot key x x' s))
 
     -- if there is a storage, the index has for each key the list from scratch: the indices whose component has it now
     abbrev pub IsUpToDate : (Q → Q → Ordering) → KeyIndex T K Q → Option (masked.Slot T) → Type 0

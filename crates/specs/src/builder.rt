@@ -34,7 +34,10 @@ pub struct BuildError<T> {
     pub component: T,
 }
 
+/// It is written as its refusal.
 impl<T> fmt::Display for BuildError<T> {
+    ghost output = { λ e. ⟦<Refusal as fmt::Display>⟧.output e.refusal };
+
     fn fmt<W: fmt::Write>(&self, f: &mut fmt::Formatter<W>) -> fmt::Result {
         let refusal = &self.refusal;
         write!(f, "{refusal}")

@@ -1,13 +1,13 @@
 //! Indices by a key over a core's storages, kept from events.
-ghost use Rattle.std.specs.Prelude.{◌≡◌, ◌⊎◌, None, Err, IsSome, IfOk, IfErr, IfSome, OnOk, OnErr};
-ghost use Rattle.key_index.specs.Indexed.{CoversSlot, IsFresh, IsIndexOfSlot, IsStale, KeepsSlot};
+ghost use Rattle.std.specs.Prelude.{◌≡◌, ◌⊎◌, [], None, Some, Err, IsOk, IsSome, IfOk, IfErr, IfSome, OnOk, OnErr};
+ghost use Rattle.key_index.specs.Indexed.{CoversSlot, FollowsSlot, IsFresh, IsIndexOfSlot, IsStale, KeepsSlot};
 ghost use Rattle.storages.specs.Slot.{IsSame};
 ghost use Rattle.storages.specs.Tracking as tracking;
 ghost use Rattle.storages.specs.Tracking.{with_reader, after_read};
 ghost use Rattle.storages.specs.Unread.{unread_of};
 ghost use Rattle.specs.specs.Reading.Following.{IsFollowed, IsListening};
 ghost use Rattle.specs.specs.Laws.Gone.{KeepsGone};
-ghost use Rattle.specs.specs.Indexing.{Turns, IsEmitting, KeepsAll, Knows, IsUpToDate};
+ghost use Rattle.specs.specs.Indexing.{Turns, FollowsAll, IsEmitting, KeepsAll, Knows, IsUpToDate};
 ghost use Rattle.specs.specs.Laws.Reached.{KeepsLiving};
 ghost use Rattle.specs.specs.World.State.{core_state, OnTable};
 
@@ -102,6 +102,9 @@ where
     ensures memory { result ≡ Err IndexError.OutOfMemory → IsStale index.new }
     ensures unknown { result ≡ Err IndexError.UnknownReader → unread_of index.old.reader masked.old.channel.readers ≡ None }
     ensures unchanged { result ≡ Err IndexError.UnknownReader → index.new ≡ index.old }
+    ensures unregistered { unread_of index.old.reader masked.old.channel.readers ≡ None → result ≡ Err IndexError.UnknownReader }
+    ensures idle { IsFresh index.old → unread_of index.old.reader masked.old.channel.readers ≡ Some [] → IsOk result }
+    ensures follows { IsFresh index.old → OnOk result (FollowsSlot K.key index.old index.new masked.old masked.new) }
     ensures turns { tracking.Turns masked.old masked.new (after_read index.old.reader masked.old.channel) }
     ensures key { index.new.key ≡ index.old.key }
     ensures reader { index.new.reader ≡ index.old.reader }
@@ -125,6 +128,10 @@ where
     ensures unregistered { result ≡ Err WorldIndexError.Unregistered → S.part storages.old ≡ None }
     ensures unknown { result ≡ Err WorldIndexError.UnknownReader → IfSome (S.part storages.old) (λ s. unread_of index.old.reader s.channel.readers ≡ None) }
     ensures unchanged { (result ≡ Err WorldIndexError.Unregistered) ⊎ (result ≡ Err WorldIndexError.UnknownReader) → index.new ≡ index.old }
+    ensures no_slot { S.part storages.old ≡ None → result ≡ Err WorldIndexError.Unregistered }
+    ensures no_reader { IfSome (S.part storages.old) (λ s. unread_of index.old.reader s.channel.readers ≡ None → result ≡ Err WorldIndexError.UnknownReader) }
+    ensures idle { IsFresh index.old → IfSome (S.part storages.old) (λ s. unread_of index.old.reader s.channel.readers ≡ Some [] → IsOk result) }
+    ensures follows { IsFresh index.old → OnOk result (FollowsAll K.key index.old index.new (S.part storages.old) (S.part storages.new)) }
     ensures turns { Turns (S.table storages.old) S.the_slot (after_read index.old.reader) (S.table storages.new) }
     ensures followed { IsListening index.old.reader (S.table storages.old S.the_slot) → IsListening index.old.reader (S.table storages.new S.the_slot) }
     ensures key { index.new.key ≡ index.old.key }
@@ -176,6 +183,7 @@ impl<S: Held> Core<S> {
 
     /// Reads the events of an index's reader, and brings the indices that stand in them up to the storage now, each once; a stale index is built
     /// from the storage. Then the index is what `make_index` would make now, if each index of which it kept another key stood in such an event.
+    /// Where it is not stale and nothing is unread, it takes no memory, and succeeds.
     #[tactic(auto, using(crate::proofs::Covering::living_turned, crate::proofs::Kept::gone_same))]
     pub fn refresh_index<T: Component, K: KeyOf<T>, I>(
         &mut self,
@@ -193,6 +201,10 @@ impl<S: Held> Core<S> {
         ensures unregistered { result ≡ Err WorldIndexError.Unregistered → S.part self.old.parts.storages ≡ None }
         ensures unknown { result ≡ Err WorldIndexError.UnknownReader → IfSome (S.part self.old.parts.storages) (λ s. unread_of index.old.reader s.channel.readers ≡ None) }
         ensures unchanged { (result ≡ Err WorldIndexError.Unregistered) ⊎ (result ≡ Err WorldIndexError.UnknownReader) → index.new ≡ index.old }
+        ensures no_slot { S.part self.old.parts.storages ≡ None → result ≡ Err WorldIndexError.Unregistered }
+        ensures no_reader { IfSome (S.part self.old.parts.storages) (λ s. unread_of index.old.reader s.channel.readers ≡ None → result ≡ Err WorldIndexError.UnknownReader) }
+        ensures idle { IsFresh index.old → IfSome (S.part self.old.parts.storages) (λ s. unread_of index.old.reader s.channel.readers ≡ Some [] → IsOk result) }
+        ensures follows { IsFresh index.old → OnOk result (FollowsAll K.key index.old index.new (S.part self.old.parts.storages) (S.part self.new.parts.storages)) }
         ensures turns { OnTable (λ t t'. Turns t S.the_slot (after_read index.old.reader) t') (core_state S.table S.ids self.old) (core_state S.table S.ids self.new) }
         ensures followed { IsFollowed S.the_slot index.old.reader (core_state S.table S.ids self.old) → IsFollowed S.the_slot index.old.reader (core_state S.table S.ids self.new) }
         ensures living { KeepsLiving (core_state S.table S.ids self.old) (core_state S.table S.ids self.new) }

@@ -4,7 +4,7 @@ ghost use Rattle.std.specs.FinSet as set;
 ghost use Rattle.hibits.specs.Sets.{HasRoom};
 ghost use Rattle.entities.specs.Population.{MayBeBorn, NoneFree, NoneUnused, IsLeastUnused, is_free, born, born_pending, born_as, index_of, generation_of};
 ghost use Rattle.entities.specs.Census.{population};
-ghost use Rattle.entities.specs.Kept.{free_at};
+ghost use Rattle.entities.specs.Kept.{GrowsByNeed, free_at};
 
 use crate::allocator::Allocator;
 use crate::entity::{Entity, Generation, Index};
@@ -39,6 +39,7 @@ impl Allocator {
         ensures err { OnErr result (self.new ≡ self.old) }
         ensures had_room { length self.old.generations < self.old.room → IsOk result }
         ensures room { self.old.room ≤ self.new.room }
+        ensures takes { GrowsByNeed self.old self.new }
     {
         self.give_birth(false)
     }
@@ -58,6 +59,7 @@ impl Allocator {
         ensures err { OnErr result (self.new ≡ self.old) }
         ensures had_room { length self.old.generations < self.old.room → IsOk result }
         ensures room { self.old.room ≤ self.new.room }
+        ensures takes { GrowsByNeed self.old self.new }
     {
         self.give_birth(true)
     }
@@ -74,6 +76,7 @@ impl Allocator {
         ensures err { OnErr result (self.new ≡ self.old) }
         ensures had_room { length self.old.generations < self.old.room → IsOk result }
         ensures room { self.old.room ≤ self.new.room }
+        ensures takes { GrowsByNeed self.old self.new }
     {
         if let Some(entity) = self.revive(pending) {
             return Ok(entity);

@@ -1,5 +1,5 @@
 //! Room for indices, got for many at once.
-ghost use Rattle.std.specs.Prelude.{◌≡◌, ℕ, ◌<◌, ◌≤◌, IfErr, IsOk, OnOk, OnErr, length};
+ghost use Rattle.std.specs.Prelude.{◌≡◌, ℕ, ◌*◌, ◌<◌, ◌≤◌, max, IfErr, IsOk, OnOk, OnErr, length};
 ghost use Rattle.hibits.specs.Sets.{HasRoom};
 ghost use Rattle.entities.specs.Population.{NoneUnused};
 ghost use Rattle.entities.specs.Census.{population};
@@ -29,6 +29,8 @@ impl Allocator {
         ensures err { OnErr result (self.new ≡ self.old) }
         ensures had_room { length self.old.generations < self.old.room → IsOk result }
         ensures grows { self.old.room ≤ self.new.room }
+        ensures kept { length self.old.generations < self.old.room → self.new ≡ self.old }
+        ensures bound { self.new.room ≤ max self.old.room (max 64 (2 * length self.old.generations)) }
     {
         let born = self.generations.len();
         if born < self.room {
@@ -51,6 +53,7 @@ impl Allocator {
         ensures ok { OnOk result (end ≤ self.new.room) }
         ensures err { OnErr result (self.new ≡ self.old) }
         ensures grows { self.old.room ≤ self.new.room }
+        ensures bound { self.new.room ≤ max self.old.room end }
     {
         if end <= self.room {
             return Ok(());

@@ -1,5 +1,5 @@
 //! Opening a phase.
-ghost use Rattle.std.specs.Prelude.{◌≡◌, ℕ, ◌+◌, ◌-◌, ◌<◌, ◌≤◌, ◌^◌, length, IfOk, IfErr, IsOk};
+ghost use Rattle.std.specs.Prelude.{◌≡◌, ℕ, ◌+◌, ◌-◌, ◌<◌, ◌≤◌, ◌^◌, length, max, IfOk, IfErr, IsOk};
 ghost use Rattle.std.specs.Borrow.{sem};
 ghost use Rattle.entities.specs.Census.{population};
 
@@ -64,6 +64,7 @@ impl EntitiesRes {
         ensures open { IfOk result (λ r. IsOpen (entities_of r.0) (board_of r.0)) }
         ensures same { IfOk result (λ r. population (entities_of r.0) ≡ population self.old) }
         ensures room { IfOk result (λ r. self.old.room ≤ (entities_of r.0).room) }
+        ensures takes { IfOk result (λ r. (entities_of r.0).room ≤ max self.old.room (length self.old.generations + reserve)) }
         ensures plan { IfOk result (λ r. (phase_opened r.0).opening ≡ population self.old) }
         ensures sizes { IfOk result (λ r. (length (phase_opened r.0).reserve ≡ reserve) × ((phase_opened r.0).passes ≡ passes)) }
         ensures reserve { IfOk result (λ r. IsReserve (population self.old) (phase_opened r.0).reserve) }

@@ -1,5 +1,5 @@
 //! The reserve of a phase, and where its entities stand in it.
-ghost use Rattle.std.specs.Prelude.{◌≡◌, ℕ, ◌+◌, ◌-◌, ◌*◌, ◌<◌, ◌≤◌, ◌^◌, length, min, slice_get, slice_index_or, Some, IfOk, IfErr, OnOk};
+ghost use Rattle.std.specs.Prelude.{◌≡◌, ℕ, ◌+◌, ◌-◌, ◌*◌, ◌<◌, ◌≤◌, ◌^◌, length, max, min, slice_get, slice_index_or, Some, IfOk, IfErr, OnOk};
 ghost use Rattle.entities.specs.declared.entity.Entity.{Entity};
 ghost use Rattle.entities.specs.Population.{index_of};
 ghost use Rattle.entities.specs.Census.{population};
@@ -57,6 +57,7 @@ pub(crate) fn plan_of(
     ensures same { SameBut entities.old entities.new }
     ensures population { population entities.new ≡ population entities.old }
     ensures kept { entities.old.room ≤ entities.new.room }
+    ensures bound { entities.new.room ≤ max entities.old.room (length entities.old.generations + reserve) }
     ensures opening { IfOk result (λ p. SameBut p.opening.value entities.new) }
     ensures room { IfOk result (λ p. reserve ≤ length entities.new.free + (entities.new.room - length entities.new.generations)) }
     ensures next { IfOk result (λ p. p.reserve.items ≡ upcoming p.opening.value reserve) }
@@ -68,6 +69,7 @@ pub(crate) fn plan_of(
     ensures limit { IfErr result (λ e. e ≡ OpenError.IndexLimit → givable (population entities.old) < reserve) }
     ensures memory { IfErr result (λ e. e ≡ OpenError.OutOfMemory → reserve ≤ givable (population entities.old)) }
     ensures kind { IfErr result (λ e. e ≡ OpenError.TooManyPasses → ⊥) }
+    ensures untouched { IfErr result (λ e. e ≡ OpenError.IndexLimit → entities.new ≡ entities.old) }
     ensures enough { IfOk result (λ _. reserve ≤ givable (population entities.old)) }
 {
     let born = entities.born();

@@ -149,7 +149,7 @@ impl<'a> Shared<'a> {
         ensures once { AreGivenOnce (phase_opened self.entry) passes.items }
         ensures taken_up { AreTakenUp (phase_opened self.entry) passes.items (population self.exit.0.now) }
         ensures theirs { length passes.items ≡ (phase_opened self.entry).passes → AreAllTheirs (phase_opened self.entry) passes.items (population (entities_of self.entry)) (population self.exit.0.now) }
-        ensures room { (entities_of self.entry).room ≤ self.exit.0.now.room }
+        ensures room { self.exit.0.now.room ≡ (entities_of self.entry).room }
         ensures back { result.passes_back ≡ length passes.items }
         ensures spent { (k : ℕ) (d : Pass) → k < length passes.items → is_spent (slice_index_or passes.items k d) ≡ true → result.births ≡ length (phase_opened self.entry).reserve }
     {

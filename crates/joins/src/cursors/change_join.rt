@@ -98,7 +98,8 @@ impl<'a, T: Combine + Drop, J: Join> ChangeJoin<'a, T, J> {
     }
 
     /// Calls `f` at each index that is left, ascending, with a `&mut` to the value there and with what the join has beside it. It stands for
-    /// `for (value, item) in (&mut change_set, join).join()` of specs, and costs what that walk and the calls cost. It takes no memory.
+    /// `for (value, item) in (&mut change_set, join).join()` of specs, and costs what that walk and the calls cost. It takes no memory. Nothing is
+    /// left after it.
     pub fn for_each<F: FnMut(&mut T, J::Type)>(&mut self, mut f: F)
     where
         J::Type: Drop,
@@ -108,6 +109,8 @@ impl<'a, T: Combine + Drop, J: Join> ChangeJoin<'a, T, J> {
         ensures each { (i : ℕ) → Contains (rest self.old) i → ValueChanged (gives self.old) F.step (values self.old) (values self.new) i }
         ensures others { (i : ℕ) → (Contains (rest self.old) i → ⊥) → map.get (values self.new) i ≡ map.get (values self.old) i }
         ensures becomes { (to : ℕ → T → T) → CallsLeave (gives self.old) F.step tt to → values self.new ≡ each_becomes to (rest self.old) (values self.old) }
+        ensures ended { (here self.new ≡ None) × (rest self.new ≡ []) }
+        ensures gives { (i : ℕ) (r : J.Type) → gives self.new i r → gives self.old i r }
     {
         while let Some(_id) = self.next() {
             let Some(item) = self.beside() else {

@@ -28,7 +28,7 @@ pub struct Drain<'a, T: Component, J: Join> {
 impl<'a, T: Component, J: Join> Drain<'a, T, J> {
     ghost use Rattle.joins.specs.Draining.{slot, storage_name, here, component, is_given, rest, gives};
     ghost use Rattle.joins.specs.Each.{each_gone};
-    ghost use Rattle.joins.specs.Taking.{TakenAtEach, TakingStopped};
+    ghost use Rattle.joins.specs.Taking.{TakenAtEach, TakingStopped, TakingStoppedAt};
     ghost use Rattle.storages.specs.Meaning.{HasRoom};
     ghost use Rattle.storages.specs.Slot.{IsSame, Takes};
 
@@ -126,7 +126,8 @@ impl<'a, T: Component, J: Join> Drain<'a, T, J> {
     /// `for (component, item) in (storage.drain(), join).join()` of specs, and costs what that walk and the calls cost.
     ///
     /// `Err` where memory was refused for the event of the next index: what was taken out before it stays so, and the cursor stands at that
-    /// index, whose component is there.
+    /// index, whose component is there, before those behind it. What is beside that index was taken for its call, and is not given again. After
+    /// `Ok` nothing is left.
     pub fn for_each<F: FnMut(T, J::Type)>(&mut self, mut f: F) -> Result<(), AllocError>
     where
         T::Storage: UnprotectedStorage<T>,
@@ -136,6 +137,11 @@ impl<'a, T: Component, J: Join> Drain<'a, T, J> {
         ensures calls { OnOk result ((last : F) × TakenAtEach (gives self.old) F.step (rest self.old) f (slot self.old) last (slot self.new)) }
         ensures gone { OnOk result ((slot self.new).map ≡ each_gone (rest self.old) (slot self.old).map) }
         ensures err { OnErr result (TakingStopped (gives self.old) F.step (rest self.old) f (slot self.old) (slot self.new)) }
+        ensures place { OnErr result (TakingStoppedAt (gives self.old) F.step (rest self.old) f (slot self.old) (slot self.new) (here self.new) (rest self.new)) }
+        ensures there { OnErr result (IsSome (component self.new)) }
+        ensures given { OnErr result (is_given self.new ≡ true) }
+        ensures ended { OnOk result ((here self.new ≡ None) × (rest self.new ≡ [])) }
+        ensures gives { (i : ℕ) (r : J.Type) → gives self.new i r → gives self.old i r }
         ensures succeeds { HasRoom (slot self.old).room (length (rest self.old)) → IsOk result }
         ensures room { is_some (slot self.new).room ≡ is_some (slot self.old).room }
     {

@@ -1,5 +1,5 @@
 //! Loops over a storage that is written to beside a join, by calls of a closure.
-ghost use Rattle.std.specs.Prelude.{◌≡◌, ◌≢◌, ◌<◌, ℕ, true, false, Some, None, Ok, Err, OnOk, OnErr, IsOk, is_some, length};
+ghost use Rattle.std.specs.Prelude.{◌≡◌, ◌≢◌, ◌<◌, ℕ, true, false, Some, None, Ok, Err, OnOk, OnErr, IsOk, is_some, length, ⊤};
 ghost use Rattle.std.specs.Borrow.{MutBor};
 ghost use Rattle.std.specs.FinMap as map;
 ghost use Rattle.joins.specs.Each.{each_becomes};
@@ -17,10 +17,13 @@ use std::alloc::AllocError;
 use storages::{Component, MaskedStorage, UnprotectedStorage, WriteStorage};
 
 /// What calls a closure at each of its components that a join shares. Its callers need no proof of their own: what a storage, or a view, ends as
-/// is said by the closure's own clauses.
+/// is said by the closure's own clauses. A view is of the same storage afterwards, and beside the same entities.
 pub trait ForEach<T: Component> {
     // the storage
     ghost held: { Self → Slot T };
+
+    // what else this is stays: a view is of the same storage beside the same entities
+    ghost SameHolder: { Self → Self → Type 0 };
 
     /// Calls `f` at each index of this and of the join, ascending, with a `&mut` to the component there and with what the join has beside it. It
     /// stands for `for (component, item) in (&mut storage, join).join()` of specs, and costs what that walk and the calls cost.
@@ -43,7 +46,8 @@ pub trait ForEach<T: Component> {
         ensures calls { OnOk result ((last : F) × CalledAtEach (J.gives join) F.step tt (shared_indices (held self.old).map (J.has join)) f (held self.old) last (held self.new)) }
         ensures err { OnErr result (StoppedIn (J.gives join) F.step tt (shared_indices (held self.old).map (J.has join)) f (held self.old) (held self.new)) }
         ensures succeeds { HasRoom (held self.old).room (length (shared_indices (held self.old).map (J.has join))) → IsOk result }
-        ensures room { is_some (held self.new).room ≡ is_some (held self.old).room };
+        ensures room { is_some (held self.new).room ≡ is_some (held self.old).room }
+        ensures holder { SameHolder self.old self.new };
 
     /// `for_each_with` of a closure that keeps what it captured as it is, which callers' proofs then know in each call.
     fn update_each_with<J: Join, F: Fn(&mut T, J::Type)>(
@@ -62,7 +66,8 @@ pub trait ForEach<T: Component> {
         ensures calls { OnOk result (EachCalled (J.gives join) (F.post f) (shared_indices (held self.old).map (J.has join)) (held self.old) (held self.new)) }
         ensures err { OnErr result (EachStopped (J.gives join) (F.post f) (shared_indices (held self.old).map (J.has join)) (held self.old) (held self.new)) }
         ensures succeeds { HasRoom (held self.old).room (length (shared_indices (held self.old).map (J.has join))) → IsOk result }
-        ensures room { is_some (held self.new).room ≡ is_some (held self.old).room };
+        ensures room { is_some (held self.new).room ≡ is_some (held self.old).room }
+        ensures holder { SameHolder self.old self.new };
 
     /// `for_each_with` of a closure that may refuse, which ends the loop: the calls before it stay made, as does what it wrote to its component.
     fn try_for_each_with<J: Join, E, F: FnMut(&mut T, J::Type) -> Result<(), E>>(
@@ -82,11 +87,14 @@ pub trait ForEach<T: Component> {
         ensures memory { (result ≡ Err EachError.OutOfMemory) → StoppedIn (J.gives join) F.step (Ok tt) (shared_indices (held self.old).map (J.has join)) f (held self.old) (held self.new) }
         ensures refused { (e : E) → result ≡ Err (EachError.Refused e) → RefusedIn (J.gives join) F.step (Ok tt) (Err e) (shared_indices (held self.old).map (J.has join)) f (held self.old) (held self.new) }
         ensures succeeds { HasRoom (held self.old).room (length (shared_indices (held self.old).map (J.has join))) → result ≢ Err EachError.OutOfMemory }
-        ensures room { is_some (held self.new).room ≡ is_some (held self.old).room };
+        ensures room { is_some (held self.new).room ≡ is_some (held self.old).room }
+        ensures holder { SameHolder self.old self.new };
 }
 
 impl<T: Component> ForEach<T> for MaskedStorage<T> {
     ghost held = { λ s. s };
+
+    ghost SameHolder = { λ _ _. ⊤ };
 
     fn for_each_with<J: Join, F: FnMut(&mut T, J::Type)>(
         &mut self,
@@ -148,6 +156,8 @@ impl<T: Component> ForEach<T> for MaskedStorage<T> {
 
 impl<'a, T: Component> ForEach<T> for WriteStorage<'a, T> {
     ghost held = { λ v. view.slot v };
+
+    ghost SameHolder = { λ v w. (view.storage_name w ≡ view.storage_name v) × (view.entities_of w ≡ view.entities_of v) };
 
     fn for_each_with<J: Join, F: FnMut(&mut T, J::Type)>(
         &mut self,

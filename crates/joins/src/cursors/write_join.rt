@@ -32,7 +32,7 @@ pub struct WriteJoin<'a, T: Component, J: Join> {
 impl<'a, T: Component, J: Join> WriteJoin<'a, T, J> {
     ghost use Rattle.joins.specs.Cursor.{slot, storage_name, here, is_given, rest, gives, lends_item};
     ghost use Rattle.joins.specs.Each.{each_becomes};
-    ghost use Rattle.joins.specs.Visits.{CalledAtEach, ChangedAt, StoppedIn, RefusedIn, EachCalled, ChangedOnce, EachStopped, CallsLeave, EachLeaves};
+    ghost use Rattle.joins.specs.Visits.{CalledAtEach, ChangedAt, StoppedIn, StoppedAt, RefusedIn, RefusedAt, EachCalled, ChangedOnce, EachStopped, EachStoppedAt, CallsLeave, EachLeaves};
     ghost use Rattle.storages.specs.Meaning.{HasRoom};
 
     /// Before the first index.
@@ -109,8 +109,9 @@ impl<'a, T: Component, J: Join> WriteJoin<'a, T, J> {
     /// Calls `f` at each index that is left, ascending, with a `&mut` to the component there and with what the join has beside it. It stands for
     /// `for (component, item) in (&mut storage, join).join()` of specs, and costs what that walk and the calls cost.
     ///
-    /// `Err` where memory was refused for the event of the next index: the calls before it stay made, and the cursor stands at that index. A
-    /// storage of which nobody reads events is never refused. `for_each_with` of a storage, or of a view, says the same of what that ends as.
+    /// `Err` where memory was refused for the event of the next index: the calls before it stay made, and the cursor stands at that index, before
+    /// those behind it. What is beside that index was taken for its call, and is not given again. After `Ok` nothing is left. A storage of which
+    /// nobody reads events is never refused. `for_each_with` of a storage, or of a view, says the same of what that ends as.
     pub fn for_each<F: FnMut(&mut T, J::Type)>(&mut self, mut f: F) -> Result<(), AllocError>
     where
         T::Storage: UnprotectedStorage<T>,
@@ -122,6 +123,10 @@ impl<'a, T: Component, J: Join> WriteJoin<'a, T, J> {
         ensures others { OnOk result ((i : ℕ) → (Contains (rest self.old) i → ⊥) → map.get (slot self.new).map i ≡ map.get (slot self.old).map i) }
         ensures becomes { OnOk result ((to : ℕ → T → T) → CallsLeave (gives self.old) F.step tt to → (slot self.new).map ≡ each_becomes to (rest self.old) (slot self.old).map) }
         ensures err { OnErr result (StoppedIn (gives self.old) F.step tt (rest self.old) f (slot self.old) (slot self.new)) }
+        ensures place { OnErr result (StoppedAt (gives self.old) F.step tt (rest self.old) f (slot self.old) (slot self.new) (here self.new) (rest self.new)) }
+        ensures given { OnErr result (is_given self.new ≡ true) }
+        ensures ended { OnOk result ((here self.new ≡ None) × (rest self.new ≡ [])) }
+        ensures gives { (i : ℕ) (r : J.Type) → gives self.new i r → gives self.old i r }
         ensures succeeds { HasRoom (slot self.old).room (length (rest self.old)) → IsOk result }
         ensures room { is_some (slot self.new).room ≡ is_some (slot self.old).room }
     {
@@ -149,6 +154,10 @@ impl<'a, T: Component, J: Join> WriteJoin<'a, T, J> {
         ensures others { OnOk result ((i : ℕ) → (Contains (rest self.old) i → ⊥) → map.get (slot self.new).map i ≡ map.get (slot self.old).map i) }
         ensures becomes { OnOk result ((to : ℕ → T → T) → EachLeaves (gives self.old) (F.post f) to → (slot self.new).map ≡ each_becomes to (rest self.old) (slot self.old).map) }
         ensures err { OnErr result (EachStopped (gives self.old) (F.post f) (rest self.old) (slot self.old) (slot self.new)) }
+        ensures place { OnErr result (EachStoppedAt (gives self.old) (F.post f) (rest self.old) (slot self.old) (slot self.new) (here self.new) (rest self.new)) }
+        ensures given { OnErr result (is_given self.new ≡ true) }
+        ensures ended { OnOk result ((here self.new ≡ None) × (rest self.new ≡ [])) }
+        ensures gives { (i : ℕ) (r : J.Type) → gives self.new i r → gives self.old i r }
         ensures succeeds { HasRoom (slot self.old).room (length (rest self.old)) → IsOk result }
         ensures room { is_some (slot self.new).room ≡ is_some (slot self.old).room }
     {
@@ -165,7 +174,7 @@ impl<'a, T: Component, J: Join> WriteJoin<'a, T, J> {
     }
 
     /// `for_each` of a closure that may refuse, which ends the loop: the calls before it stay made, as does what it wrote to its component, and
-    /// the cursor stands at its index.
+    /// the cursor stands at its index, before those behind it. It stands so too at the index for whose event memory was refused.
     pub fn try_for_each<E, F: FnMut(&mut T, J::Type) -> Result<(), E>>(
         &mut self,
         mut f: F,
@@ -181,6 +190,11 @@ impl<'a, T: Component, J: Join> WriteJoin<'a, T, J> {
         ensures becomes { OnOk result ((to : ℕ → T → T) → CallsLeave (gives self.old) F.step (Ok tt) to → (slot self.new).map ≡ each_becomes to (rest self.old) (slot self.old).map) }
         ensures memory { (result ≡ Err EachError.OutOfMemory) → StoppedIn (gives self.old) F.step (Ok tt) (rest self.old) f (slot self.old) (slot self.new) }
         ensures refused { (e : E) → result ≡ Err (EachError.Refused e) → RefusedIn (gives self.old) F.step (Ok tt) (Err e) (rest self.old) f (slot self.old) (slot self.new) }
+        ensures memory_place { (result ≡ Err EachError.OutOfMemory) → StoppedAt (gives self.old) F.step (Ok tt) (rest self.old) f (slot self.old) (slot self.new) (here self.new) (rest self.new) }
+        ensures place { (e : E) → result ≡ Err (EachError.Refused e) → RefusedAt (gives self.old) F.step (Ok tt) (Err e) (rest self.old) f (slot self.old) (slot self.new) (here self.new) (rest self.new) }
+        ensures given { OnErr result (is_given self.new ≡ true) }
+        ensures ended { OnOk result ((here self.new ≡ None) × (rest self.new ≡ [])) }
+        ensures gives { (i : ℕ) (r : J.Type) → gives self.new i r → gives self.old i r }
         ensures succeeds { HasRoom (slot self.old).room (length (rest self.old)) → result ≢ Err EachError.OutOfMemory }
         ensures room { is_some (slot self.new).room ≡ is_some (slot self.old).room }
     {

@@ -48,13 +48,13 @@ GivesMarker Comes p old slot e (Some false) new = HasMarker p (old slot) e × (n
 GivesMarker Comes p old slot e (Some true) new = GetsMarker Comes p old slot e new
 
 -- Why an entity gets no marker, in a slot that holds markers or does not, with so many ids left: an id, or memory, is wanted only in a slot of
--- markers, for an entity that is alive and has none; the ids are used up only where none is left, and one is taken only where that can't be told.
+-- markers, for an entity that is alive and has none; the ids are used up only where none is left, memory is wanted only where that can't be, and one is taken only where it can't be told.
 abbrev pub MarkerIsRefused : {K V : Type 0} → Bool → Option ℕ → Population → Table K V → K → Entity → MarkError → Type 0
 MarkerIsRefused holds_markers left p table slot e Unregistered = table slot ≡ None
 MarkerIsRefused holds_markers left p table slot e NoMarker = IsSome (table slot) × (holds_markers ≡ false)
 MarkerIsRefused holds_markers left p table slot e IdsExhausted = LacksMarker p (table slot) e × (holds_markers ≡ true) × (left ≡ Some 0)
 MarkerIsRefused holds_markers left p table slot e IdTaken = LacksMarker p (table slot) e × (holds_markers ≡ true) × (left ≡ None)
-MarkerIsRefused holds_markers left p table slot e OutOfMemory = LacksMarker p (table slot) e × (holds_markers ≡ true)
+MarkerIsRefused holds_markers left p table slot e OutOfMemory = LacksMarker p (table slot) e × (holds_markers ≡ true) × (left ≡ Some 0 → ⊥)
 
 -- the marker's id may be new, and names the entity now; no other is mapped otherwise
 abbrev pub IsGiven : {M I : Type 0} → (M → I) → (I → I → Bool) → (I → Type 0) → Entity → (I → Option Entity) → (I → Option Entity) → M → Type 0
@@ -85,4 +85,4 @@ FieldMarkerIsRefused left p field e Unregistered = field ≡ None
 FieldMarkerIsRefused left p field e NoMarker = ⊥
 FieldMarkerIsRefused left p field e IdsExhausted = LacksMarker p field e × (left ≡ Some 0)
 FieldMarkerIsRefused left p field e IdTaken = LacksMarker p field e × (left ≡ None)
-FieldMarkerIsRefused left p field e OutOfMemory = LacksMarker p field e
+FieldMarkerIsRefused left p field e OutOfMemory = LacksMarker p field e × (left ≡ Some 0 → ⊥)

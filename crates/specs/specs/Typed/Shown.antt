@@ -148,7 +148,7 @@ module _ {K L V W : Type 0} {slot : K → L} {value : V → W} {t t' : Table K V
   shown_marker_refused b left p k e failure.NoMarker h = (some_as k h.0, h.1)
   shown_marker_refused b left p k e failure.IdsExhausted h = (lacks_as p k e h.0, h.1, h.2)
   shown_marker_refused b left p k e failure.IdTaken h = (lacks_as p k e h.0, h.1, h.2)
-  shown_marker_refused b left p k e failure.OutOfMemory h = (lacks_as p k e h.0, h.1)
+  shown_marker_refused b left p k e failure.OutOfMemory h = (lacks_as p k e h.0, h.1, h.2)
 
   pub shown_removes : (p : Population) (k : K) (e : Entity) (found : Option V) → Removes p t k e found t' → Removes p u (slot k) e (option_map value found) u'
   shown_removes p k e found r = record {

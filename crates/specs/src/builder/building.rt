@@ -33,6 +33,7 @@ impl<S: Held> Core<S> {
         ensures living { IfOk result (λ b. KeepsLiving (core_state S.table S.ids self.old) (building.shown S.table S.ids b)) }
         ensures goes_on { IfOk result (λ b. GoesOn (core_state S.table S.ids self.old) (building.shown S.table S.ids b)) }
         ensures gone { IfOk result (λ b. KeepsGone (core_state S.table S.ids self.old).people (building.shown S.table S.ids b).people) }
+        ensures storages { IfOk result (λ b. (lent_to b).now.parts.storages ≡ self.old.parts.storages) }
         ensures refused { IfErr result (CreateIsRefused (core_state S.table S.ids self.old).people) }
     {
         let entity = self.bear_lawfully()?;

@@ -1,9 +1,10 @@
 //! Jobs of the user's without laws of their own.
-ghost use Rattle.std.specs.Prelude.{◌≡◌, OnErr, IfErr};
+ghost use Rattle.std.specs.Prelude.{◌≡◌, OnOk, OnErr, IfErr};
 ghost use Rattle.std.specs.Fn.{CalledAtMut};
 ghost use Rattle.specs.specs.Laws.Going.{GoesOn, Lengthens};
 ghost use Rattle.specs.specs.Job.Queue.{queued};
-ghost use Rattle.specs.specs.World.State.{core_state};
+ghost use Rattle.specs.specs.Job.Repeating.{CallsInTurn};
+ghost use Rattle.specs.specs.World.State.{State, core_state};
 
 use crate::job::{LazyUpdate, WorldJob};
 use crate::slots::{Held, Storages};
@@ -13,6 +14,9 @@ use std::alloc::AllocError;
 /// A job of the user's that changes a core by its calls alone, each of which goes on by steps of the model, so that it states no law. As
 /// `Doing` it is a job of a world's. Ports what `LazyUpdate::exec_mut` is given.
 pub trait Act<S: Held>: Sized + Drop {
+    /// What the act comes to, for proofs alone. An impl that leaves it out promises nothing but that the model goes on.
+    ghost acts: { Self → State S.Slot S.Value → State S.Slot S.Value → Type 0 } = { λ _ _ _. Unit {0} };
+
     /// Does the job, and queues whatever comes after it. Where memory is refused before anything changed, the job is handed back; where it is
     /// refused later, the job queues what is left of it, or lets it be, and ends.
     fn act(
@@ -21,13 +25,14 @@ pub trait Act<S: Held>: Sized + Drop {
         queue: &mut LazyUpdate<S, Doing<Self>>,
     ) -> Result<(), (Self, AllocError)>
         ensures goes_on { GoesOn (core_state S.table S.ids core.old) (core_state S.table S.ids core.new) }
+        ensures acts { OnOk result (acts self (core_state S.table S.ids core.old) (core_state S.table S.ids core.new)) }
         ensures lengthens { Lengthens (queued queue.old) (queued queue.new) }
         ensures back { IfErr result (λ r. r.0 ≡ self) }
         ensures err_core { OnErr result (core_state S.table S.ids core.new ≡ core_state S.table S.ids core.old) }
         ensures err_queue { OnErr result (queued queue.new ≡ queued queue.old) };
 }
 
-/// An act as a job of a world's, which may find no memory in any state. It spares every reader.
+/// An act as a job of a world's, which does it when its turn comes, and may find no memory in any state. It spares every reader.
 #[derive(Drop)]
 pub struct Doing<A>(pub A);
 
@@ -35,7 +40,7 @@ impl<S: Storages, A: Act<S>> WorldJob<S> for Doing<A> {
     ghost use Rattle.specs.specs.Laws.Going.{ComesOf};
     ghost use Rattle.specs.specs.Laws.GoingLaws.{comes_grows, comes_lives, comes_tells};
 
-    ghost does = { λ j old more new. ComesOf old new };
+    ghost does = { λ j old more new. ComesOf old new × A.acts j.0 old new };
 
     ghost wants = { λ j s. Unit {0} };
 
@@ -52,11 +57,11 @@ impl<S: Storages, A: Act<S>> WorldJob<S> for Doing<A> {
         }
     }
 
-    ghost grows = { λ j old new more c. comes_grows old new c };
+    ghost grows = { λ j old new more c. comes_grows old new c.0 };
 
-    ghost lives = { λ j old new more c w. comes_lives old new c w };
+    ghost lives = { λ j old new more c w. comes_lives old new c.0 w };
 
-    ghost tells = { λ j slot n old new more c spared l. comes_tells slot n (λ k. S.Slot.eq k slot) (λ k. S.exact k slot) old new more c l };
+    ghost tells = { λ j slot n old new more c spared l. comes_tells slot n (λ k. S.Slot.eq k slot) (λ k. S.exact k slot) old new more c.0 l };
 }
 
 impl<S: Held> Core<S> {
@@ -64,6 +69,7 @@ impl<S: Held> Core<S> {
     pub fn repeat<F: FnMut(&mut Core<S>)>(&mut self, count: u32, mut f: F)
         requires callable { F.IsAlwaysCallable f }
         requires goes_on { (g : F) (x : _) (h : F) (y : _) → CalledAtMut F.FnMut g x tt h y → GoesOn (core_state S.table S.ids x) (core_state S.table S.ids y) }
+        ensures calls { (g : F) × CallsInTurn (λ f x h y. CalledAtMut F.FnMut f x tt h y) count f self.old g self.new }
         ensures goes_on { GoesOn (core_state S.table S.ids self.old) (core_state S.table S.ids self.new) }
     {
         for _i in 0..count {

@@ -84,6 +84,7 @@ fn give<M: Marker, A: MarkerAllocator<M>>(
     ensures err_mapped { OnErr result (MayHaveGiven M.Identifier.eq (A.MayBeNew allocator.old) e (A.mapping allocator.old) (A.mapping allocator.new)) }
     ensures used_up { result ≡ Err MarkError.IdsExhausted → A.ids allocator.old ≡ Some 0 }
     ensures drawn { result ≡ Err MarkError.IdTaken → A.ids allocator.old ≡ None }
+    ensures memory { result ≡ Err MarkError.OutOfMemory → A.ids allocator.old ≡ Some 0 → ⊥ }
 {
     allocator.mark(e, &mut WriteStorage::new(entities, storage))
 }

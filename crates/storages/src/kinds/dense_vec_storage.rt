@@ -60,7 +60,8 @@ impl<T> DenseVecStorage<T> {
 
     /// A storage without values, which takes no memory.
     pub fn new(alloc: Global) -> Self
-        ensures { IsNew (dense_meaning result) }
+        ensures new { IsNew (dense_meaning result) }
+        ensures pages { dense_pages result ≡ set.empty }
     {
         DenseVecStorage {
             values: Vec::new(alloc),

@@ -9,7 +9,7 @@ use hibits::{BitSet, Index};
 use std::alloc::{AllocError, Global};
 
 /// Components without gaps and without a slice, found by a table in pages: a get takes two loads, three past the first 64 indices of which none
-/// ever had a value, and no hash. It takes what `DenseVecStorage` takes.
+/// has had a value since the storage was last cleared, and no hash. It takes what `DenseVecStorage` takes.
 ///
 /// Ports `specs::storage::HashMapStorage`, which is a hash map.
 pub struct HashMapStorage<T> {

@@ -1,4 +1,4 @@
-use Rattle.std.proofs.Common.{rules, subst, refl, arith, append-nil, ◌≡◌, sym, ◌∙◌, ap, get_or, length, ◌<◌, List, [], ◌++◌}
+use Rattle.std.proofs.Common.{rules, subst, refl, arith, append-nil, ◌≡◌, sym, ◌∙◌, ap, get_or, length, ◌<◌, take, List, [], ◌++◌}
 use Rattle.std.proofs.lemmas.List.{append_assoc}
 use Rattle.entities.specs.declared.entity.Entity.{Entity}
 use Rattle.std.specs.Prelude.{Err}
@@ -9,7 +9,7 @@ use Rattle.saveload.specs.Conversion.{Has, AllNamed}
 use Rattle.saveload.specs.Closing.{marked_in, IsMentioned, MarksBefore, MarksUpTo}
 use Rattle.saveload.specs.Closing.LeadsTo.{first}
 use Rattle.saveload.proofs.Lists.{has_at}
-use Rattle.saveload.proofs.Marked.{marks_none, marks_then, found_kept, before_all, came_to, stops_marking, led_more, named_more}
+use Rattle.saveload.proofs.Marked.{marks_none, marks_then, found_kept, before_all, referred_are_alive, came_to, stops_marking, led_more, named_more}
 use Rattle.saveload.proofs.Closing.{closed_step, marked_none}
 use Rattle.saveload.proofs.Rows.{on_err}
 use Rattle.saveload.proofs.Turns.{turns_then, turns_until, turns_end}
@@ -82,9 +82,11 @@ returns-in_err-mark_references-clause-refused g c =
     let one = get_or c.loop-i.list.items c.loop-i.i c.index.result.now in
     let has = has_at c.loop-i.list.items c.loop-i.i c.index.result.now lt in
     let same : c.from_residual-in_err-mark_references.result ≡ Err c.in_err-mark_references.field-0.0 = search rules in
-    rw same (stops_marking (population (entities_of c.args.markers.now)) (population (entities_of c.loop-i.markers)) (MarksBefore c.deref.result.now (slot c.loop-i.markers) (slot c.mark_references.new.markers)) (MarksUpTo refs c.args.list.now.items (slot c.args.markers.now) (slot c.mark_references.new.markers))
-    (ap population inv.1) (came_to refs c.args.list.now.items c.loop-i.list.items c.deref.result.now (slot c.args.markers.now) (slot c.loop-i.markers) (slot c.mark_references.new.markers) c.loop-i.i c.index.result.now
-    lt inv.2 inv.3 (inv.5 one has) list) c.in_err-mark_references.field-0.0 now.refused)
+    rw same (stops_marking (population (entities_of c.args.markers.now)) (population (entities_of c.loop-i.markers)) (MarksBefore (population (entities_of c.loop-i.markers)) c.deref.result.now (slot c.loop-i.markers) (slot c.mark_references.new.markers)) (MarksUpTo (population (entities_of c.args.markers.now)) refs c.args.list.now.items (slot c.args.markers.now) (slot c.mark_references.new.markers))
+    (ap population inv.1) (came_to (population (entities_of c.args.markers.now)) (population (entities_of c.loop-i.markers)) refs c.args.list.now.items c.loop-i.list.items c.deref.result.now (slot c.args.markers.now) (slot c.loop-i.markers) (slot c.mark_references.new.markers) c.loop-i.i c.index.result.now
+    (ap population inv.1) lt inv.2
+    (referred_are_alive (entities_of c.args.markers.now) (entities_of c.loop-i.markers) (slot c.loop-i.markers) refs (take c.loop-i.i c.loop-i.list.items) inv.1 inv.6)
+    inv.3 (inv.5 one has) list) c.in_err-mark_references.field-0.0 now.refused)
 
 pub returns-in_err-references-clause-refused : goal.returns-in_err-references-clause-refused
 returns-in_err-references-clause-refused g c =
@@ -96,8 +98,10 @@ returns-in_err-references-clause-refused g c =
     let has = has_at c.loop-i.list.items c.loop-i.i c.index.result.now lt in
     rw (p.1, p.2) (
       refs one,
-      came_to refs c.args.list.now.items c.loop-i.list.items (refs one) (slot c.args.markers.now) (slot c.loop-i.markers) (slot c.loop-i.markers) c.loop-i.i c.index.result.now
-          lt inv.2 inv.3 (inv.5 one has) refl (refs one) (before_all (refs one) (slot c.loop-i.markers) (slot c.loop-i.markers) refl),
+      came_to (population (entities_of c.args.markers.now)) (population (entities_of c.loop-i.markers)) refs c.args.list.now.items c.loop-i.list.items (refs one) (slot c.args.markers.now) (slot c.loop-i.markers) (slot c.loop-i.markers) c.loop-i.i c.index.result.now
+          (ap population inv.1) lt inv.2
+          (referred_are_alive (entities_of c.args.markers.now) (entities_of c.loop-i.markers) (slot c.loop-i.markers) refs (take c.loop-i.i c.loop-i.list.items) inv.1 inv.6)
+          inv.3 (inv.5 one has) refl (refs one) (before_all (population (entities_of c.loop-i.markers)) (refs one) (slot c.loop-i.markers) (slot c.loop-i.markers) refl),
     )
 
 pub returns-in_err-mark_references-clause-stops : goal.returns-in_err-mark_references-clause-stops

@@ -10,7 +10,7 @@ use Rattle.storages.specs.WriteView.{slot, entities_of}
 use Rattle.saveload.specs.Closing.{marked_in, HasMarked}
 use Rattle.saveload.proofs.Closing.{found_none, found_some, new_one, new_none, marked_none, marked_one}
 use Rattle.storages.specs.Slot.{Slot}
-use Rattle.saveload.proofs.Marked.{marks_none, marks_one, found_new, before_all, after_all}
+use Rattle.saveload.proofs.Marked.{marks_none, marks_one, found_new, one_alive, before_all, after_all}
 use Rattle.saveload.proofs.Turns.{turns_end, refused_at_once}
 use Rattle.saveload.proofs.marking.mark_one.Goals as goal
 
@@ -76,7 +76,7 @@ pub returns-in-Ok-None-clause-refused : goal.returns-in-Ok-None-clause-refused
 returns-in-Ok-None-clause-refused g c =
     let no : c.in-Ok-None.field-0 ≡ None = search rules in
     let same : slot c.mark.new.storage ≡ slot c.args.markers.now = (c.in-Ok-None.ensures.old (λ e. none-some true (sym no ∙ e))).0 in
-    ([], before_all (c.args.entity ∷ []) (slot c.args.markers.now) (slot c.mark.new.storage) (ap (λ (s : Slot g.row.M.Denot). s.map) same), sym c.in-Ok-None.ensures.dead ∙ ap is_some no)
+    ([], before_all (population (entities_of c.args.markers.now)) (c.args.entity ∷ []) (slot c.args.markers.now) (slot c.mark.new.storage) (ap (λ (s : Slot g.row.M.Denot). s.map) same), sym c.in-Ok-None.ensures.dead ∙ ap is_some no)
 
 pub returns-then-is_err-clause-refused : goal.returns-then-is_err-clause-refused
 returns-then-is_err-clause-refused g c =
@@ -85,18 +85,19 @@ returns-then-is_err-clause-refused g c =
     let off : marked_in (slot c.args.markers.now) (index_of c.args.entity) ≡ false = found_none _ _ alive (c.in-Ok-Some-true.ensures.is_new yes) in
     let marks = c.in-Ok-Some-true.ensures.new yes in (
       [],
-      after_all (c.args.entity ∷ []) (slot c.args.markers.now) (slot c.mark.new.storage)
+      after_all (population (entities_of c.args.markers.now)) (c.args.entity ∷ []) (slot c.args.markers.now) (slot c.mark.new.storage)
+          (one_alive (population (entities_of c.args.markers.now)) c.args.entity (sym alive))
           (subst (HasMarked (slot c.args.markers.now) (slot c.mark.new.storage)) (sym (new_one (marked_in (slot c.args.markers.now)) c.args.entity off)) (marked_one _ _ c.args.entity marks.0 marks.2.becomes.map off)),
     )
 
 pub returns-in-Err-IdsExhausted-clause-refused : goal.returns-in-Err-IdsExhausted-clause-refused
-returns-in-Err-IdsExhausted-clause-refused g c = (c.args.entity, [], before_all (c.args.entity ∷ []) (slot c.args.markers.now) (slot c.mark.new.storage) c.in-Err-IdsExhausted.ensures.err.map)
+returns-in-Err-IdsExhausted-clause-refused g c = (c.args.entity, [], before_all (population (entities_of c.args.markers.now)) (c.args.entity ∷ []) (slot c.args.markers.now) (slot c.mark.new.storage) c.in-Err-IdsExhausted.ensures.err.map)
 
 pub returns-in-Err-IdTaken-clause-refused : goal.returns-in-Err-IdTaken-clause-refused
-returns-in-Err-IdTaken-clause-refused g c = (c.args.entity, [], before_all (c.args.entity ∷ []) (slot c.args.markers.now) (slot c.mark.new.storage) c.in-Err-IdTaken.ensures.err.map)
+returns-in-Err-IdTaken-clause-refused g c = (c.args.entity, [], before_all (population (entities_of c.args.markers.now)) (c.args.entity ∷ []) (slot c.args.markers.now) (slot c.mark.new.storage) c.in-Err-IdTaken.ensures.err.map)
 
 pub returns-in-Err-clause-refused : goal.returns-in-Err-clause-refused
-returns-in-Err-clause-refused g c = (c.args.entity ∷ [], before_all (c.args.entity ∷ []) (slot c.args.markers.now) (slot c.mark.new.storage) c.in-Err.ensures.err.map)
+returns-in-Err-clause-refused g c = (c.args.entity ∷ [], before_all (population (entities_of c.args.markers.now)) (c.args.entity ∷ []) (slot c.args.markers.now) (slot c.mark.new.storage) c.in-Err.ensures.err.map)
 
 pub returns-else-is_err-clause-gives : goal.returns-else-is_err-clause-gives
 returns-else-is_err-clause-gives g c =

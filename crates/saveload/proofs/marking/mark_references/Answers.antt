@@ -7,7 +7,7 @@ use Rattle.std.specs.Prelude.{IsSome, Err}
 use Rattle.entities.specs.Census.{population}
 use Rattle.saveload.specs.Conversion.{Has, AllNamed}
 use Rattle.saveload.proofs.Lists.{has_at, tested_more}
-use Rattle.saveload.proofs.Marked.{marks_then, found_kept, has_one, stops_at}
+use Rattle.saveload.proofs.Marked.{marks_then, found_kept, has_one, named_are_alive, stops_at}
 use Rattle.saveload.proofs.Closing.{new_more, marks_more}
 use Rattle.saveload.proofs.Rows.{on_err}
 use Rattle.saveload.proofs.Turns.{turns_then, turns_until}
@@ -48,4 +48,6 @@ pub returns-in_err-mark_one-clause-refused : goal.returns-in_err-mark_one-clause
 returns-in_err-mark_one-clause-refused g c =
     let same : c.from_residual.result ≡ Err c.in_err-mark_one.field-0.0 = search rules in
     rw same (stops_at (population (entities_of c.args.markers.now)) (population (entities_of c.loop-x.markers)) (slot c.args.markers.now) (slot c.loop-x.markers) (slot c.mark_one.new.markers) c.args.references.now c.loop-x.x-index (0, record { 0 = pos 0 })
-    (ap population c.loop-x.invariant.1) c.loop-x-test.true c.loop-x.invariant.3 c.in_err-mark_one.field-0.0 c.in_err-mark_one.ensures.refused)
+    (ap population c.loop-x.invariant.1) c.loop-x-test.true
+    (named_are_alive (entities_of c.args.markers.now) (entities_of c.loop-x.markers) (slot c.loop-x.markers) (take c.loop-x.x-index c.args.references.now) c.loop-x.invariant.1 c.loop-x.invariant.4)
+    c.loop-x.invariant.3 c.in_err-mark_one.field-0.0 c.in_err-mark_one.ensures.refused)

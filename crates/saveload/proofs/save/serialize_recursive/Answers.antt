@@ -14,7 +14,7 @@ use Rattle.saveload.specs.Marking.{MarksInTurn}
 use Rattle.saveload.proofs.Turns.{turns_end}
 use Rattle.std.proofs.lemmas.List.{append_cancel_left}
 use Rattle.saveload.proofs.Rows.{err_weaker, on_err}
-use Rattle.saveload.proofs.Marked.{all_marked_named, closed_named, found_kept, save_refused, marking_refused}
+use Rattle.saveload.proofs.Marked.{all_marked_named, closed_named, found_kept, referred_are_alive, save_refused, marking_refused}
 use Rattle.saveload.proofs.Saving.{if_ok}
 use Rattle.saveload.proofs.Closing.{marked_none}
 use Rattle.std.proofs.lemmas.Result.{err_from_is_err_and}
@@ -71,7 +71,7 @@ returns-in_err-mark_all-clause-refused g c =
     let refs = λ (e : Entity). g.P.SerializeComponents.conversion.references (g.P.SerializeComponents.values c.args.places.now e) in
     let same : c.from_residual-in_err-mark_all.result ≡ Err c.in_err-mark_all.field-0.0 = search rules in
     rw same (marking_refused g.P.SerializeComponents.conversion (λ (e : Entity). g.P.SerializeComponents.values c.args.places.now e) (all_marked (population (entities_of c.args.markers.now)) (slot c.args.markers.now)) (population (entities_of c.args.markers.now)) (slot c.args.markers.now) (slot c.mark_all.new.markers) c.in_err-mark_all.field-0.0
-    (subst (λ (l : List Entity). RefusesMarking (population (entities_of c.args.markers.now)) (MarksUpTo refs l (slot c.args.markers.now) (slot c.mark_all.new.markers)) c.in_err-mark_all.field-0.0) begun c.in_err-mark_all.ensures.refused))
+    (subst (λ (l : List Entity). RefusesMarking (population (entities_of c.args.markers.now)) (MarksUpTo (population (entities_of c.args.markers.now)) refs l (slot c.args.markers.now) (slot c.mark_all.new.markers)) c.in_err-mark_all.field-0.0) begun c.in_err-mark_all.ensures.refused))
 
 pub returns-in_err-list-clause-refused : goal.returns-in_err-list-clause-refused
 returns-in_err-list-clause-refused g c =
@@ -103,15 +103,16 @@ returns-clause-refused g c =
     let beside : entities_read c.new-marked.result ≡ entities_of c.mark_all.new.markers = search rules in
     let same = λ (e : Entity). ap (λ s. found_in (entities_read c.new-marked.result) s e) seen ∙ ap (λ people. found_in people (slot c.mark_all.new.markers) e) beside in
     let more = c.in_ok-mark_all.ensures.marked in
-    let all : MarksThese refs (all_marked (population (entities_of c.args.markers.now)) (slot c.args.markers.now)) (slot c.args.markers.now) (slot c.mark_all.new.markers) c.mark_all.new.list.items = record {
+    let all : MarksThese (population (entities_of c.args.markers.now)) refs (all_marked (population (entities_of c.args.markers.now)) (slot c.args.markers.now)) (slot c.args.markers.now) (slot c.mark_all.new.markers) c.mark_all.new.list.items = record {
       added = more.0;
       parts = more.1 ∙ ap (λ (l : List Entity). l ++ more.0) begun;
       closed = subst (λ (l : List Entity). IsClosed (marked_in (slot c.args.markers.now)) refs l c.mark_all.new.list.items) begun c.in_ok-mark_all.ensures.closed;
       marked = more.2;
+      alive = referred_are_alive (entities_of c.args.markers.now) (entities_of c.mark_all.new.markers) (slot c.mark_all.new.markers) refs c.mark_all.new.list.items c.in_ok-mark_all.ensures.entities c.in_ok-mark_all.ensures.named;
     } in
     err_weaker c.save_list.result (save_refused g.P.SerializeComponents.conversion (λ e. found c.new-marked.result e) (λ (e : Entity). g.P.SerializeComponents.values c.args.places.now e) c.deref.result.now _ (population (entities_of c.args.markers.now)) (slot c.args.markers.now) (slot c.mark_all.new.markers)
     (λ e h x k. subst IsSome (sym (same x)) (c.in_ok-mark_all.ensures.named e (subst (λ (l : List Entity). Has l e) c.deref.ensures.value h) x k))
-    (subst (λ (l : List Entity). MarksThese refs (all_marked (population (entities_of c.args.markers.now)) (slot c.args.markers.now)) (slot c.args.markers.now) (slot c.mark_all.new.markers) l) (sym c.deref.ensures.value) all)) c.save_list.ensures.refused
+    (subst (λ (l : List Entity). MarksThese (population (entities_of c.args.markers.now)) refs (all_marked (population (entities_of c.args.markers.now)) (slot c.args.markers.now)) (slot c.args.markers.now) (slot c.mark_all.new.markers) l) (sym c.deref.ensures.value) all)) c.save_list.ensures.refused
 
 pub returns-in_err-list-clause-stops : goal.returns-in_err-list-clause-stops
 returns-in_err-list-clause-stops g c = on_err _ (turns_end g.M.Marker.id_of g.M.Identifier.PartialEq.eq g.A.MarkerAllocator.MayBeNew g.A.MarkerAllocator.mapping g.A.MarkerAllocator.ids c.args.allocator.now c.args.allocator.now (slot c.args.markers.now) (slot c.args.markers.now) [] (refl, refl))

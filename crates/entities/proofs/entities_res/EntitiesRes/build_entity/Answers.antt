@@ -20,6 +20,7 @@ returns c =
         memory = tt;
         had_room = λ _. refl;
         room = e.room;
+        takes = e.takes;
       },
     )
 

@@ -42,6 +42,7 @@ returns c =
         };
         same = c.plan_of.ensures.population;
         room = c.plan_of.ensures.kept;
+        takes = c.plan_of.ensures.bound;
         plan = ap (λ (p : Plan). population p.opening.value) is ∙ same;
         sizes = (sizes, ap (λ (p : Plan). p.passes) is ∙ c.in-Ok.ensures.passes);
         reserve = subst (λ (p : Plan). IsReserve (population s) p.reserve.items) (sym is) reserve;
@@ -58,13 +59,14 @@ returns c =
 
 pub returns-in-Err : goal.returns-in-Err
 returns-in-Err c = (
-  (refl, (λ w. tt), (c.plan_of.ensures.population, c.plan_of.ensures.kept)),
+  (refl, (λ w. tt), ((c.plan_of.ensures.population, c.plan_of.ensures.kept), ((λ e. absurd (c.in-Err.ensures.kind e)), c.in-Err.ensures.untouched))),
   record {
     rests = tt;
     same_reference = tt;
     «open» = tt;
     same = tt;
     room = tt;
+    takes = tt;
     plan = tt;
     sizes = tt;
     reserve = tt;
@@ -81,13 +83,14 @@ returns-in-Err c = (
 
 pub returns-in-Err-start : goal.returns-in-Err-start
 returns-in-Err-start c = (
-  (refl, (λ w. tt), (c.plan_of.ensures.population, c.plan_of.ensures.kept)),
+  (refl, (λ w. tt), ((c.plan_of.ensures.population, c.plan_of.ensures.kept), ((λ e. search rules), (λ e. search rules)))),
   record {
     rests = tt;
     same_reference = tt;
     «open» = tt;
     same = tt;
     room = tt;
+    takes = tt;
     plan = tt;
     sizes = tt;
     reserve = tt;

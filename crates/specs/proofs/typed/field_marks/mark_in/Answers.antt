@@ -19,4 +19,4 @@ pub returns-clause-refused : goal.returns-clause-refused
 returns-clause-refused g c =
     let alive : is_alive (population c.args.entities.now) c.args.e ≡ true = search rules in
     let none : map.contains_key c.args.storage.now.map (index_of c.args.e) ≡ false = search rules in
-    refused_by c.give.result _ _ _ c.args.e (lacks_now c.args.entities.now c.args.storage.now c.args.e alive none) c.give.ensures.used_up c.give.ensures.drawn c.give.ensures.refused
+    refused_by c.give.result _ _ _ c.args.e (lacks_now c.args.entities.now c.args.storage.now c.args.e alive none) c.give.ensures.used_up c.give.ensures.drawn c.give.ensures.memory c.give.ensures.refused

@@ -7,7 +7,7 @@ use Rattle.storages.specs.Slot.{Takes}
 use Rattle.joins.specs.Draining.{slot, here, rest, gives}
 use Rattle.joins.specs.Taking.{TakenAt}
 use Rattle.joins.proofs.CallLemmas.{at_some, moved_over, one_longer}
-use Rattle.joins.proofs.TakeLemmas.{one_taken, gone_each, all_taken, taking_stopped, ahead_stays}
+use Rattle.joins.proofs.TakeLemmas.{one_taken, gone_each, all_taken, taking_stopped, taking_stands_here, ahead_stays}
 use Rattle.joins.proofs.cursors.drain.Drain.for_each.Goals as goal
 
 pub loop-id-preserved : goal.loop-id-preserved
@@ -52,6 +52,13 @@ pub returns-in-Err-clause-err : goal.returns-in-Err-clause-err
 returns-in-Err-clause-err g c =
     let inv = c.loop-id.invariant in
     taking_stopped _ _ _ inv.calls.0 _ c.in-Some._id _ _ _ _ _ (slot c.beside.new.self) _ inv.calls.1 c.in-Some.ensures.rest (c.in-Some-beside.ensures.slot ∙ c.in-Some.ensures.slot) inv.calls.2 c.in-Err.ensures.err
+
+pub returns-in-Err-clause-place : goal.returns-in-Err-clause-place
+returns-in-Err-clause-place g c =
+    let inv = c.loop-id.invariant in
+    let at : here c.item.new.self ≡ Some c.in-Some._id = c.in-Err.ensures.here ∙ c.in-Some-beside.ensures.here ∙ c.in-Some.ensures.here in
+    let left : rest c.item.new.self ≡ rest c.next.new.self = c.in-Err.ensures.rest ∙ c.in-Some-beside.ensures.rest in
+    taking_stands_here _ _ _ inv.calls.0 _ c.in-Some._id _ _ _ _ _ (slot c.beside.new.self) _ inv.calls.1 c.in-Some.ensures.rest (c.in-Some-beside.ensures.slot ∙ c.in-Some.ensures.slot) inv.calls.2 c.in-Err.ensures.err _ _ at left
 
 pub returns-clause-gone : goal.returns-clause-gone
 returns-clause-gone g c =

@@ -7,7 +7,7 @@ use Rattle.storages.specs.declared.event.ComponentEvent.TheVariants.{Modified}
 use Rattle.storages.specs.Slot.{Slot, Becomes, IsSame}
 use Rattle.storages.specs.Meaning.{HasRoom}
 use Rattle.joins.specs.Cursor.{slot, here, rest, gives}
-use Rattle.joins.proofs.CallLemmas.{at_some, moved_over, one_longer, room_less, one_more, all_done, called_here, stopped_here, becomes_each, kept, found, ahead_keeps}
+use Rattle.joins.proofs.CallLemmas.{at_some, moved_over, one_longer, room_less, one_more, all_done, called_here, stopped_here, stands_here, becomes_each, kept, found, ahead_keeps}
 use Rattle.joins.proofs.cursors.write_join.WriteJoin.for_each.Goals as goal
 
 pub loop-id-init : goal.loop-id-init
@@ -57,6 +57,16 @@ returns-in-Err-clause-err g c =
     let err : OnErr c.item.result (IsSame (slot c.beside.new.self) (slot c.item.follows.lender-at-none)) = h.same in
     let at_err : IsSame (slot c.beside.new.self) (slot c.item.follows.lender-at-none) = (rw c.in-Err.is at err) in
     stopped_here _ _ _ _ inv.calls.0 _ c.in-Some._id _ _ _ _ _ (slot c.beside.new.self) _ inv.calls.1 c.in-Some.ensures.rest (c.in-Some-beside.ensures.slot ∙ c.in-Some.ensures.slot) inv.calls.2 at_err
+
+pub returns-in-Err-clause-place : goal.returns-in-Err-clause-place
+returns-in-Err-clause-place g c =
+    let inv = c.loop-id.invariant in
+    let h = c.item.follows.holds-at-none in
+    let err : OnErr c.item.result (IsSame (slot c.beside.new.self) (slot c.item.follows.lender-at-none)) = h.same in
+    let at_err : IsSame (slot c.beside.new.self) (slot c.item.follows.lender-at-none) = (rw c.in-Err.is at err) in
+    let at : here c.item.follows.lender-at-none ≡ Some c.in-Some._id = h.stays.here ∙ c.in-Some-beside.ensures.here ∙ c.in-Some.ensures.here in
+    let left : rest c.item.follows.lender-at-none ≡ rest c.next.new.self = h.stays.rest ∙ c.in-Some-beside.ensures.rest in
+    stands_here _ _ _ _ inv.calls.0 _ c.in-Some._id _ _ _ _ _ (slot c.beside.new.self) _ inv.calls.1 c.in-Some.ensures.rest (c.in-Some-beside.ensures.slot ∙ c.in-Some.ensures.slot) inv.calls.2 at_err _ _ at left
 
 pub returns-in-Err-clause-succeeds : goal.returns-in-Err-clause-succeeds
 returns-in-Err-clause-succeeds g c room =

@@ -7,7 +7,7 @@ use Rattle.storages.specs.declared.event.ComponentEvent.TheVariants.{Modified}
 use Rattle.storages.specs.Slot.{Slot, Becomes, IsSame}
 use Rattle.storages.specs.Meaning.{HasRoom}
 use Rattle.joins.specs.Cursor.{slot, here, rest, gives}
-use Rattle.joins.proofs.CallLemmas.{at_some, moved_over, one_longer, one_more, all_done, called_here, stopped_here, becomes_each, refused_here, kept, found, ahead_keeps}
+use Rattle.joins.proofs.CallLemmas.{at_some, moved_over, one_longer, one_more, all_done, called_here, stopped_here, stands_here, becomes_each, refused_here, refused_stands_here, kept, found, ahead_keeps}
 use Rattle.joins.proofs.cursors.write_join.WriteJoin.try_for_each.Goals as goal
 
 pub loop-id-init : goal.loop-id-init
@@ -71,6 +71,36 @@ returns-in-Err-clause-memory g c e =
     let err : OnErr c.item.result (IsSame (slot c.beside.new.self) (slot c.item.follows.lender-at-none)) = h.same in
     let at_err : IsSame (slot c.beside.new.self) (slot c.item.follows.lender-at-none) = (rw c.in-Err.is at err) in
     stopped_here _ _ _ _ inv.calls.0 _ c.in-Some._id _ _ _ _ _ (slot c.beside.new.self) _ inv.calls.1 c.in-Some.ensures.rest (c.in-Some-beside.ensures.slot ∙ c.in-Some.ensures.slot) inv.calls.2 at_err
+
+pub returns-in-Err-f-clause-place : goal.returns-in-Err-f-clause-place
+returns-in-Err-f-clause-place g c e is =
+    let i = c.in-Some._id in
+    let w = c.f.new.arg2 in
+    let h = c.item.follows.holds w in
+    let next = c.in-Some.ensures in
+    let beside = c.in-Some-beside.ensures in
+    let at : here c.beside.new.self ≡ Some i = beside.here ∙ next.here in
+    let same : slot c.beside.new.self ≡ slot c.loop-id.self = beside.slot ∙ next.slot in
+    let ok : IsOk c.item.result = search rules in
+    let becomes = at_some (λ k. Becomes (slot c.beside.new.self) (slot (c.item.follows.lender w)) (map.insert (slot c.beside.new.self).map k w) (Modified k)) _ i at (h.becomes ok) in
+    let was = at_some (λ k. map.get (slot c.beside.new.self).map k ≡ Some c.in-Ok.component.now) _ i at c.in-Ok.ensures.value in
+    let given = at_some (λ k. gives c.next.new.self k c.in-Some-beside.item) _ i next.here beside.given in
+    let left : rest (c.item.follows.lender w) ≡ rest c.next.new.self = h.stays.rest ∙ beside.rest in
+    let inv = c.loop-id.invariant in
+    let done = inv.calls.0 in
+    let this : c.in-Err-f.e ≡ e = cc in
+    let at_end : here (c.item.follows.lender w) ≡ Some i = h.stays.here ∙ at in
+    refused_stands_here _ _ _ _ _ done _ i _ _ _ _ _ _ _ inv.calls.1 next.rest inv.calls.2 (Err c.in-Err-f.e) (ap Err this) (called_here _ _ (Err c.in-Err-f.e) i _ _ _ _ _ c.in-Ok.component c.in-Some-beside.item _ same was (inv.given i _ (next.gives i _ given)) c.in-Err-f.ensures becomes) _ _ at_end left
+
+pub returns-in-Err-clause-memory_place : goal.returns-in-Err-clause-memory_place
+returns-in-Err-clause-memory_place g c e =
+    let inv = c.loop-id.invariant in
+    let h = c.item.follows.holds-at-none in
+    let err : OnErr c.item.result (IsSame (slot c.beside.new.self) (slot c.item.follows.lender-at-none)) = h.same in
+    let at_err : IsSame (slot c.beside.new.self) (slot c.item.follows.lender-at-none) = (rw c.in-Err.is at err) in
+    let at : here c.item.follows.lender-at-none ≡ Some c.in-Some._id = h.stays.here ∙ c.in-Some-beside.ensures.here ∙ c.in-Some.ensures.here in
+    let left : rest c.item.follows.lender-at-none ≡ rest c.next.new.self = h.stays.rest ∙ c.in-Some-beside.ensures.rest in
+    stands_here _ _ _ _ inv.calls.0 _ c.in-Some._id _ _ _ _ _ (slot c.beside.new.self) _ inv.calls.1 c.in-Some.ensures.rest (c.in-Some-beside.ensures.slot ∙ c.in-Some.ensures.slot) inv.calls.2 at_err _ _ at left
 
 pub returns-clause-each : goal.returns-clause-each
 returns-clause-each g c q d =
