@@ -1,5 +1,5 @@
 //! A marker of the user's own, with what gives its ids: after the example of `Marker`.
-ghost use Rattle.std.specs.Prelude.{◌≡◌, ℕ, ◌+◌, ◌^◌, ◌≤◌, max, true, false, Some, None, Ok, Err, IfOk, IfErr, OnOk, OnErr, is_some, nat_eq, refl};
+ghost use Rattle.std.specs.Prelude.{◌≡◌, ℕ, ◌+◌, ◌^◌, ◌<◌, ◌≤◌, max, true, false, Some, None, Ok, Err, IfOk, IfErr, OnOk, OnErr, is_some, nat_eq, refl};
 ghost use Rattle.std.proofs.Common.{ap, sym};
 ghost use Rattle.std.specs.HashMap as hash;
 ghost use Rattle.entities.specs.Census.{population};
@@ -91,6 +91,7 @@ impl MarkerAllocator<NetMarker> for NetNode {
         ensures new { id ≡ None → IfOk result (λ m. m.id ≡ self.old.next) }
         ensures next { IfOk result (λ m. self.new.next ≡ max self.old.next (m.id + 1)) }
         ensures exhausted { result ≡ Err MarkError.IdsExhausted → (id ≡ None) × (2 ^ 64 ≤ self.old.next) }
+        ensures memory { id ≡ None → result ≡ Err MarkError.OutOfMemory → self.old.next < 2 ^ 64 }
         ensures others { IfErr result (λ e. (e ≡ MarkError.IdsExhausted → ⊥) → e ≡ MarkError.OutOfMemory) }
         ensures mapped { IfOk result (λ m. hash.get nat_eq self.new.mapping ≡ put_id nat_eq (hash.get nat_eq self.old.mapping) m.id entity) }
         ensures err { OnErr result (hash.get nat_eq self.new.mapping ≡ hash.get nat_eq self.old.mapping) }
@@ -154,6 +155,7 @@ impl MarkerAllocator<NetMarker> for NetNode {
         ensures err_next { OnErr result (self.new.next ≡ self.old.next) }
         ensures err_mapped { OnErr result (MayHaveGiven nat_eq (λ id. id ≡ self.old.next) entity (hash.get nat_eq self.old.mapping) (hash.get nat_eq self.new.mapping)) }
         ensures exhausted { result ≡ Err MarkError.IdsExhausted → 2 ^ 64 ≤ self.old.next }
+        ensures memory { result ≡ Err MarkError.OutOfMemory → self.old.next < 2 ^ 64 }
         ensures others { IfErr result (λ e. (e ≡ MarkError.IdsExhausted → ⊥) → e ≡ MarkError.OutOfMemory) }
         ensures refused { IfErr result IsOfIds }
         ensures takes { IfOk result (λ o. o ≡ Some true → TakesOne (numbers_from self.old.next) (numbers_from self.new.next)) }
