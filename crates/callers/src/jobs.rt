@@ -1,5 +1,5 @@
 //! Jobs of a user's: one that queues itself, one that queues an insertion, and one that makes an entity with a component.
-ghost use Rattle.std.specs.Prelude.{◌≡◌, ◌∷◌, [], ◌++◌, false, Some, IfOk, IfErr, OnOk, OnErr};
+ghost use Rattle.std.specs.Prelude.{◌≡◌, ◌∷◌, [], ◌++◌, true, false, Some, IfOk, IfErr, OnOk, OnErr};
 ghost use Rattle.entities.specs.declared.entity.Entity.{Entity as AnEntity};
 ghost use Rattle.entities.specs.Population.{born};
 ghost use Rattle.specs.specs.World.People.{Births};
@@ -162,6 +162,17 @@ pub fn queue<S: Storages, J: WorldJob<S>>(
     ensures err { OnErr result (world_state S.table S.ids world.new ≡ world_state S.table S.ids world.old) }
 {
     world.parts().lazy.exec(job)
+}
+
+/// A job more that is queued is one more that waits.
+pub fn one_more_waits<S: Storages, J: WorldJob<S>>(world: &mut World<S, J>, job: J) -> bool
+    ensures { result ≡ true }
+{
+    let before = world.waiting();
+    match world.parts().lazy.exec(job) {
+        Ok(()) => world.waiting() > before,
+        Err(_) => true,
+    }
 }
 
 // The value of an insertion.

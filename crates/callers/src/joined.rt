@@ -1,5 +1,5 @@
 //! Joins, walked and in threads.
-ghost use Rattle.std.specs.Prelude.{◌≡◌, ◌≤◌, ◌<◌, ◌+◌, ◌*◌, ◌&&◌, ℕ, Some, true, IfOk, OnOk, IsSome, length, min};
+ghost use Rattle.std.specs.Prelude.{◌≡◌, ◌≤◌, ◌<◌, ◌+◌, ◌*◌, ◌&&◌, ℕ, Some, true, IfOk, IfSome, OnOk, IsSome, length, min};
 ghost use Rattle.std.specs.Borrow.{Bor};
 ghost use Rattle.std.specs.FinMap as map;
 ghost use Rattle.std.specs.FinSet as set;
@@ -23,6 +23,17 @@ pub fn points_at(healths: &MaskedStorage<Health>, entities: &EntitiesRes, e: Ent
 {
     match healths.join().get(e, entities) {
         Some(health) => Some(health.points),
+        None => None,
+    }
+}
+
+/// What a walk over a set and a storage gives first is the health of the index.
+pub fn first_of_both(healths: &MaskedStorage<Health>, chosen: &BitSet) -> Option<(Index, Health)>
+    ensures { IfSome result (λ t. map.get healths.now.map t.0 ≡ Some t.1) }
+{
+    let mut walk = (chosen, healths).join();
+    match walk.next() {
+        Some((index, health)) => Some((index, *health)),
         None => None,
     }
 }
