@@ -18,25 +18,25 @@ REASONS = "| Workload | What the built code shows |"
 REASON = re.compile(r"^\| (`[a-z][\w+]*`(?:, `[a-z][\w+]*`)*) \| ")
 HEAD = re.compile(r"^\| Workload \| .* \| Rust, ns \|")
 GROUP = re.compile(r"^## (.+)$")
-MEASURED = re.compile(r"^\| ([A-Z]) \| (\d{4}-\d\d-\d\d) \|")
-LEFT, WIDTH, STEP, TOP = 380, 480, 18, 104
+MEASURED = re.compile(r"^\| ([A-Z]) \| (\d{4}-\d\d-\d\d) \| ([^|]*) \|")
+LEFT, WIDTH, STEP, TOP = 380, 480, 18, 120
 LEAST, MOST = 0.125, 8.0
 FASTER, SLOWER = "#2a7f62", "#b5482f"
 
 def groups(page):
-    """The groups of the page: each its title, the dates of its rows, and its rows of words and ratio. A row whose time is nothing has no ratio."""
-    found, days, in_table = [], {}, False
+    """The groups of the page: each its title, the days and machines of its rows, and its rows of words and ratio. A row whose time is nothing has no ratio."""
+    found, taken, in_table = [], {}, False
     for line in page.split("\n"):
         in_table = line.startswith("|") and (in_table or HEAD.match(line) is not None)
         if it := GROUP.match(line):
             found.append((it[1], [], []))
         elif it := MEASURED.match(line):
-            days[it[1]] = it[2]
+            taken[it[1]] = (it[2], it[3])
         elif it := ROW.match(line):
-            if it[3] not in days:
+            if it[3] not in taken:
                 raise SystemExit(f"docs/BENCHMARKS.md does not say what was taken {it[3]}: {line}")
             if float(it[2]) > 0:
-                found[-1][1].append(days[it[3]])
+                found[-1][1].append(taken[it[3]])
                 found[-1][2].append((it[1], float(it[2])))
         elif in_table and not HEAD.match(line) and not line.startswith("|-"):
             raise SystemExit(f"docs/BENCHMARKS.md has a row in another form: {line}")
@@ -64,15 +64,17 @@ def text(x, y, words, anchor="start", size=12, weight="normal", fill="black"):
     return f'<text x="{x:.1f}" y="{y:.1f}" font-size="{size}" font-weight="{weight}" text-anchor="{anchor}" fill="{fill}">{words}</text>'
 
 
-def head(rows):
-    """Title and legend."""
+def head(rows, taken):
+    """Title and legend, with the day and the machine, where all was taken at once."""
     mean = math.exp(sum(math.log(it) for it in rows) / len(rows))
     slower = sum(it > 1 for it in rows)
     told = [text(12, 24, "Time here over time of specs 0.17.0 in Rust, 100,000 entities", size=15, weight="bold")]
-    told.append(text(12, 44, f"Geometric mean of {len(rows)} workloads {mean:.2f}; {slower} are slower here. The scale doubles at each line. One machine of four processors a group, at its dates."))
+    told.append(text(12, 44, f"Geometric mean of {len(rows)} workloads {mean:.2f}; {slower} are slower here. The scale doubles at each line."))
+    when = f"Taken on {taken[0][0]}: {taken[0][1]}." if len(taken) == 1 else "Each group has the dates at which it was taken."
     told.append(text(12, 60, "The Rust side is specs' own sources over stand-ins for the crates that it rests on."))
-    told.append(f'<rect x="{LEFT + 60}" y="66" width="14" height="12" fill="{FASTER}"/>' + text(LEFT + 80, 76, "to the left: faster here"))
-    told.append(f'<rect x="{LEFT + 300}" y="66" width="14" height="12" fill="{SLOWER}"/>' + text(LEFT + 320, 76, "to the right: slower here"))
+    told.append(text(12, 76, when))
+    told.append(f'<rect x="{LEFT + 60}" y="82" width="14" height="12" fill="{FASTER}"/>' + text(LEFT + 80, 92, "to the left: faster here"))
+    told.append(f'<rect x="{LEFT + 300}" y="82" width="14" height="12" fill="{SLOWER}"/>' + text(LEFT + 320, 92, "to the right: slower here"))
     return told
 
 
@@ -89,14 +91,16 @@ def picture(found):
     lines = sum(len(rows) for _, _, rows in found) + 2 * len(found)
     wide, high = LEFT + WIDTH + 70, TOP + STEP * lines + 20
     told = [f'<svg xmlns="http://www.w3.org/2000/svg" width="{wide}" height="{high}" font-family="sans-serif">', f'<rect width="{wide}" height="{high}" fill="white"/>']
-    told += head([ratio for _, _, rows in found for _, ratio in rows])
+    all_taken = sorted({it for _, taken, _ in found for it in taken})
+    told += head([ratio for _, _, rows in found for _, ratio in rows], all_taken)
     for power in range(-3, 4):
         x = at(2.0**power)
         told.append(f'<line x1="{x:.1f}" y1="{TOP - 4}" x2="{x:.1f}" y2="{high - 16}" stroke="{"#444" if power == 0 else "#ddd"}"/>')
         told.append(text(x, TOP - 10, f"{2.0**power:g}", "middle"))
     y = TOP
-    for title, dates, rows in found:
-        told.append(text(12, y + 2 * STEP - 6, f"{title} ({', '.join(dict.fromkeys(sorted(dates)))})", size=13, weight="bold"))
+    for title, taken, rows in found:
+        days = sorted({day for day, _ in taken})
+        told.append(text(12, y + 2 * STEP - 6, title if len(all_taken) == 1 else f"{title} ({', '.join(days)})", size=13, weight="bold"))
         y += 2 * STEP
         for words, ratio in rows:
             told += bar(y, words, ratio)
