@@ -37,11 +37,11 @@ class Tree(unittest.TestCase):
             it.write(text)
         if runs:
             os.chmod(path, os.stat(path).st_mode | stat.S_IXUSR)
+        return path
 
     def read(self, path):
         with open(os.path.join(self.top, path), encoding="utf-8") as it:
             return it.read()
-        return path
 
     def take(self, *paths):
         for path in paths:
