@@ -4,7 +4,6 @@
     python3 tools/test_tools.py
 
 Run at the top of the repository; it takes seconds, and ends with status 1 if a test fails."""
-import hashlib
 import json
 import os
 import shutil
@@ -38,10 +37,6 @@ class Tree(unittest.TestCase):
         if runs:
             os.chmod(path, os.stat(path).st_mode | stat.S_IXUSR)
         return path
-
-    def read(self, path):
-        with open(os.path.join(self.top, path), encoding="utf-8") as it:
-            return it.read()
 
     def take(self, *paths):
         for path in paths:
@@ -251,7 +246,7 @@ class WrongBodies(Tree):
 
     def setUp(self):
         super().setUp()
-        self.take("tools/wrong_bodies.py", "tools/edits.py", "tools/verdicts.py", "tools/proved_modules.py", "tools/keep_libraries.py")
+        self.take("tools/wrong_bodies.py", "tools/edits.py", "tools/verdicts.py")
         self.write("crates.txt", "low: thiserror\n")
         self.write("crates/low/src/lib.rt", SOURCE)
         self.write("crates/low/wrong/two.edit", WRONG)
@@ -745,46 +740,6 @@ class Crate:
     def __init__(self, folder, root, known): self.folder = folder
     def stamp(self): return hashlib.sha256(open(f"{self.folder}/src/lib.rt", "rb").read()).hexdigest()
 """
-
-
-class ProvedModules(Tree):
-    """tools/proved_modules.py, over a stand-in for the kit, whose check keeps modules in a folder of that name."""
-
-    def setUp(self):
-        super().setUp()
-        self.take("tools/proved_modules.py", "tools/keep_libraries.py")
-        self.write("crates.txt", "low:\n")
-        self.write("crates/low/src/lib.rt", SOURCE)
-        self.write("bin/rtlib.py", KIT)
-        self.write("bin/rt", "#!/bin/sh\nmkdir -p out/incremental/of-this-build\n", runs=True)
-        library = "crates/low/out/rlib/low.rlib/toolchain"
-        self.write(f"{library}/checked.a", "..ONE...SECOND")
-        self.write(f"{library}/checked.json", '["low.one",2,3]\n["low.second",8,6]\n["sum/all",0,2]\n')
-        self.stamp(hashlib.sha256(SOURCE.encode()).hexdigest())
-
-    def stamp(self, text):
-        self.write("crates/low/out/rlib/stamp", text)
-
-    def put(self):
-        ran = self.run_in("python3", "-c", "import sys; sys.path.insert(0, 'tools'); import proved_modules; proved_modules.put('low', 'kept')")
-        self.accepts(ran)
-        folder = f"{self.top}/kept/of-this-build"
-        return {it: self.read(f"kept/of-this-build/{it}") for it in os.listdir(folder)} if os.path.isdir(folder) else None
-
-    def test_each_module_is_a_file(self):
-        self.assertEqual(self.put(), {"low.one.oantt": "ONE", "low.second.oantt": "SECOND"})
-
-    def test_a_library_of_other_sources(self):
-        self.stamp("of others")
-        self.assertIsNone(self.put())
-
-    def test_a_kit_that_keeps_no_modules(self):
-        self.write("bin/rt", "#!/bin/sh\n", runs=True)
-        self.assertIsNone(self.put())
-
-    def test_a_library_without_modules(self):
-        os.remove(f"{self.top}/crates/low/out/rlib/low.rlib/toolchain/checked.a")
-        self.assertIsNone(self.put())
 
 
 class KeptLibraries(Tree):

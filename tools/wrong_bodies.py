@@ -24,8 +24,8 @@ again. Each edit is judged by itself, and what a check of several did not show i
 
 First the libraries below the edited crates are built in the tree, lowest first, each once: what `rt ci` leaves of them may not serve another check, and each room
 would build them again. There are as many lanes as processors, or RT_JOBS. A lane takes the edits of one crate, of which there are most,
-makes a room for the crate (a copy of the tree, with what `rt ci` proved of the crate, tools/proved_modules.py), and makes one check after another there: in two rooms twice as many checks would read the libraries
-below. What a check proved and the next did not change is kept in the room. The verdicts come as they are found.
+makes a room for the crate (a copy of the tree), and makes one check after another there: in two rooms twice as many checks would read the libraries below. What a check proved and the next did not change is kept in the room. The
+verdicts come as they are found.
 
 What an edit showed is kept on this machine, by the checksum of all that decides it: the kit, these scripts, the edit but for its comments, and the files of its crate and
 of those below. So a later run tries what changed, and what stands above it, as `rt ci` proves it; --anew tries all.
@@ -46,7 +46,6 @@ import tempfile
 import threading
 import time
 
-import proved_modules
 from edits import applied, edits_of
 from verdicts import Said, answers_of, judge, without
 
@@ -198,20 +197,13 @@ def linked(old, new):
 
 
 def room_for(crate, top):
-    """A copy of the tree: its texts, what is built of the crates below this one, and what is kept of this one, or was proved of it."""
+    """A copy of the tree: its texts, what is built of the crates below this one, and what is kept of this one."""
     shutil.copytree(".", top, ignore=lambda at, names: [it for it in names if it in (".git", "out") and (at == "." or at.startswith("./crates"))], dirs_exist_ok=True)
     for name in below(crate):
         if os.path.isdir(f"crates/{name}/out/rlib"):
             shutil.copytree(f"crates/{name}/out/rlib", f"{top}/crates/{name}/out/rlib", copy_function=linked)
-    kept = f"{top}/crates/{crate}/out/incremental"
     if os.path.isdir(f"crates/{crate}/out/incremental"):
-        shutil.copytree(f"crates/{crate}/out/incremental", kept)
-    else:
-        try:
-            proved_modules.put(crate, kept)
-        except Exception as why:
-            print(f"wrong bodies: all of {crate} is proved once more: {why!r}", flush=True)
-            shutil.rmtree(kept, ignore_errors=True)
+        shutil.copytree(f"crates/{crate}/out/incremental", f"{top}/crates/{crate}/out/incremental")
 
 
 def next_wave(pending, most):
