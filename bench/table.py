@@ -100,7 +100,7 @@ def main(words):
     used = letters(lines) | {it.split("|")[1].strip() for it in lines if re.match(r"^\| [A-Z] \| \d{4}-", it)}
     letter = next(it for it in "ABCDEFGHIJKLMNOPQRSTUVWXYZ" if it not in used)
     rows = [with_figures(it, found, letter) for it in lines]
-    missing = sorted({*found[COUNTS[0]]} - {name for _, name in rows} - {it for it in found[COUNTS[0]] if it.startswith("p_")})
+    missing = sorted({*found[COUNTS[0]]} - {name for _, name in rows})
     with open(PAGE, "w", encoding="utf-8") as it:
         it.write("\n".join(with_taken([line for line, _ in rows], letter, rounds)))
     for it in missing:

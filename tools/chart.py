@@ -9,8 +9,8 @@ import math
 import re
 import sys
 
-# A workload: its name, what one operation is, the times of both, their ratio, that of 10,000 entities, the goal, and the letter of the measurement.
-ROW = re.compile(r"^\| [a-z]\w*(?:\+\w+)? \| ([^|]+) \| [\d.,]+ \| [\d.,]+ \| ([\d.]+) \| [^|]+ \| [^|]+ \| ([A-Z]) \|$")
+# A workload: its name, what one operation is, the times of both, their ratio, that of 10,000 entities, the goal, and the letter of the measurement. Those of an index (p_) are no part of the picture.
+ROW = re.compile(r"^\| (?!p_)[a-z]\w*(?:\+\w+)? \| ([^|]+) \| [\d.,]+ \| [\d.,]+ \| ([\d.]+) \| [^|]+ \| [^|]+ \| ([A-Z]) \|$")
 # A workload, its ratio with 100,000 entities and with 10,000, and the goals of both, or of the two as one.
 GOAL = re.compile(r"^\| ([a-z]\w*(?:\+\w+)?) \| [^|]+ \| [\d.,]+ \| [\d.,]+ \| ([\d.]+) \| ([\d.]+) \| ([\d.]+)(?:, ([\d.]+))? \| [A-Z] \|$")
 # The head of the table of reasons, and a row of it: the workloads, then why.
