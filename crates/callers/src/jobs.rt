@@ -61,7 +61,7 @@ pub struct Late<S: Held> {
     pub value: S::Value,
 }
 
-impl<S: Held> WorldJob<S> for Late<S> {
+impl<S: Held<Value: Drop>> WorldJob<S> for Late<S> {
     ghost use Rattle.std.specs.Prelude.{◌≡◌, [], ◌∷◌};
     ghost use Rattle.specs.specs.Laws.Lawful.{still_grows, still_lives};
     ghost use Rattle.specs.specs.declared.job.Job.TheVariants.{Insert};
@@ -194,6 +194,9 @@ pub fn queue_both<S: Held, J: Drop>(
     first: S::Value,
     second: S::Value,
 ) -> Result<(), (S::Value, S::Value, AllocError)>
+where
+    S::Slot: Drop,
+    S::Value: Drop,
     ensures ok { OnOk result (queued queue.new ≡ queued queue.old ++ Insert entity first ∷ Insert entity second ∷ []) }
     ensures first { IfErr result (λ r. r.0 ≡ first) }
     ensures second { IfErr result (λ r. r.1 ≡ second) }

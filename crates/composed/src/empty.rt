@@ -24,7 +24,7 @@ pub trait Empty: Held + Sized {
         ensures blank { IsBlank result };
 }
 
-impl<T: Component + Drop> Empty for Only<T> {
+impl<T: Component> Empty for Only<T> {
     ghost use Rattle.std.specs.Prelude.{⊤};
 
     ghost IsBlank = { λ s. ⊤ };

@@ -23,7 +23,10 @@ pub struct InRest<I> {
     of: PhantomData<I>,
 }
 
-impl<T: Component> Field<MaskedStorage<T>, Here> for Only<T> {
+impl<T: Component> Field<MaskedStorage<T>, Here> for Only<T>
+where
+    T::Storage: Drop,
+{
     ghost use Rattle.std.specs.Prelude.{Some, refl};
 
     ghost part = { λ s. s.field };
@@ -109,7 +112,10 @@ impl<T: Component, I, A, B: Field<MaskedStorage<T>, I>> Field<MaskedStorage<T>, 
     }
 }
 
-impl<T: Component + Drop> Has<T, Here> for Only<T> {
+impl<T: Component> Has<T, Here> for Only<T>
+where
+    T::Storage: Drop,
+{
     ghost use Rattle.composed.specs.declared.only.Sole.TheVariants.{Sole};
     ghost use Rattle.composed.specs.Places.{sees_only};
     ghost use Rattle.std.proofs.Common.{refl, inl};

@@ -8,15 +8,10 @@ use std::alloc::{AllocError, Global};
 use storages::{Component, MaskedStorage, MaybeTracked};
 
 /// One component type: its storage, or none where it is not registered.
+#[derive(Drop)]
 pub struct Only<T: Component> {
     /// The storage, or none where the component type is not registered.
     pub field: Option<MaskedStorage<T>>,
-}
-
-impl<T: Component> Drop for Only<T> {
-    fn drop(self) {
-        let Only { field: _field } = self;
-    }
 }
 
 /// The one slot of a struct of storages for one component type.
@@ -37,7 +32,7 @@ impl<T: Component> Only<T> {
     }
 }
 
-impl<T: Component + Drop> Held for Only<T> {
+impl<T: Component> Held for Only<T> {
     ghost use Rattle.std.specs.Prelude.{Some};
     ghost use Rattle.specs.specs.Typed.Field.{field_column};
     ghost use Rattle.specs.specs.Slots.Marks.{no_markers};

@@ -36,7 +36,7 @@ pub fn health<H, S: Has<Health, H>>(points: i64) -> S::Value {
 }
 
 /// The position that a value is.
-fn position_of<P, S: Has<Position, P>>(value: S::Value) -> Option<i64> {
+fn position_of<P, S: Storages + Has<Position, P>>(value: S::Value) -> Option<i64> {
     match component::<Position, S, _>(value) {
         Ok(Position(x)) => Some(x),
         Err(_) => None,

@@ -1,7 +1,7 @@
 //! Entities that move: two component types, a system over their storages, and a few steps.
 use crate::game::{Position, Stores, Velocity};
 use anyhow::Result;
-use composed::{Builder, Empty, Entity, ForEach, Has, MaskedStorage, TwoFields, World};
+use composed::{Builder, Empty, Entity, ForEach, Has, MaskedStorage, Storages, TwoFields, World};
 use std::alloc::{AllocError, Global};
 
 /// Moves each entity that has a velocity by one step.
@@ -91,7 +91,7 @@ fn walk<P, V, S: Has<Position, P> + Has<Velocity, V> + Moves>(
 
 /// What they lead to in a new world. It is a local here alone, where the type of its storages is not known: a function that owns storages of a
 /// known type is slow to prove.
-fn told<P, V, S: Empty + Has<Position, P> + Has<Velocity, V> + Moves + Drop>(
+fn told<P, V, S: Empty + Storages + Has<Position, P> + Has<Velocity, V> + Moves + Drop>(
     alloc: Global,
 ) -> Result<String> {
     let mut text = String::new(alloc);

@@ -16,7 +16,7 @@ const WAYS: [Velocity; 4] = [
 ];
 
 /// Queues a component of an entity.
-fn queue<T: Component, S: Has<T, I>, I>(
+fn queue<T: Component, S: Storages + Has<T, I>, I>(
     lazy: &mut LazyUpdate<S>,
     entity: Entity,
     component: T,
@@ -26,7 +26,7 @@ fn queue<T: Component, S: Has<T, I>, I>(
 }
 
 /// A bomb is marked, and fragments are born where it was. All wait for `maintain`.
-fn burst<P, V, S: Has<Position, P> + Has<Velocity, V>>(
+fn burst<P, V, S: Storages + Has<Position, P> + Has<Velocity, V>>(
     entities: &mut EntitiesRes,
     lazy: &mut LazyUpdate<S>,
     bomb: Entity,
@@ -42,7 +42,7 @@ fn burst<P, V, S: Has<Position, P> + Has<Velocity, V>>(
 }
 
 /// Each fuse burns by a step, and a bomb whose fuse is out bursts.
-fn burn<P, V, S: Has<Position, P> + Has<Velocity, V>>(
+fn burn<P, V, S: Storages + Has<Position, P> + Has<Velocity, V>>(
     entities: &mut EntitiesRes,
     fuses: &mut MaskedStorage<Fuse>,
     positions: &MaskedStorage<Position>,

@@ -137,7 +137,11 @@ impl Numbered for Place {
 }
 
 /// Entities, and storages of two components, and of one more for those that are chosen.
-pub struct World<A: Component, B: Component, C: Component> {
+pub struct World<
+    A: Component<Storage: Drop>,
+    B: Component<Storage: Drop>,
+    C: Component<Storage: Drop>,
+> {
     /// The entities.
     pub entities: EntitiesRes,
     /// A storage.
@@ -148,7 +152,8 @@ pub struct World<A: Component, B: Component, C: Component> {
     pub chosen: MaskedStorage<C>,
 }
 
-impl<A: Component, B: Component, C: Component> Drop for World<A, B, C> {
+impl<A: Component<Storage: Drop>, B: Component<Storage: Drop>, C: Component<Storage: Drop>> Drop
+    for World<A, B, C> {
     fn drop(self) {
         let World {
             entities: _entities,

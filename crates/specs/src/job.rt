@@ -39,25 +39,15 @@ pub enum Job<S: Held, J = NoJob> {
 
 /// The queue of a world's jobs, which `World::maintain` does from the front. Where memory is refused, a call hands back what it was given, and
 /// the queue is as before. Each call takes memory for the jobs that it queues alone. Ports `specs::LazyUpdate`.
+#[derive(Drop)]
 pub struct LazyUpdate<S: Held, J = NoJob> {
     jobs: VecDeque<Job<S, J>>,
 }
 
-impl<S: Held, J: Drop> Drop for LazyUpdate<S, J> {
-    fn drop(self) {
-        let LazyUpdate { jobs: _jobs } = self;
-    }
-}
-
 /// Jobs in order, made where no queue is at hand, to be appended to one.
+#[derive(Drop)]
 pub struct JobList<S: Held, J = NoJob> {
     jobs: VecDeque<Job<S, J>>,
-}
-
-impl<S: Held, J: Drop> Drop for JobList<S, J> {
-    fn drop(self) {
-        let JobList { jobs: _jobs } = self;
-    }
 }
 
 impl<S: Held, J: Drop> LazyUpdate<S, J> {
@@ -100,6 +90,18 @@ impl<S: Held, J: Drop> LazyUpdate<S, J> {
         self.jobs.reserve(1)
     }
 
+    // Puts a job at the end, where `make_room` got room for it.
+    #[inline(always)]
+    fn put(&mut self, job: Job<S, J>)
+        requires room { deque_len self.old.jobs < deque_capacity self.old.jobs }
+        ensures { queued self.new ≡ queued self.old ++ job ∷ [] }
+    {
+        match self.jobs.push_back(job) {
+            Ok(()) => {}
+            Err(_) => unreachable!(),
+        }
+    }
+
     /// Queues a job.
     #[tactic(auto, using(crate::proofs::Going::longer_by, crate::proofs::Going::no_longer))]
     pub fn push(&mut self, job: Job<S, J>) -> Result<(), AllocFailed<Job<S, J>>>
@@ -122,7 +124,7 @@ impl<S: Held, J: Drop> LazyUpdate<S, J> {
         if self.make_room().is_err() {
             return Err(AllocFailed { value });
         }
-        let _ = self.jobs.push_back(Job::Insert(e, value));
+        self.put(Job::Insert(e, value));
         Ok(())
     }
 
@@ -140,31 +142,35 @@ impl<S: Held, J: Drop> LazyUpdate<S, J> {
         if self.make_room().is_err() {
             return Err(AllocFailed { value: pairs });
         }
-        let _ = self.jobs.push_back(Job::InsertAll(pairs));
+        self.put(Job::InsertAll(pairs));
         Ok(())
     }
 
     /// Queues a removal. Ports `LazyUpdate::remove`.
     #[tactic(auto, using(crate::proofs::Going::longer_by, crate::proofs::Going::no_longer))]
     pub fn remove(&mut self, slot: S::Slot, e: Entity) -> Result<(), AllocError>
+    where
+        S::Slot: Drop,
         ensures ok { OnOk result (queued self.new ≡ queued self.old ++ Remove slot e ∷ []) }
         ensures err { OnErr result (queued self.new ≡ queued self.old) }
         ensures lengthens { Lengthens (queued self.old) (queued self.new) }
     {
         self.make_room()?;
-        let _ = self.jobs.push_back(Job::Remove(slot, e));
+        self.put(Job::Remove(slot, e));
         Ok(())
     }
 
     /// Queues a mark, in a slot of markers.
     #[tactic(auto, using(crate::proofs::Going::longer_by, crate::proofs::Going::no_longer))]
     pub fn mark(&mut self, slot: S::Slot, e: Entity) -> Result<(), AllocError>
+    where
+        S::Slot: Drop,
         ensures ok { OnOk result (queued self.new ≡ queued self.old ++ Mark slot e ∷ []) }
         ensures err { OnErr result (queued self.new ≡ queued self.old) }
         ensures lengthens { Lengthens (queued self.old) (queued self.new) }
     {
         self.make_room()?;
-        let _ = self.jobs.push_back(Job::Mark(slot, e));
+        self.put(Job::Mark(slot, e));
         Ok(())
     }
 
@@ -179,13 +185,16 @@ impl<S: Held, J: Drop> LazyUpdate<S, J> {
         if self.make_room().is_err() {
             return Err(AllocFailed { value: job });
         }
-        let _ = self.jobs.push_back(Job::Own(job));
+        self.put(Job::Own(job));
         Ok(())
     }
 
     /// Queues the jobs of a list, in their order. The empty list is not refused.
     #[tactic(auto, using(crate::proofs::Going::longer_by, crate::proofs::Going::no_longer))]
     pub fn append(&mut self, mut list: JobList<S, J>) -> Result<(), AllocFailed<JobList<S, J>>>
+    where
+        S::Slot: Drop,
+        S::Value: Drop,
         ensures ok { OnOk result (queued self.new ≡ queued self.old ++ listed list) }
         ensures back { IfErr result (λ r. listed r.value ≡ listed list) }
         ensures idle { listed list ≡ [] → IsOk result }

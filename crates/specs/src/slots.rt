@@ -22,10 +22,10 @@ use storages::{ComponentEvent, ReaderId};
 /// What a struct of storages holds, in the words of contracts. It has no function, so that a bound by it costs a proof next to nothing.
 pub trait Held {
     /// One value for each component type.
-    type Slot: Drop;
+    type Slot;
 
     /// One variant for each component type.
-    type Value: Drop;
+    type Value;
 
     /// The values of each slot with the channel of its events, or nothing where the slot is not registered.
     ghost table: { Self → Self.Slot → Option (Column Self.Value) };
@@ -41,7 +41,7 @@ pub trait Held {
 }
 
 /// A struct with a storage, or none, for each component type. A call touches the one slot that it names, and a refused call changes nothing.
-pub trait Storages: Held<Slot: Copy + Eq> {
+pub trait Storages: Held<Slot: Copy + Eq, Value: Drop> {
     /// For how many events a slot has room, and nothing where no event needs any.
     ghost room: { Self → Self.Slot → Option ℕ };
 

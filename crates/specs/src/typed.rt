@@ -56,6 +56,7 @@ impl<S: Held> Core<S> {
     pub fn register_with_storage<T: Component, I>(&mut self, storage: T::Storage)
     where
         S: Has<T, I>,
+        T::Storage: Drop,
         requires { (q : ℕ) → (T.Storage.meaning storage).is_free q ≡ true }
         ensures registers { OnTable (λ t t'. RegistersAs t S.the_slot (column_with (T.Storage.meaning storage)) t') (core_state S.table S.ids self.old) (core_state S.table S.ids self.new) }
         ensures living { KeepsLiving (core_state S.table S.ids self.old) (core_state S.table S.ids self.new) }

@@ -26,6 +26,7 @@ pub use core_parts::{Core, DeleteError, Parts};
 use std::alloc::{AllocError, Global};
 
 /// What a world lends: its entities with their components, and its queue of jobs.
+#[derive(Drop)]
 pub struct WorldParts<S: Held, J = NoJob> {
     /// Entities and storages.
     pub core: Core<S>,
@@ -33,29 +34,12 @@ pub struct WorldParts<S: Held, J = NoJob> {
     pub lazy: LazyUpdate<S, J>,
 }
 
-impl<S: Held + Drop, J: Drop> Drop for WorldParts<S, J> {
-    fn drop(self) {
-        let WorldParts {
-            core: _core,
-            lazy: _lazy,
-        } = self;
-    }
-}
-
 /// Entities, their components, and jobs that wait, those of the user's of type `J`. Ports `specs::World` with `specs::WorldExt`.
+#[derive(Drop)]
 pub struct World<S: Held, J = NoJob> {
     pub(crate) parts: WorldParts<S, J>,
     // A job that found no memory, which goes before the queue.
     pub(crate) kept: Option<Job<S, J>>,
-}
-
-impl<S: Held + Drop, J: Drop> Drop for World<S, J> {
-    fn drop(self) {
-        let World {
-            parts: _parts,
-            kept: _kept,
-        } = self;
-    }
 }
 
 impl<S: Held, J: Drop> World<S, J> {

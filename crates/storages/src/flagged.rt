@@ -53,7 +53,7 @@ impl<C, T: TryDefault> TryDefault for FlaggedStorage<C, T> {
     }
 }
 
-impl<C: Drop, T: Kind<C>> Kind<C> for FlaggedStorage<C, T> {
+impl<C, T: Kind<C>> Kind<C> for FlaggedStorage<C, T> {
     ghost use Rattle.storages.specs.Flagged.{flagged};
 
     ghost meaning = { λ s. flagged s.event_emission s.channel (T.meaning s.storage) };

@@ -29,7 +29,7 @@ pub trait TryDefault: Sized {
 }
 
 /// What the states of a storage mean. It has no functions, so that a type which names its storage alone brings none.
-pub trait Kind<T>: Drop {
+pub trait Kind<T> {
     // What a state means.
     ghost meaning: { Self → Meaning T };
 }
@@ -38,7 +38,7 @@ pub trait Kind<T>: Drop {
 /// a component, and calls accordingly: that is asked by condition and not tested.
 ///
 /// Ports `specs::storage::UnprotectedStorage`.
-pub trait UnprotectedStorage<T>: Kind<T> + TryDefault {
+pub trait UnprotectedStorage<T>: Kind<T> + TryDefault + Drop {
     /// Takes every component out, where `has` is the set of the indices that have one. A tracked storage emits one
     /// removal for each, ascending. After an error nothing has changed.
     fn clean(&mut self, has: &BitSet) -> Result<(), AllocError>

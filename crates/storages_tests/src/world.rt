@@ -10,14 +10,14 @@ use storages::{
 };
 
 /// Entities, and a storage of one component.
-pub struct World<T: Component> {
+pub struct World<T: Component<Storage: Drop>> {
     /// The entities.
     pub entities: EntitiesRes,
     /// The storage.
     pub masked: MaskedStorage<T>,
 }
 
-impl<T: Component> Drop for World<T> {
+impl<T: Component<Storage: Drop>> Drop for World<T> {
     fn drop(self) {
         let World {
             entities: _entities,
@@ -26,7 +26,7 @@ impl<T: Component> Drop for World<T> {
     }
 }
 
-impl<T: Component> World<T> {
+impl<T: Component<Storage: Drop>> World<T> {
     /// A view of the storage.
     pub fn view(&mut self) -> WriteStorage<'_, T> {
         WriteStorage::new(&self.entities, &mut self.masked)

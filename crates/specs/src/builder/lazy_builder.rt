@@ -243,7 +243,11 @@ impl<'a, S: Held, J: Drop> Builder<S> for LazyBuilder<'a, S, J> {
     }
 }
 
-impl<'a, S: Held, J: Drop> MarkedBuilder<S> for LazyBuilder<'a, S, J> {
+impl<'a, S: Held, J: Drop> MarkedBuilder<S> for LazyBuilder<'a, S, J>
+where
+    S::Slot: Drop,
+    S::Value: Drop,
+{
     type Refused = AllocFailed<Job<S, J>>;
 
     fn marked(self, slot: S::Slot) -> Result<Self, AllocFailed<Job<S, J>>>

@@ -143,6 +143,8 @@ pub fn register_with<T: Component, S: Has<T, I>, I>(
     alloc: Global,
     storage: T::Storage,
 )
+where
+    T::Storage: Drop,
     requires { (q : ℕ) → (T.Storage.meaning storage).is_free q ≡ true }
     ensures registers { RegistersAs (S.table storages.old) S.the_slot (column_with (T.Storage.meaning storage)) (S.table storages.new) }
     ensures slice { S.part storages.old ≡ None → IfSome (S.part storages.new) (λ w. (w.extent ≡ (T.Storage.meaning storage).extent) × (w.order ≡ (T.Storage.meaning storage).order)) }

@@ -33,7 +33,7 @@ impl<T> TryDefault for BTreeStorage<T> {
     }
 }
 
-impl<T: Drop> Kind<T> for BTreeStorage<T> {
+impl<T> Kind<T> for BTreeStorage<T> {
     ghost meaning = { λ s. meaning_of_tree s.map };
 }
 

@@ -36,7 +36,7 @@ impl<T> TryDefault for DefaultVecStorage<T> {
     }
 }
 
-impl<T: Drop> Kind<T> for DefaultVecStorage<T> {
+impl<T> Kind<T> for DefaultVecStorage<T> {
     ghost meaning = { λ s. meaning_of s.items.items };
 }
 

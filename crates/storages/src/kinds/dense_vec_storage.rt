@@ -79,7 +79,7 @@ impl<T> DenseVecStorage<T> {
     }
 }
 
-impl<T: Drop> Kind<T> for DenseVecStorage<T> {
+impl<T> Kind<T> for DenseVecStorage<T> {
     ghost use Rattle.storages.specs.DenseValues.{dense_meaning};
 
     ghost meaning = { λ s. dense_meaning s };

@@ -33,7 +33,7 @@ impl<T> TryDefault for HashMapStorage<T> {
     }
 }
 
-impl<T: Drop> Kind<T> for HashMapStorage<T> {
+impl<T> Kind<T> for HashMapStorage<T> {
     ghost meaning = { λ s. unordered (dense_meaning s.dense) };
 }
 

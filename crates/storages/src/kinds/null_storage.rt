@@ -38,7 +38,7 @@ impl<T: NullComponent> TryDefault for NullStorage<T> {
     }
 }
 
-impl<T: Drop> Kind<T> for NullStorage<T> {
+impl<T> Kind<T> for NullStorage<T> {
     ghost meaning = { λ s. meaning_of s.value };
 }
 

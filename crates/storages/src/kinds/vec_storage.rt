@@ -34,7 +34,7 @@ impl<T> TryDefault for VecStorage<T> {
     }
 }
 
-impl<T: Drop> Kind<T> for VecStorage<T> {
+impl<T> Kind<T> for VecStorage<T> {
     ghost meaning = { λ s. meaning_of s.items.items };
 }
 
