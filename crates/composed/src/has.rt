@@ -5,7 +5,7 @@ use crate::both::Both;
 use crate::either::Either;
 use crate::marking::Marking;
 use crate::only::{Only, Sole};
-use saveload::{Marker, MarkerAllocator};
+use saveload::IdSupply;
 use specs::{Field, Has, Held};
 use std::marker::PhantomData;
 use storages::{Component, MaskedStorage};
@@ -48,7 +48,10 @@ where
     }
 }
 
-impl<M: Marker, A> Field<MaskedStorage<M>, Here> for Marking<M, A> {
+impl<M: Component, A> Field<MaskedStorage<M>, Here> for Marking<M, A>
+where
+    M::Storage: Drop,
+{
     ghost use Rattle.std.specs.Prelude.{Some, refl};
 
     ghost part = { λ s. s.markers.field };
@@ -147,7 +150,10 @@ where
     ghost one_to_one = { λ t u same. same };
 }
 
-impl<M: Marker, A: MarkerAllocator<M>> Has<M, Here> for Marking<M, A> {
+impl<M: Component, A: IdSupply<M>> Has<M, Here> for Marking<M, A>
+where
+    M::Storage: Drop,
+{
     ghost use Rattle.composed.specs.declared.only.Sole.TheVariants.{Sole};
     ghost use Rattle.composed.specs.Places.{sees_only};
     ghost use Rattle.specs.specs.Typed.Field.{field_column};

@@ -97,6 +97,7 @@ pub use specs::HashMapStorage;
 pub use specs::Held;
 pub use specs::INDEX_LIMIT;
 pub use specs::INSERT;
+pub use specs::IdSupply;
 pub use specs::Index;
 pub use specs::IndexError;
 pub use specs::IndexedStorage;

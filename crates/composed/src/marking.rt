@@ -1,29 +1,21 @@
 //! A struct of storages for one type of markers, with what gives their ids.
 use crate::only::{Only, Sole};
 use hibits::BitSet;
-use saveload::{Marker, MarkerAllocator, SimpleMarker, SimpleMarkerAllocator};
+use saveload::{IdSupply, Marker, MarkerAllocator, SimpleMarker, SimpleMarkerAllocator};
 use specs::{
     ChannelCall, ChannelReply, CloneStorages, EntitiesRes, Entity, Held, MarkError, Refusal,
     Storages, field_marks,
 };
 use std::alloc::{AllocError, Global};
-use storages::MaybeTracked;
+use storages::{Component, MaybeTracked};
 
 /// One type of markers: their storage, or none where they are not registered, and what gives their ids, which outlives the markers.
-pub struct Marking<M: Marker, A> {
+#[derive(Drop)]
+pub struct Marking<M: Component, A> {
     /// The markers.
     pub markers: Only<M>,
     /// What gives their ids.
     pub allocator: A,
-}
-
-impl<M: Marker, A: Drop> Drop for Marking<M, A> {
-    fn drop(self) {
-        let Marking {
-            markers: _markers,
-            allocator: _allocator,
-        } = self;
-    }
 }
 
 impl<T> Marking<SimpleMarker<T>, SimpleMarkerAllocator<T>> {
@@ -43,7 +35,7 @@ impl<T> Marking<SimpleMarker<T>, SimpleMarkerAllocator<T>> {
     }
 }
 
-impl<M: Marker, A: MarkerAllocator<M>> Held for Marking<M, A> {
+impl<M: Component, A: IdSupply<M>> Held for Marking<M, A> {
     ghost use Rattle.std.specs.Prelude.{true};
     ghost use Rattle.specs.specs.Typed.Field.{field_column};
     ghost use Rattle.composed.specs.declared.only.Sole.TheVariants.{Sole};
@@ -56,7 +48,7 @@ impl<M: Marker, A: MarkerAllocator<M>> Held for Marking<M, A> {
 
     ghost place = { λ _. Sole };
 
-    ghost marks = { record { holds = λ _. true; comes = λ _ left m. A.ComesNext left (M.id_of m) } };
+    ghost marks = { record { holds = λ _. true; comes = λ _. A.ComesNext } };
 
     ghost ids = { λ s _. A.ids s.allocator };
 }

@@ -50,7 +50,7 @@ pub use laws::{loads_give_ids, next_number_is_new, nothing_is_lost, one_renaming
 pub use link::{Link, Relation};
 pub use load::{DeserializeComponents, deserialize};
 pub use mark_error::MarkError;
-pub use marker::{Marker, MarkerAllocator};
+pub use marker::{IdSupply, Marker, MarkerAllocator};
 pub use places::SerializeComponents;
 pub use save::{serialize, serialize_recursive};
 pub use save_text::serialize_to_json;

@@ -49,36 +49,33 @@ pub trait Marker: Component<Storage: UnprotectedStorage<Self>> + Clone + Drop + 
     ghost same_ids: { (a b : Self.Identifier) → IsTrue (Self.Identifier.eq a b) ↔ (a ≡ b) };
 }
 
+/// How many ids are left for new markers, and which of these markers comes next. It has no function, so that a bound by it costs a proof next to
+/// nothing.
+pub trait IdSupply<M> {
+    // How many new ids are left, and none where that can't be told: ids that are drawn may turn out to be taken.
+    ghost ids: { Self → Option ℕ };
+
+    // Which markers a new one may be while so many ids are left.
+    ghost ComesNext: { Option ℕ → M → Type 0 };
+}
+
 /// Gives ids to entities, and finds entities by ids. It is a finite map from ids to entities.
 ///
 /// Ports `specs::saveload::MarkerAllocator`.
-pub trait MarkerAllocator<M: Marker> {
+pub trait MarkerAllocator<M: Marker>: IdSupply<M> {
     // The entity that each id is mapped to.
     ghost mapping: { Self → M.Identifier → Option Entity };
 
     // Whether an id may be given as a new one.
     ghost MayBeNew: { Self → M.Identifier → Type 0 };
 
-    // Which ids a new one may be while so many are left.
-    ghost ComesNext: { Option ℕ → M.Identifier → Type 0 };
-
-    // How many new ids are left, and none where that can't be told: ids that are drawn may turn out to be taken.
-    ghost ids: { Self → Option ℕ };
-
     // How many are left once these ids were given from outside, one after another.
     ghost ids_past: { Self → List M.Identifier → Option ℕ };
-
-    ghost ids_now: { (a : Self) → ids_past a [] ≡ ids a };
-
-    ghost comes: { (a : Self) (id : M.Identifier) → MayBeNew a id → ComesNext (ids a) id };
 
     // The id that a new marker gets next, unless it is taken.
     ghost coming: { Self → M.Identifier };
 
     ghost new_is_coming: { (a : Self) (id : M.Identifier) → MayBeNew a id → id ≡ coming a };
-
-    // Where ids are drawn, a new one is mapped to nobody.
-    ghost unmapped: { (a : Self) (id : M.Identifier) → ids a ≡ None → MayBeNew a id → mapping a id ≡ None };
 
     /// A marker of the given id, or of a new one, which is then mapped to the entity. A refusal leaves the map; for a given id
     /// it is want of memory. Whether a new one is left is looked at before memory is asked for.
@@ -89,12 +86,12 @@ pub trait MarkerAllocator<M: Marker> {
         ensures err { OnErr result (mapping self.new ≡ mapping self.old) }
         ensures refused { IfErr result IsOfIds }
         ensures given_refused { (i : M.Identifier) → id ≡ Some i → IfErr result (λ e. e ≡ MarkError.OutOfMemory) }
-        ensures takes { id ≡ None → OnOk result (TakesOne (ids self.old) (ids self.new)) }
+        ensures takes { id ≡ None → OnOk result (TakesOne (Self.ids self.old) (Self.ids self.new)) }
         ensures passes { (i : M.Identifier) → id ≡ Some i → OnOk result (ids_past self.new ≡ once_given (ids_past self.old) i) }
         ensures err_ids { OnErr result (ids_past self.new ≡ ids_past self.old) }
-        ensures used_up { result ≡ Err MarkError.IdsExhausted → ids self.old ≡ Some 0 }
-        ensures memory { id ≡ None → result ≡ Err MarkError.OutOfMemory → ids self.old ≡ Some 0 → ⊥ }
-        ensures drawn { result ≡ Err MarkError.IdTaken → ids self.old ≡ None }
+        ensures used_up { result ≡ Err MarkError.IdsExhausted → Self.ids self.old ≡ Some 0 }
+        ensures memory { id ≡ None → result ≡ Err MarkError.OutOfMemory → Self.ids self.old ≡ Some 0 → ⊥ }
+        ensures drawn { result ≡ Err MarkError.IdTaken → Self.ids self.old ≡ None }
         ensures taken { result ≡ Err MarkError.IdTaken → is_some (mapping self.old (coming self.old)) ≡ true };
 
     /// The entity that an id is mapped to.
@@ -167,18 +164,25 @@ pub trait MarkerAllocator<M: Marker> {
         ensures old_self { IfOk result (λ o. (o ≡ Some true → ⊥) → self.new ≡ self.old) }
         ensures was { IfOk result (λ o. o ≡ Some false → is_some (found storage.old entity) ≡ true) }
         ensures new { IfOk result (λ o. o ≡ Some true → MarksNew M.id_of M.Identifier.eq (MayBeNew self.old) entity (mapping self.old) (mapping self.new) (slot storage.old) (slot storage.new)) }
-        ensures takes { IfOk result (λ o. o ≡ Some true → TakesOne (ids self.old) (ids self.new)) }
+        ensures takes { IfOk result (λ o. o ≡ Some true → TakesOne (Self.ids self.old) (Self.ids self.new)) }
         ensures alive { OnErr result (is_alive (population (entities_of storage.old)) entity ≡ true) }
         ensures unmarked { OnErr result (found storage.old entity ≡ None) }
         ensures err { OnErr result (IsSame (slot storage.old) (slot storage.new)) }
         ensures err_mapped { OnErr result (MayHaveGiven M.Identifier.eq (MayBeNew self.old) entity (mapping self.old) (mapping self.new)) }
-        ensures err_ids { OnErr result (ids self.new ≡ ids self.old) }
+        ensures err_ids { OnErr result (Self.ids self.new ≡ Self.ids self.old) }
         ensures err_past { OnErr result (ids_past self.new ≡ ids_past self.old) }
         ensures refused { IfErr result IsOfIds }
-        ensures used_up { result ≡ Err MarkError.IdsExhausted → ids self.old ≡ Some 0 }
-        ensures memory { result ≡ Err MarkError.OutOfMemory → ids self.old ≡ Some 0 → ⊥ }
-        ensures drawn { result ≡ Err MarkError.IdTaken → ids self.old ≡ None }
+        ensures used_up { result ≡ Err MarkError.IdsExhausted → Self.ids self.old ≡ Some 0 }
+        ensures memory { result ≡ Err MarkError.OutOfMemory → Self.ids self.old ≡ Some 0 → ⊥ }
+        ensures drawn { result ≡ Err MarkError.IdTaken → Self.ids self.old ≡ None }
         ensures taken { result ≡ Err MarkError.IdTaken → is_some (mapping self.old (coming self.old)) ≡ true };
+
+    ghost ids_now: { (a : Self) → ids_past a [] ≡ Self.ids a };
+
+    ghost comes: { (a : Self) (m : M) → MayBeNew a (M.id_of m) → Self.ComesNext (Self.ids a) m };
+
+    // Where ids are drawn, a new one is mapped to nobody.
+    ghost unmapped: { (a : Self) (id : M.Identifier) → Self.ids a ≡ None → MayBeNew a id → mapping a id ≡ None };
 }
 
 // Of the entity that an id is mapped to, if there is one, whether the id names it: it is alive and has a marker of this id.

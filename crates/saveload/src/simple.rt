@@ -10,7 +10,7 @@ ghost use Rattle.saveload.specs.Remapping.{living_ids};
 ghost use Rattle.saveload.specs.Numbers.{same_numbers};
 
 use crate::mark_error::MarkError;
-use crate::marker::{Marker, MarkerAllocator};
+use crate::marker::{IdSupply, Marker, MarkerAllocator};
 use crate::remapping::remapped;
 use entities::{EntitiesRes, Entity};
 use std::alloc::{AllocError, Global};
@@ -125,23 +125,27 @@ impl<T> SimpleMarkerAllocator<T> {
     }
 }
 
+impl<T> IdSupply<SimpleMarker<T>> for SimpleMarkerAllocator<T> {
+    ghost use Rattle.saveload.specs.Simple.{comes_next, numbers_from};
+
+    ghost ids = { λ a. numbers_from a.next };
+
+    ghost ComesNext = { λ left m. comes_next left m.id };
+}
+
 impl<T> MarkerAllocator<SimpleMarker<T>> for SimpleMarkerAllocator<T> {
     ghost use Rattle.std.proofs.Common.{ap, sym};
-    ghost use Rattle.saveload.specs.Simple.{comes_next, given, number_of_marker, numbers_are_counted, numbers_from, numbers_past};
+    ghost use Rattle.saveload.specs.Simple.{given, number_of_marker, numbers_are_counted, numbers_from, numbers_past};
 
     ghost mapping = { λ a. given a };
 
     ghost MayBeNew = { λ a id. id ≡ a.next };
 
-    ghost ids = { λ a. numbers_from a.next };
-
     ghost ids_past = { λ a. numbers_past a.next };
 
     ghost ids_now = { λ a. refl };
 
-    ghost ComesNext = { comes_next };
-
-    ghost comes = { λ a id e. ap numbers_from (sym e) };
+    ghost comes = { λ a m e. ap numbers_from (sym e) };
 
     ghost coming = { λ a. a.next };
 

@@ -11,7 +11,7 @@ ghost use Rattle.saveload.specs.Uuids.{same_uuids, same_bytes, drawn_from, after
 ghost use Rattle.std.specs.HashMap as hash;
 
 use crate::mark_error::MarkError;
-use crate::marker::{Marker, MarkerAllocator};
+use crate::marker::{IdSupply, Marker, MarkerAllocator};
 use crate::remapping::remapped;
 use entities::{EntitiesRes, Entity};
 use rand_core::Rng;
@@ -156,6 +156,12 @@ fn draw<R: Rng>(generator: &mut R, mapping: &HashMap<Uuid, Entity>) -> Result<Uu
     Ok(id)
 }
 
+impl<R> IdSupply<UuidMarker<R>> for UuidMarkerAllocator<R> {
+    ghost ids = { λ a. None };
+
+    ghost ComesNext = { λ left m. left ≡ None };
+}
+
 impl<R: Rng> MarkerAllocator<UuidMarker<R>> for UuidMarkerAllocator<R> {
     ghost use Rattle.saveload.specs.Uuids.{given_uuids, uuid_of_marker};
 
@@ -163,15 +169,11 @@ impl<R: Rng> MarkerAllocator<UuidMarker<R>> for UuidMarkerAllocator<R> {
 
     ghost MayBeNew = { λ a id. IsDrawn (given_uuids a) (R.stream a.generator) id };
 
-    ghost ids = { λ a. None };
-
     ghost ids_past = { λ a ids. None };
 
     ghost ids_now = { λ a. refl };
 
-    ghost ComesNext = { λ left id. left ≡ None };
-
-    ghost comes = { λ a id e. refl };
+    ghost comes = { λ a m e. refl };
 
     ghost coming = { λ a. drawn_from (R.stream a.generator) };
 

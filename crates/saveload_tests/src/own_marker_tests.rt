@@ -13,7 +13,7 @@ ghost use Rattle.storages.specs.WriteView.{slot, entities_of, found, storage_nam
 
 use crate::worlds::{Told, comes_true, count_of, empty, living};
 use entities::{EntitiesRes, Entity};
-use saveload::{MarkError, Marker, MarkerAllocator};
+use saveload::{IdSupply, MarkError, Marker, MarkerAllocator};
 use std::alloc::{AllocError, Global};
 use std::collections::HashMap;
 use std::test::Fail;
@@ -65,20 +65,22 @@ impl Drop for NetNode {
     }
 }
 
+impl IdSupply<NetMarker> for NetNode {
+    ghost ids = { λ a. numbers_from a.next };
+
+    ghost ComesNext = { λ left m. comes_next left m.id };
+}
+
 impl MarkerAllocator<NetMarker> for NetNode {
     ghost mapping = { λ a. hash.get nat_eq a.mapping };
 
     ghost MayBeNew = { λ a id. id ≡ a.next };
 
-    ghost ids = { λ a. numbers_from a.next };
-
     ghost ids_past = { λ a. numbers_past a.next };
 
     ghost ids_now = { λ a. refl };
 
-    ghost ComesNext = { comes_next };
-
-    ghost comes = { λ a id e. ap numbers_from (sym e) };
+    ghost comes = { λ a m e. ap numbers_from (sym e) };
 
     ghost coming = { λ a. a.next };
 

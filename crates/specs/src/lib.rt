@@ -104,6 +104,7 @@ pub use saveload::ConvertSaveload;
 pub use saveload::Datum;
 pub use saveload::DeserializeComponents;
 pub use saveload::EntityData;
+pub use saveload::IdSupply;
 pub use saveload::JsonData;
 pub use saveload::JsonFields;
 pub use saveload::JsonParts;

@@ -54,7 +54,7 @@ loop-i-preserved g c =
       (
         inv.8.0 ++ now.gives.0,
         now.gives.1 ∙ ap (λ (l : List Entity). l ++ now.gives.0) inv.8.1 ∙ append_assoc c.args.list.now.items inv.8.0 now.gives.0,
-        turns_then g.M.Marker.id_of g.M.Identifier.PartialEq.eq g.A.MarkerAllocator.MayBeNew g.A.MarkerAllocator.mapping g.A.MarkerAllocator.ids c.args.allocator.now c.loop-i.allocator c.mark_references.new.allocator (slot c.args.markers.now) (slot c.loop-i.markers) (slot c.mark_references.new.markers) inv.8.0 now.gives.0 inv.8.2 now.gives.2,
+        turns_then g.M.Marker.id_of g.M.Identifier.PartialEq.eq g.A.MarkerAllocator.MayBeNew g.A.MarkerAllocator.mapping g.A.IdSupply.ids c.args.allocator.now c.loop-i.allocator c.mark_references.new.allocator (slot c.args.markers.now) (slot c.loop-i.markers) (slot c.mark_references.new.markers) inv.8.0 now.gives.0 inv.8.2 now.gives.2,
       ),
     )
 
@@ -107,9 +107,9 @@ returns-in_err-references-clause-refused g c =
 pub returns-in_err-mark_references-clause-stops : goal.returns-in_err-mark_references-clause-stops
 returns-in_err-mark_references-clause-stops g c =
     let inv = c.loop-i.invariant in
-    on_err _ (turns_until g.M.Marker.id_of g.M.Identifier.PartialEq.eq g.A.MarkerAllocator.MayBeNew g.A.MarkerAllocator.mapping g.A.MarkerAllocator.ids c.args.allocator.now c.loop-i.allocator c.mark_references.new.allocator (slot c.args.markers.now) (slot c.loop-i.markers) (slot c.mark_references.new.markers) inv.8.0 inv.8.2 c.in_err-mark_references.ensures.stops)
+    on_err _ (turns_until g.M.Marker.id_of g.M.Identifier.PartialEq.eq g.A.MarkerAllocator.MayBeNew g.A.MarkerAllocator.mapping g.A.IdSupply.ids c.args.allocator.now c.loop-i.allocator c.mark_references.new.allocator (slot c.args.markers.now) (slot c.loop-i.markers) (slot c.mark_references.new.markers) inv.8.0 inv.8.2 c.in_err-mark_references.ensures.stops)
 
 pub returns-in_err-references-clause-stops : goal.returns-in_err-references-clause-stops
 returns-in_err-references-clause-stops g c =
     let inv = c.loop-i.invariant in
-    on_err _ (turns_end g.M.Marker.id_of g.M.Identifier.PartialEq.eq g.A.MarkerAllocator.MayBeNew g.A.MarkerAllocator.mapping g.A.MarkerAllocator.ids c.args.allocator.now c.loop-i.allocator (slot c.args.markers.now) (slot c.loop-i.markers) inv.8.0 inv.8.2)
+    on_err _ (turns_end g.M.Marker.id_of g.M.Identifier.PartialEq.eq g.A.MarkerAllocator.MayBeNew g.A.MarkerAllocator.mapping g.A.IdSupply.ids c.args.allocator.now c.loop-i.allocator (slot c.args.markers.now) (slot c.loop-i.markers) inv.8.0 inv.8.2)

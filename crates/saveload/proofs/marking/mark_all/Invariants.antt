@@ -16,7 +16,7 @@ invariant-loop-i g l = (storage_name l.markers ≡ storage_name l.fn.markers) ×
     × ((e : Entity) → Has l.list.items e → LeadsTo (λ e. g.P.SerializeComponents.conversion.references (g.P.SerializeComponents.values l.places e)) l.fn.list.items e)
     × ((e : Entity) → Has (take l.i l.list.items) e → AllNamed (λ x. found l.markers x) (g.P.SerializeComponents.conversion.references (g.P.SerializeComponents.values l.places e)))
     × MarksSome (population (entities_of l.fn.markers)) (IsMentioned (λ e. g.P.SerializeComponents.conversion.references (g.P.SerializeComponents.values l.places e)) l.fn.list.items) (slot l.fn.markers) (slot l.markers)
-    × ((added : List Entity) × (l.list.items ≡ l.fn.list.items ++ added) × MarksInTurn g.M.Marker.id_of g.M.Identifier.PartialEq.eq g.A.MarkerAllocator.MayBeNew g.A.MarkerAllocator.mapping g.A.MarkerAllocator.ids l.fn.allocator (slot l.fn.markers) added l.allocator (slot l.markers))
+    × ((added : List Entity) × (l.list.items ≡ l.fn.list.items ++ added) × MarksInTurn g.M.Marker.id_of g.M.Identifier.PartialEq.eq g.A.MarkerAllocator.MayBeNew g.A.MarkerAllocator.mapping g.A.IdSupply.ids l.fn.allocator (slot l.fn.markers) added l.allocator (slot l.markers))
 
 abbrev pub decreases-loop-i : goal.decreases-loop-i
 decreases-loop-i g l = 2 ^ 64 - l.i

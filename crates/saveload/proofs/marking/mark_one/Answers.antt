@@ -114,21 +114,21 @@ returns-in-Ok-Some-false-clause-gives g c =
 pub returns-then-is_err-clause-stops : goal.returns-then-is_err-clause-stops
 returns-then-is_err-clause-stops g c =
     let yes : c.in-Ok-Some-true.field-0 ≡ Some true = search rules in
-    turns_end g.M.Marker.id_of g.M.Identifier.PartialEq.eq g.A.MarkerAllocator.MayBeNew g.A.MarkerAllocator.mapping g.A.MarkerAllocator.ids c.args.allocator.now c.mark.new.self (slot c.args.markers.now) (slot c.mark.new.storage) (c.args.entity ∷ [])
+    turns_end g.M.Marker.id_of g.M.Identifier.PartialEq.eq g.A.MarkerAllocator.MayBeNew g.A.MarkerAllocator.mapping g.A.IdSupply.ids c.args.allocator.now c.mark.new.self (slot c.args.markers.now) (slot c.mark.new.storage) (c.args.entity ∷ [])
     (c.mark.new.self, slot c.mark.new.storage, c.in-Ok-Some-true.ensures.new yes, c.in-Ok-Some-true.ensures.takes yes, (refl, refl))
 
 pub returns-in-Ok-None-clause-stops : goal.returns-in-Ok-None-clause-stops
 returns-in-Ok-None-clause-stops g c =
     let no : c.in-Ok-None.field-0 ≡ None = search rules in
     let other = λ (e : c.in-Ok-None.field-0 ≡ Some true). none-some true (sym no ∙ e) in
-    turns_end g.M.Marker.id_of g.M.Identifier.PartialEq.eq g.A.MarkerAllocator.MayBeNew g.A.MarkerAllocator.mapping g.A.MarkerAllocator.ids c.args.allocator.now c.mark.new.self (slot c.args.markers.now) (slot c.mark.new.storage) []
+    turns_end g.M.Marker.id_of g.M.Identifier.PartialEq.eq g.A.MarkerAllocator.MayBeNew g.A.MarkerAllocator.mapping g.A.IdSupply.ids c.args.allocator.now c.mark.new.self (slot c.args.markers.now) (slot c.mark.new.storage) []
     (c.in-Ok-None.ensures.old_self other, (c.in-Ok-None.ensures.old other).0)
 
 pub returns-in-Err-IdsExhausted-clause-stops : goal.returns-in-Err-IdsExhausted-clause-stops
-returns-in-Err-IdsExhausted-clause-stops g c = refused_at_once g.M.Marker.id_of g.M.Identifier.PartialEq.eq g.A.MarkerAllocator.MayBeNew g.A.MarkerAllocator.mapping g.A.MarkerAllocator.ids c.args.allocator.now c.mark.new.self (slot c.args.markers.now) (slot c.mark.new.storage) c.args.entity c.in-Err-IdsExhausted.ensures.err c.in-Err-IdsExhausted.ensures.err_ids c.in-Err-IdsExhausted.ensures.err_mapped
+returns-in-Err-IdsExhausted-clause-stops g c = refused_at_once g.M.Marker.id_of g.M.Identifier.PartialEq.eq g.A.MarkerAllocator.MayBeNew g.A.MarkerAllocator.mapping g.A.IdSupply.ids c.args.allocator.now c.mark.new.self (slot c.args.markers.now) (slot c.mark.new.storage) c.args.entity c.in-Err-IdsExhausted.ensures.err c.in-Err-IdsExhausted.ensures.err_ids c.in-Err-IdsExhausted.ensures.err_mapped
 
 pub returns-in-Err-IdTaken-clause-stops : goal.returns-in-Err-IdTaken-clause-stops
-returns-in-Err-IdTaken-clause-stops g c = refused_at_once g.M.Marker.id_of g.M.Identifier.PartialEq.eq g.A.MarkerAllocator.MayBeNew g.A.MarkerAllocator.mapping g.A.MarkerAllocator.ids c.args.allocator.now c.mark.new.self (slot c.args.markers.now) (slot c.mark.new.storage) c.args.entity c.in-Err-IdTaken.ensures.err c.in-Err-IdTaken.ensures.err_ids c.in-Err-IdTaken.ensures.err_mapped
+returns-in-Err-IdTaken-clause-stops g c = refused_at_once g.M.Marker.id_of g.M.Identifier.PartialEq.eq g.A.MarkerAllocator.MayBeNew g.A.MarkerAllocator.mapping g.A.IdSupply.ids c.args.allocator.now c.mark.new.self (slot c.args.markers.now) (slot c.mark.new.storage) c.args.entity c.in-Err-IdTaken.ensures.err c.in-Err-IdTaken.ensures.err_ids c.in-Err-IdTaken.ensures.err_mapped
 
 pub returns-in-Err-clause-stops : goal.returns-in-Err-clause-stops
-returns-in-Err-clause-stops g c = refused_at_once g.M.Marker.id_of g.M.Identifier.PartialEq.eq g.A.MarkerAllocator.MayBeNew g.A.MarkerAllocator.mapping g.A.MarkerAllocator.ids c.args.allocator.now c.mark.new.self (slot c.args.markers.now) (slot c.mark.new.storage) c.args.entity c.in-Err.ensures.err c.in-Err.ensures.err_ids c.in-Err.ensures.err_mapped
+returns-in-Err-clause-stops g c = refused_at_once g.M.Marker.id_of g.M.Identifier.PartialEq.eq g.A.MarkerAllocator.MayBeNew g.A.MarkerAllocator.mapping g.A.IdSupply.ids c.args.allocator.now c.mark.new.self (slot c.args.markers.now) (slot c.mark.new.storage) c.args.entity c.in-Err.ensures.err c.in-Err.ensures.err_ids c.in-Err.ensures.err_mapped

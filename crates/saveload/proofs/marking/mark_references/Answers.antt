@@ -31,14 +31,14 @@ loop-x-preserved g c =
       (
         inv.6.0 ++ now.gives.0,
         now.gives.1 ∙ ap (λ (l : List Entity). l ++ now.gives.0) inv.6.1 ∙ append_assoc c.args.list.now.items inv.6.0 now.gives.0,
-        turns_then g.M.Marker.id_of g.M.Identifier.PartialEq.eq g.A.MarkerAllocator.MayBeNew g.A.MarkerAllocator.mapping g.A.MarkerAllocator.ids c.args.allocator.now c.loop-x.allocator c.mark_one.new.allocator (slot c.args.markers.now) (slot c.loop-x.markers) (slot c.mark_one.new.markers) inv.6.0 now.gives.0 inv.6.2 now.gives.2,
+        turns_then g.M.Marker.id_of g.M.Identifier.PartialEq.eq g.A.MarkerAllocator.MayBeNew g.A.MarkerAllocator.mapping g.A.IdSupply.ids c.args.allocator.now c.loop-x.allocator c.mark_one.new.allocator (slot c.args.markers.now) (slot c.loop-x.markers) (slot c.mark_one.new.markers) inv.6.0 now.gives.0 inv.6.2 now.gives.2,
       ),
     )
 
 pub returns-in_err-mark_one-clause-stops : goal.returns-in_err-mark_one-clause-stops
 returns-in_err-mark_one-clause-stops g c =
     let inv = c.loop-x.invariant in
-    on_err _ (turns_until g.M.Marker.id_of g.M.Identifier.PartialEq.eq g.A.MarkerAllocator.MayBeNew g.A.MarkerAllocator.mapping g.A.MarkerAllocator.ids c.args.allocator.now c.loop-x.allocator c.mark_one.new.allocator (slot c.args.markers.now) (slot c.loop-x.markers) (slot c.mark_one.new.markers) inv.6.0 inv.6.2 c.in_err-mark_one.ensures.stops)
+    on_err _ (turns_until g.M.Marker.id_of g.M.Identifier.PartialEq.eq g.A.MarkerAllocator.MayBeNew g.A.MarkerAllocator.mapping g.A.IdSupply.ids c.args.allocator.now c.loop-x.allocator c.mark_one.new.allocator (slot c.args.markers.now) (slot c.loop-x.markers) (slot c.mark_one.new.markers) inv.6.0 inv.6.2 c.in_err-mark_one.ensures.stops)
 
 pub returns-in_err-mark_one-clause-marks : goal.returns-in_err-mark_one-clause-marks
 returns-in_err-mark_one-clause-marks g c = marks_then (population (entities_of c.args.markers.now)) (population (entities_of c.loop-x.markers)) (Has c.args.references.now) _ (Has c.args.references.now) (slot c.args.markers.now) (slot c.loop-x.markers) (slot c.mark_one.new.markers) (ap population c.loop-x.invariant.1) (λ x h. h)

@@ -13,4 +13,4 @@ invariant-loop-x g l = (storage_name l.markers ≡ storage_name l.fn.markers) ×
     × HasMarked (slot l.fn.markers) (slot l.markers) (new_in (marked_in (slot l.fn.markers)) (take l.x-index l.references))
     × AllNamed (λ e. found l.markers e) (take l.x-index l.references)
     × MarksSome (population (entities_of l.fn.markers)) (Has l.references) (slot l.fn.markers) (slot l.markers)
-    × ((added : List Entity) × (l.list.items ≡ l.fn.list.items ++ added) × MarksInTurn g.M.Marker.id_of g.M.Identifier.PartialEq.eq g.A.MarkerAllocator.MayBeNew g.A.MarkerAllocator.mapping g.A.MarkerAllocator.ids l.fn.allocator (slot l.fn.markers) added l.allocator (slot l.markers))
+    × ((added : List Entity) × (l.list.items ≡ l.fn.list.items ++ added) × MarksInTurn g.M.Marker.id_of g.M.Identifier.PartialEq.eq g.A.MarkerAllocator.MayBeNew g.A.MarkerAllocator.mapping g.A.IdSupply.ids l.fn.allocator (slot l.fn.markers) added l.allocator (slot l.markers))

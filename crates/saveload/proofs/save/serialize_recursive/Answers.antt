@@ -45,7 +45,7 @@ returns-clause-ok g c =
       parts = parts;
       closed = subst (λ (l : List Entity). IsClosed (marked_in (slot c.args.markers.now)) (λ e. convert.references (values e)) l c.deref.result.now) begun (rw listed c.in_ok-mark_all.ensures.closed);
       marked = more.2;
-      given = subst (λ (l : List Entity). MarksInTurn g.M.Marker.id_of g.M.Identifier.PartialEq.eq g.A.MarkerAllocator.MayBeNew g.A.MarkerAllocator.mapping g.A.MarkerAllocator.ids c.args.allocator.now (slot c.args.markers.now) l c.mark_all.new.allocator (slot c.mark_all.new.markers)) (append_cancel_left c.in_ok-list.list.items gives.0 more.0 (sym gives.1 ∙ more.1)) gives.2;
+      given = subst (λ (l : List Entity). MarksInTurn g.M.Marker.id_of g.M.Identifier.PartialEq.eq g.A.MarkerAllocator.MayBeNew g.A.MarkerAllocator.mapping g.A.IdSupply.ids c.args.allocator.now (slot c.args.markers.now) l c.mark_all.new.allocator (slot c.mark_all.new.markers)) (append_cancel_left c.in_ok-list.list.items gives.0 more.0 (sym gives.1 ∙ more.1)) gives.2;
       saved = found_all rs.items h;
       holds = saved_holds convert (λ e. found_by c.mark_all.new.markers e) values c.deref.result.now rs.items (found_all rs.items h) (λ x k. subst (λ (l : List Entity). Has l x) (sym parts)
           (more_whole (entities_of c.args.markers.now) (entities_of c.mark_all.new.markers) (slot c.args.markers.now) (slot c.mark_all.new.markers) more.0 c.in_ok-mark_all.ensures.entities
@@ -115,9 +115,9 @@ returns-clause-refused g c =
     (subst (λ (l : List Entity). MarksThese (population (entities_of c.args.markers.now)) refs (all_marked (population (entities_of c.args.markers.now)) (slot c.args.markers.now)) (slot c.args.markers.now) (slot c.mark_all.new.markers) l) (sym c.deref.ensures.value) all)) c.save_list.ensures.refused
 
 pub returns-in_err-list-clause-stops : goal.returns-in_err-list-clause-stops
-returns-in_err-list-clause-stops g c = on_err _ (turns_end g.M.Marker.id_of g.M.Identifier.PartialEq.eq g.A.MarkerAllocator.MayBeNew g.A.MarkerAllocator.mapping g.A.MarkerAllocator.ids c.args.allocator.now c.args.allocator.now (slot c.args.markers.now) (slot c.args.markers.now) [] (refl, refl))
+returns-in_err-list-clause-stops g c = on_err _ (turns_end g.M.Marker.id_of g.M.Identifier.PartialEq.eq g.A.MarkerAllocator.MayBeNew g.A.MarkerAllocator.mapping g.A.IdSupply.ids c.args.allocator.now c.args.allocator.now (slot c.args.markers.now) (slot c.args.markers.now) [] (refl, refl))
 
 pub returns-clause-stops : goal.returns-clause-stops
 returns-clause-stops g c =
     let gives = c.in_ok-mark_all.ensures.gives in
-    on_err _ (turns_end g.M.Marker.id_of g.M.Identifier.PartialEq.eq g.A.MarkerAllocator.MayBeNew g.A.MarkerAllocator.mapping g.A.MarkerAllocator.ids c.args.allocator.now c.mark_all.new.allocator (slot c.args.markers.now) (slot c.mark_all.new.markers) gives.0 gives.2)
+    on_err _ (turns_end g.M.Marker.id_of g.M.Identifier.PartialEq.eq g.A.MarkerAllocator.MayBeNew g.A.MarkerAllocator.mapping g.A.IdSupply.ids c.args.allocator.now c.mark_all.new.allocator (slot c.args.markers.now) (slot c.mark_all.new.markers) gives.0 gives.2)
