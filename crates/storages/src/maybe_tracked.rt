@@ -15,11 +15,11 @@ use crate::kinds::{
 use crate::masked::MaskedStorage;
 use crate::reader_id::{ReaderId, UnknownReader};
 use crate::tracked::Tracked;
-use crate::unprotected::{Component, UnprotectedStorage};
+use crate::unprotected::{Component, Kind, UnprotectedStorage};
 use std::alloc::AllocError;
 
 /// How a storage of components `T` answers the calls of `Tracked`, whether it is tracked or not. Not in specs.
-pub trait ReaderCalls<T, S: UnprotectedStorage<T>> {
+pub trait ReaderCalls<T, S: Kind<T>> {
     /// Whether the storage is tracked.
     fn is_tracked(storage: &S) -> bool
         ensures { result ≡ (S.meaning storage.now).channel.tracked };
@@ -54,7 +54,7 @@ pub trait ReaderCalls<T, S: UnprotectedStorage<T>> {
 }
 
 /// A storage that tells of nothing. Not in specs.
-pub trait Silent<T>: UnprotectedStorage<T> {
+pub trait Silent<T>: Kind<T> {
     // Its channel is the one to which nobody listens.
     ghost quiet: { (s : Self) → (Self.meaning s).channel ≡ silent };
 }
