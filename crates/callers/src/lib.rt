@@ -95,6 +95,7 @@ pub use entries::taken;
 pub use entries::three_and_found;
 pub use identifiers::Drawn;
 pub use identifiers::identified;
+pub use identifiers::is_named_anew;
 pub use jobs::Again;
 pub use jobs::Late;
 pub use jobs::Spread;

@@ -14,10 +14,8 @@ impl Drawn {
 
     /// The next number, at least 0 and less than a limit.
     pub fn below(&mut self, limit: f64) -> f64 {
-        self.state = self
-            .state
-            .wrapping_mul(6364136223846793005)
-            .wrapping_add(1442695040888963407);
+        let times = self.state.wrapping_mul(6364136223846793005);
+        self.state = times.wrapping_add(1442695040888963407);
         let drawn = ((self.state >> 40) & 0xff_ffff) as u32;
         f64::from(drawn) * limit / f64::from(1u32 << 24)
     }

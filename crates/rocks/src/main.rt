@@ -8,8 +8,8 @@ mod turn;
 
 use anyhow::Result;
 use composed::{
-    Builder, Doing, Empty, Entity, Has, Link, Pass, SavedText, Shared, Storages, World,
-    in_threads_by, slot,
+    Builder, ComponentEvent, Doing, Empty, Entity, Has, Link, Pass, ReaderId, SavedText, Shared,
+    Storages, World, in_threads_by, slot,
 };
 use drawn::Drawn;
 use parts::{Cargo, Hunts, Label, Name, Position, Score, Stores, Velocity};
@@ -19,6 +19,14 @@ use std::env::{self, Env};
 use std::marker::PhantomData;
 use std::thread::Threads;
 use turn::{Deed, Plays, SIZE, Seen, pairs, swept};
+
+/// How many pairs were near in a turn, how many jobs were done, and how scores changed.
+#[derive(Drop)]
+struct Outcome {
+    near: usize,
+    jobs: u64,
+    events: Vec<ComponentEvent>,
+}
 
 /// A space, and what is told of it. Its storages are any that have each type at a place: the prover is faster with them than with known ones.
 #[derive(Drop)]
@@ -48,48 +56,45 @@ where
         rt: &(impl Threads + Alloc<A = Global> + Sync),
         asked: Option<(u32, u32)>,
     ) -> Result<String> {
+        let mut game = Self::new(rt.alloc())?;
         match asked {
-            Some((rocks, turns)) => Self::swarm(rt.alloc(), rocks, turns),
-            None => Self::story(rt),
+            Some((rocks, turns)) => game.swarm(rocks, turns)?,
+            None => game.story(rt)?,
         }
+        Ok(game.text)
     }
 
     /// The story of two ships, and how they come into another space.
-    fn story(rt: &(impl Threads + Alloc<A = Global> + Sync)) -> Result<String> {
-        let mut game = Self::new(rt.alloc())?;
-        game.begin()?;
-        game.play()?;
-        game.look_out(rt)?;
-        game.ending()?;
-        let mut other = Self::new(rt.alloc())?;
+    fn story(&mut self, rt: &(impl Threads + Sync)) -> Result<()> {
+        self.begin()?;
+        self.play()?;
+        self.look_out(rt)?;
+        self.ending()?;
+        let mut other = Self::new(self.alloc)?;
         other.space.create_entity()?.build();
-        let from = game.space.parts().core.parts();
-        let saved = S::carry(from, other.space.parts().core.parts(), game.alloc)?;
+        let from = self.space.parts().core.parts();
+        let saved = S::carry(from, other.space.parts().core.parts(), self.alloc)?;
         other.ending()?;
-        write!(game.text, "{saved}\n{}", other.text)?;
-        Ok(game.text)
+        Ok(write!(self.text, "{saved}\n{}", other.text)?)
     }
 
     /// How many were near, how many jobs were done, how many changes of scores were told, and how many live at the end.
-    fn swarm(alloc: Global, rocks: u32, turns: u32) -> Result<String> {
-        let mut game = Self::new(alloc)?;
-        let mut scores = game.space.write_storage::<Score, _>()?;
+    fn swarm(&mut self, rocks: u32, turns: u32) -> Result<()> {
+        let mut scores = self.space.write_storage::<Score, _>()?;
         let reader = scores.masked_mut().register_reader()?;
-        game.fill(rocks)?;
+        self.fill(rocks)?;
         let (mut near, mut jobs, mut told) = (0usize, 0u64, 0usize);
         for _ in 0..turns {
-            S::step(&mut game.space.parts().core)?;
-            near = near.saturating_add(game.meetings(3.0)?);
-            jobs = jobs.saturating_add(game.space.maintain(u64::MAX)?.ran);
-            let mut scores = game.space.write_storage::<Score, _>()?;
-            told = told.saturating_add(scores.masked_mut().read(&reader)?.len());
+            let turn = self.turn(3.0, &reader)?;
+            near = near.saturating_add(turn.near);
+            jobs = jobs.saturating_add(turn.jobs);
+            told = told.saturating_add(turn.events.len());
         }
-        let living = game.space.entities().alive().count();
-        writeln!(
-            game.text,
+        let living = self.space.entities().alive().count();
+        Ok(writeln!(
+            self.text,
             "{near} near, {jobs} jobs, {told} events, {living} live"
-        )?;
-        Ok(game.text)
+        )?)
     }
 
     /// So many rocks, and a ship for each hundred of them.
@@ -152,19 +157,33 @@ where
         Ok(())
     }
 
-    /// Three turns: all move, those that meet win or burst, and what waited is done.
+    /// Three turns.
     fn play(&mut self) -> Result<()> {
         let mut scores = self.space.write_storage::<Score, _>()?;
         let reader = scores.masked_mut().register_reader()?;
-        for turn in 1..=3 {
-            S::step(&mut self.space.parts().core)?;
-            let met = self.meetings(0.75)?;
-            let done = self.space.maintain(u64::MAX)?;
-            writeln!(self.text, "turn {turn}: {met} near, {} jobs", done.ran)?;
-            let mut scores = self.space.write_storage::<Score, _>()?;
-            for event in scores.masked_mut().read(&reader)? {
-                writeln!(self.text, "  {event:?}")?;
-            }
+        for number in 1..=3 {
+            let turn = self.turn(0.75, &reader)?;
+            self.tell(number, turn)?;
+        }
+        Ok(())
+    }
+
+    /// A turn: all move, those that are nearer than a distance meet and win or burst, and what waited is done.
+    fn turn(&mut self, distance: f64, reader: &ReaderId) -> Result<Outcome> {
+        S::step(&mut self.space.parts().core)?;
+        let near = self.meetings(distance)?;
+        let jobs = self.space.maintain(u64::MAX)?.ran;
+        let mut scores = self.space.write_storage::<Score, _>()?;
+        let events = scores.masked_mut().read(reader)?;
+        Ok(Outcome { near, jobs, events })
+    }
+
+    /// Tells what came of a turn.
+    fn tell(&mut self, number: u32, turn: Outcome) -> Result<()> {
+        let (near, jobs) = (turn.near, turn.jobs);
+        writeln!(self.text, "turn {number}: {near} near, {jobs} jobs")?;
+        for event in turn.events {
+            writeln!(self.text, "  {event:?}")?;
         }
         Ok(())
     }
@@ -246,17 +265,12 @@ where
 fn asked(rt: &(impl Env + Alloc<A = Global>)) -> Result<Option<(u32, u32)>> {
     let mut words = env::args(rt)?.skip(1);
     match (words.next(), words.next()) {
-        (Some(rocks), Some(turns)) => {
-            Ok(Some((rocks.as_str().parse()?, turns.as_str().parse()?)))
-        }
+        (Some(n), Some(m)) => Ok(Some((n.as_str().parse()?, m.as_str().parse()?))),
         _ => Ok(None),
     }
 }
 
 fn main(rt: HostRuntime) -> Result<()> {
-    let asked = asked(&rt)?;
-    Ok(print!(rt;
-        "{}",
-        Game::<Stores, _, _, _, _, _, _, _>::told(&rt, asked)?
-    )?)
+    let text = Game::<Stores, _, _, _, _, _, _, _>::told(&rt, asked(&rt)?)?;
+    Ok(print!(rt; "{text}")?)
 }
