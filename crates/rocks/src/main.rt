@@ -264,10 +264,10 @@ where
 /// How many rocks and turns the program's words ask for, if there are two of them.
 fn asked(rt: &(impl Env + Alloc<A = Global>)) -> Result<Option<(u32, u32)>> {
     let mut words = env::args(rt)?.skip(1);
-    match (words.next(), words.next()) {
-        (Some(n), Some(m)) => Ok(Some((n.as_str().parse()?, m.as_str().parse()?))),
-        _ => Ok(None),
-    }
+    let (Some(rocks), Some(turns)) = (words.next(), words.next()) else {
+        return Ok(None);
+    };
+    Ok(Some((rocks.as_str().parse()?, turns.as_str().parse()?)))
 }
 
 fn main(rt: HostRuntime) -> Result<()> {
