@@ -36,12 +36,12 @@ fn is_at_its_leader(
 
 /// One storage is written while another is read: an entity gets the place of its leader, and nothing but that place changes.
 pub fn gone_to_its_leader(storages: &mut Stores, e: Entity) -> Option<bool>
-    ensures moved { IfSome result (λ done. IsTrue done → IfSome storages.old.rest.rest.rest.field
-        (λ leaders. IfSome storages.old.first.first.field (λ before. IfSome storages.new.first.first.field
+    ensures moved { IfSome result (λ done. IsTrue done → IfSome storages.old.rest.rest.both.rest.field
+        (λ leaders. IfSome storages.old.first.both.first.field (λ before. IfSome storages.new.first.both.first.field
         (λ after. IfSome (map.get leaders.map (index_of e)) (λ l. IfSome (map.get before.map (index_of l.0)) (λ p. after.map ≡ map.insert before.map (index_of e) p)))))) }
-    ensures speeds { storages.new.first.rest ≡ storages.old.first.rest }
+    ensures speeds { storages.new.first.both.rest ≡ storages.old.first.both.rest }
     ensures rest { storages.new.rest ≡ storages.old.rest }
-    ensures none { IfNone result ((storages.old.first.first.field ≡ None) ⊎ (storages.old.rest.rest.rest.field ≡ None)) }
+    ensures none { IfNone result ((storages.old.first.both.first.field ≡ None) ⊎ (storages.old.rest.rest.both.rest.field ≡ None)) }
     ensures same { IfNone result (storages.new ≡ storages.old) }
 {
     storages.with_two(|places: &mut MaskedStorage<Place>, leaders: &mut MaskedStorage<Leader>| {
@@ -51,7 +51,7 @@ pub fn gone_to_its_leader(storages: &mut Stores, e: Entity) -> Option<bool>
 
 /// The same of each of a list, one after the other: nothing but places changes.
 pub fn all_gone_to_their_leaders(storages: &mut Stores, list: &[Entity]) -> Option<()>
-    ensures speeds { storages.new.first.rest ≡ storages.old.first.rest }
+    ensures speeds { storages.new.first.both.rest ≡ storages.old.first.both.rest }
     ensures rest { storages.new.rest ≡ storages.old.rest }
     ensures same { IfNone result (storages.new ≡ storages.old) }
 {
@@ -89,11 +89,11 @@ fn is_loaded(
 pub fn loaded_and_slower(storages: &mut Stores, e: Entity, load: Load, speed: Speed) -> Option<bool>
     ensures loads { IfSome result (λ done. IsTrue done → IfSome storages.old.rest.first.field
         (λ before. IfSome storages.new.rest.first.field (λ after. after.map ≡ map.insert before.map (index_of e) load))) }
-    ensures speeds { IfSome result (λ done. IsTrue done → IfSome storages.old.first.rest.field
-        (λ before. IfSome storages.new.first.rest.field (λ after. after.map ≡ map.insert before.map (index_of e) speed))) }
-    ensures places { storages.new.first.first ≡ storages.old.first.first }
+    ensures speeds { IfSome result (λ done. IsTrue done → IfSome storages.old.first.both.rest.field
+        (λ before. IfSome storages.new.first.both.rest.field (λ after. after.map ≡ map.insert before.map (index_of e) speed))) }
+    ensures places { storages.new.first.both.first ≡ storages.old.first.both.first }
     ensures rest { storages.new.rest.rest ≡ storages.old.rest.rest }
-    ensures none { IfNone result ((storages.old.rest.first.field ≡ None) ⊎ (storages.old.first.rest.field ≡ None)) }
+    ensures none { IfNone result ((storages.old.rest.first.field ≡ None) ⊎ (storages.old.first.both.rest.field ≡ None)) }
     ensures same { IfNone result (storages.new ≡ storages.old) }
 {
     storages.with_two(|loads: &mut MaskedStorage<Load>, speeds: &mut MaskedStorage<Speed>| {
@@ -124,12 +124,12 @@ fn is_living_at_its_leader(
 
 /// In a core, with its entities beside: an entity that is alive gets the place of its leader. Nobody is born or dies.
 pub fn led_in_core(core: &mut Core<Stores>, e: Entity) -> Option<bool>
-    ensures moved { IfSome result (λ done. IsTrue done → IfSome core.old.parts.storages.rest.rest.rest.field
-        (λ leaders. IfSome core.old.parts.storages.first.first.field
-        (λ before. IfSome core.new.parts.storages.first.first.field
+    ensures moved { IfSome result (λ done. IsTrue done → IfSome core.old.parts.storages.rest.rest.both.rest.field
+        (λ leaders. IfSome core.old.parts.storages.first.both.first.field
+        (λ before. IfSome core.new.parts.storages.first.both.first.field
         (λ after. IfSome (map.get leaders.map (index_of e)) (λ l. IfSome (map.get before.map (index_of l.0)) (λ p. after.map ≡ map.insert before.map (index_of e) p)))))) }
     ensures people { core.new.parts.entities ≡ core.old.parts.entities }
-    ensures speeds { core.new.parts.storages.first.rest ≡ core.old.parts.storages.first.rest }
+    ensures speeds { core.new.parts.storages.first.both.rest ≡ core.old.parts.storages.first.both.rest }
     ensures rest { core.new.parts.storages.rest ≡ core.old.parts.storages.rest }
     ensures same { IfNone result (core.new ≡ core.old) }
 {
@@ -169,9 +169,9 @@ fn is_loaded_somewhere(
 pub fn loaded_somewhere(storages: &mut Stores, e: Entity, load: Load, speed: Speed) -> Option<bool>
     ensures loads { IfSome result (λ done. IsTrue done → IfSome storages.old.rest.first.field
         (λ before. IfSome storages.new.rest.first.field (λ after. after.map ≡ map.insert before.map (index_of e) load))) }
-    ensures speeds { IfSome result (λ done. IsTrue done → IfSome storages.old.first.rest.field
-        (λ before. IfSome storages.new.first.rest.field (λ after. after.map ≡ map.insert before.map (index_of e) speed))) }
-    ensures places { storages.new.first.first ≡ storages.old.first.first }
+    ensures speeds { IfSome result (λ done. IsTrue done → IfSome storages.old.first.both.rest.field
+        (λ before. IfSome storages.new.first.both.rest.field (λ after. after.map ≡ map.insert before.map (index_of e) speed))) }
+    ensures places { storages.new.first.both.first ≡ storages.old.first.both.first }
     ensures rest { storages.new.rest.rest ≡ storages.old.rest.rest }
     ensures same { IfNone result (storages.new ≡ storages.old) }
 {
@@ -185,7 +185,7 @@ pub fn loaded_somewhere(storages: &mut Stores, e: Entity, load: Load, speed: Spe
 /// The same in a core, where the entity has to be alive.
 pub fn loaded_in_core(core: &mut Core<Stores>, e: Entity, load: Load, speed: Speed) -> Option<bool>
     ensures people { core.new.parts.entities ≡ core.old.parts.entities }
-    ensures places { core.new.parts.storages.first.first ≡ core.old.parts.storages.first.first }
+    ensures places { core.new.parts.storages.first.both.first ≡ core.old.parts.storages.first.both.first }
     ensures rest { core.new.parts.storages.rest.rest ≡ core.old.parts.storages.rest.rest }
     ensures same { IfNone result (core.new ≡ core.old) }
 {

@@ -6,6 +6,7 @@ ghost use Rattle.specs.specs.Laws.Reached.{HasNoValue};
 use crate::both::Both;
 use crate::marking::Marking;
 use crate::only::Only;
+use crate::pair::Pair;
 use saveload::{SimpleMarker, SimpleMarkerAllocator};
 use specs::Held;
 use std::alloc::Global;
@@ -60,7 +61,7 @@ impl<A: Empty, B: Empty> Empty for Both<A, B> {
 }
 
 /// Storages of two component types.
-pub type Of2<A, B> = Both<Only<A>, Only<B>>;
+pub type Of2<A, B> = Pair<A, B>;
 /// Storages of three component types.
 pub type Of3<A, B, C> = Both<Only<A>, Of2<B, C>>;
 /// Storages of four component types.
@@ -68,7 +69,7 @@ pub type Of4<A, B, C, D> = Both<Of2<A, B>, Of2<C, D>>;
 /// Storages of five component types.
 pub type Of5<A, B, C, D, E> = Both<Of2<A, B>, Of3<C, D, E>>;
 /// Storages of six component types.
-pub type Of6<A, B, C, D, E, F> = Both<Of3<A, B, C>, Of3<D, E, F>>;
+pub type Of6<A, B, C, D, E, F> = Both<Of2<A, B>, Of4<C, D, E, F>>;
 /// Storages of seven component types.
 pub type Of7<A, B, C, D, E, F, G> = Both<Of3<A, B, C>, Of4<D, E, F, G>>;
 /// Storages of eight component types. For more, `Both` takes any two of these.

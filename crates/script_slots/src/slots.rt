@@ -32,11 +32,11 @@ pub type Value = <Slots as Held>::Value;
 /// `vel`: whole numbers, in a dense vector.
 pub const VEL: Slot = Either::First(Either::First(Either::First(Sole::Sole)));
 /// `def`: whole numbers, in a vector with defaults.
-pub const DEF: Slot = Either::First(Either::First(Either::Rest(Either::First(Sole::Sole))));
+pub const DEF: Slot = Either::First(Either::First(Either::Rest(Sole::Sole)));
 /// `map`: whole numbers, in a hash map.
-pub const MAP: Slot = Either::First(Either::First(Either::Rest(Either::Rest(Sole::Sole))));
+pub const MAP: Slot = Either::First(Either::Rest(Either::First(Either::First(Sole::Sole))));
 /// `tree`: whole numbers, in a tree.
-pub const TREE: Slot = Either::First(Either::Rest(Either::First(Sole::Sole)));
+pub const TREE: Slot = Either::First(Either::Rest(Either::First(Either::Rest(Sole::Sole))));
 /// `tag`: no data.
 pub const TAG: Slot = Either::First(Either::Rest(Either::Rest(Either::First(Sole::Sole))));
 /// `hp`: whole numbers, in a dense vector whose changes are told.
