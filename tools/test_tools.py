@@ -380,6 +380,25 @@ class WrongBodies(Tree):
         self.assertIn("wrong body low/three: refused", ran.stdout)
         self.assertIn("1 passed, 0 failed", ran.stdout)
 
+    def test_a_quarter_of_what_no_promise_names(self):
+        for number in range(4):
+            self.write(f"crates/low/wrong/other{number}.edit", WRONG)
+        ran = self.within("600")
+        self.accepts(ran)
+        self.assertIn("wrong body low/three: refused", ran.stdout)
+        self.assertIn("3 of 6 wrong bodies and right variants have their turn with another commit", ran.stdout)
+        self.assertIn("3 passed, 0 failed", ran.stdout)
+
+    def test_another_quarter_with_another_commit(self):
+        for number in range(8):
+            self.write(f"crates/low/wrong/other{number}.edit", WRONG)
+        drawn = set()
+        for text in "abcdefgh":
+            self.write("again", text)
+            drawn.add(frozenset(it for it in self.within("600").stdout.split("\n") if it.startswith("wrong body")))
+            shutil.rmtree(f"{self.top}/cache")
+        self.assertGreater(len(drawn), 1)
+
     def test_what_a_promise_names_where_time_is_over(self):
         self.refuses(self.within("0", said="fn low::one: proved"), "three: NOT REFUSED")
 

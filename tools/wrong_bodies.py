@@ -30,8 +30,8 @@ verdicts come as they are found.
 What an edit showed is kept on this machine, by the checksum of all that decides it: the kit, these scripts, the edit but for its comments, and the files of its crate and
 of those below. So a later run tries what changed, and what stands above it, as `rt ci` proves it; --anew tries all.
 
-With --within, as the gate calls it, those that docs/PROMISES.md names beside a promise come first, with the right variants of their functions, and are tried whatever it takes. Of the others no
-check begins after so many seconds; what is left then is told, and counts neither as passed nor as failed. Which of them come first the last commit decides, so that each has its turn.
+With --within, as the gate calls it, those that docs/PROMISES.md names beside a promise come first, with the right variants of their functions, and are tried whatever it takes. Of the others of each
+crate a quarter is tried, which the last commit draws, so that each has its turn; of these no check begins after so many seconds. How many are not tried is told, and they count neither as passed nor as failed.
 
 Run at the top of the repository; --alone tries each edit alone, --explain only tells which goals each leaves open, for writing its lines 'clause:', and --list
 only reads the edits. It fails where there is no edit, or another file among them."""
@@ -52,6 +52,8 @@ from verdicts import Said, answers_of, judge, without
 MOST = 100
 # where time may run out, so that no check takes long
 MOST_WITHIN = 40
+# of those that no promise names, one in so many is tried for a commit
+TURNS = 4
 ROUNDS = 3
 
 
@@ -282,7 +284,7 @@ def lane(work, most, tell, until):
     while share := work.share():
         crate, edits, may_wait = share
         try:
-            left += tried(work.room(crate), edits, most, tell, until if may_wait else None)
+            left += tried(work.room(crate), edits, MOST_WITHIN if may_wait else most, tell, until if may_wait else None)
         finally:
             work.end(crate)
     return left
@@ -323,17 +325,19 @@ def named_beside_promises():
 
 
 def parted(found):
-    """The edits that are tried whatever it takes, and the others, by crate: first by the last commit, so that each has its turn."""
-    names, first, later = named_beside_promises(), {}, {}
+    """The edits that are tried whatever it takes, and those whose turn it is with the last commit, by crate; and how many others there are."""
+    names, first, later, others = named_beside_promises(), {}, {}, 0
     commit = subprocess.run(["git", "rev-parse", "HEAD"], stdout=subprocess.PIPE, check=True).stdout
     for crate, edits in found.items():
         functions = {it.function for it in edits if it.name in names}
         parts = [[it for it in edits if (it.function in functions if it.is_right else it.name in names) == chief] for chief in (True, False)]
         parts[1].sort(key=lambda it: hashlib.sha256(commit + it.name.encode()).digest())
-        for part, into in zip(parts, (first, later)):
+        turn = -(-len(parts[1]) // TURNS)
+        others += len(parts[1]) - turn
+        for part, into in ((parts[0], first), (parts[1][:turn], later)):
             if part:
                 into[crate] = part
-    return first, later
+    return first, later, others
 
 
 def in_lanes(found, later, most, tell, until):
@@ -373,10 +377,14 @@ def main(words):
     if how in ("", "--within"):
         found = not_kept(found, verdicts)
     build_below(found)
-    found, later = parted(found) if how == "--within" else (found, {})
-    left = in_lanes(found, later, 1 if how == "--alone" else MOST if until is None else MOST_WITHIN, tell, until)
+    found, later, others = parted(found) if how == "--within" else (found, {}, 0)
+    left = in_lanes(found, later, 1 if how == "--alone" else MOST, tell, until)
+    total = len(verdicts) + len(left) + others
+    if others:
+        print(f"{others} of {total} wrong bodies and right variants have their turn with another commit")
     if left:
-        print(f"{len(left)} of {len(left) + len(verdicts)} wrong bodies and right variants were not tried, for want of time: {', '.join(sorted(it.name for it in left))}")
+        print(f"{len(left)} of {total} wrong bodies and right variants were not tried, for want of time: {', '.join(sorted(it.name for it in left))}")
+    if others or left:
         print("python3 tools/wrong_bodies.py tries all")
     passed = sum(verdicts)
     print(f"{passed} passed, {len(verdicts) - passed} failed")
