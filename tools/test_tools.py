@@ -389,6 +389,21 @@ class WrongBodies(Tree):
         self.assertIn("3 of 6 wrong bodies and right variants have their turn with another commit", ran.stdout)
         self.assertIn("3 passed, 0 failed", ran.stdout)
 
+    def test_those_and_a_quarter_together_where_time_is_ample(self):
+        both = f"{self.OPEN}\n{self.OPEN.replace('low::one', 'low::other::one')}"
+        self.write("crates/low/src/other.rt", SOURCE)
+        self.write("crates/low/wrong/two.edit", WRONG.replace("src/lib.rt", "src/other.rt").replace("fn: one", "fn: other::one"))
+        self.write("bin/rt", f"#!/bin/sh\n[ \"$1\" = check ] || {{ echo rattle; exit 0; }}\necho check >>{self.top}/checks\ncat {self.top}/said/wrong\n", runs=True)
+        for seconds, checks in (("600", 2), ("7200", 1)):
+            self.write("again", seconds)
+            ran = self.within(seconds, said=both)
+            self.accepts(ran)
+            self.assertIn("2 passed, 0 failed", ran.stdout)
+            with open(f"{self.top}/checks", encoding="utf-8") as it:
+                self.assertEqual(len(it.readlines()), checks)
+            os.remove(f"{self.top}/checks")
+            shutil.rmtree(f"{self.top}/cache")
+
     def test_another_quarter_with_another_commit(self):
         for number in range(8):
             self.write(f"crates/low/wrong/other{number}.edit", WRONG)

@@ -31,7 +31,8 @@ What an edit showed is kept on this machine, by the checksum of all that decides
 of those below. So a later run tries what changed, and what stands above it, as `rt ci` proves it; --anew tries all.
 
 With --within, as the gate calls it, those that docs/PROMISES.md names beside a promise come first, with the right variants of their functions, and are tried whatever it takes. Of the others of each
-crate a quarter is tried, which the last commit draws, so that each has its turn; of these no check begins after so many seconds. How many are not tried is told, and they count neither as passed nor as failed.
+crate a quarter is tried, which the last commit draws, so that each has its turn; of these no check begins after so many seconds. Where that is an hour or more they are tried together with the first, in fewer
+checks. How many are not tried is told, and they count neither as passed nor as failed.
 
 Run at the top of the repository; --alone tries each edit alone, --explain only tells which goals each leaves open, for writing its lines 'clause:', and --list
 only reads the edits. It fails where there is no edit, or another file among them."""
@@ -54,6 +55,8 @@ MOST = 100
 MOST_WITHIN = 40
 # of those that no promise names, one in so many is tried for a commit
 TURNS = 4
+# so many seconds are time for all
+AMPLE = 3600
 ROUNDS = 3
 
 
@@ -220,13 +223,15 @@ def next_wave(pending, most):
     return wave
 
 
-def tried(room, edits, most, tell, until=None):
-    """Tries edits of one crate, a wave in each check, until each is judged for good, or the time is over, and gives those that are left then. What a wave did not show is tried
+def tried(room, edits, most, tell, until=None, may_wait=()):
+    """Tries edits of one crate, a wave in each check, until each is judged for good, but where the time is over gives those that may wait. What a wave did not show is tried
     again alone; a wave of which the check looked at no function, in halves."""
-    pending = [Trial(it) for it in edits]
+    pending, left = [Trial(it) for it in edits], []
     while pending:
         if until is not None and time.monotonic() > until:
-            return [it.edit for it in pending]
+            left = [it.edit for it in pending if it.edit in may_wait]
+            pending, until = [it for it in pending if it.edit not in may_wait], None
+            continue
         wave = next_wave(pending, most)
         pending = [it for it in pending if it not in wave]
         crate, out = wave[0].edit.crate, {it.edit.function: it.out for it in wave if it.out}
@@ -243,15 +248,16 @@ def tried(room, edits, most, tell, until=None):
                 tell(it)
             else:
                 tried(room, [it.edit], 1, tell)
-    return []
+    return left
 
 
 class Work:
-    """The shares of edits that no lane has taken yet, each of one crate: first those that are tried whatever it takes, and of each kind first what takes longest.
+    """The shares of edits that no lane has taken yet, each of one crate, with how many one check takes: first those of the first part, and of each part first what takes longest.
     A crate has one room, a folder below the given one, in which one lane works at a time."""
 
-    def __init__(self, found, later, below):
-        self.shares = [(crate, edits, may_wait) for part, may_wait in ((later, True), (found, False)) for crate, edits in sorted(part.items(), key=lambda it: len(it[1]))]
+    def __init__(self, first, later, most, below):
+        parts = (later, min(most, MOST_WITHIN)), (first, most)
+        self.shares = [(crate, edits, count) for part, count in parts for crate, edits in sorted(part.items(), key=lambda it: len(it[1]))]
         self.below, self.busy, self.free = below, set(), threading.Condition()
 
     def share(self):
@@ -278,13 +284,13 @@ class Work:
         return top
 
 
-def lane(work, most, tell, until):
+def lane(work, tell, until, may_wait):
     """Tries one share after another, until none is left, and gives the edits for which there was no time."""
     left = []
     while share := work.share():
-        crate, edits, may_wait = share
+        crate, edits, most = share
         try:
-            left += tried(work.room(crate), edits, MOST_WITHIN if may_wait else most, tell, until if may_wait else None)
+            left += tried(work.room(crate), edits, most, tell, until, may_wait)
         finally:
             work.end(crate)
     return left
@@ -325,27 +331,30 @@ def named_beside_promises():
 
 
 def parted(found):
-    """The edits that are tried whatever it takes, and those whose turn it is with the last commit, by crate; and how many others there are."""
-    names, first, later, others = named_beside_promises(), {}, {}, 0
+    """The edits that are tried whatever it takes, by crate, those whose turn it is with the last commit, and how many others there are."""
+    names, first, turn, others = named_beside_promises(), {}, {}, 0
     commit = subprocess.run(["git", "rev-parse", "HEAD"], stdout=subprocess.PIPE, check=True).stdout
     for crate, edits in found.items():
         functions = {it.function for it in edits if it.name in names}
         parts = [[it for it in edits if (it.function in functions if it.is_right else it.name in names) == chief] for chief in (True, False)]
         parts[1].sort(key=lambda it: hashlib.sha256(commit + it.name.encode()).digest())
-        turn = -(-len(parts[1]) // TURNS)
-        others += len(parts[1]) - turn
-        for part, into in ((parts[0], first), (parts[1][:turn], later)):
+        count = -(-len(parts[1]) // TURNS)
+        others += len(parts[1]) - count
+        for part, into in ((parts[0], first), (parts[1][:count], turn)):
             if part:
                 into[crate] = part
-    return first, later, others
+    return first, turn, others
 
 
-def in_lanes(found, later, most, tell, until):
-    """Tries all edits, in as many lanes as there are processors, and gives those for which there was no time."""
+def in_lanes(first, turn, most, tell, until):
+    """Tries all edits, in as many lanes as there are processors, and gives those for which there was no time, of those whose turn it is: where time is ample a crate's are tried together, in fewer checks."""
     lanes = int(os.environ.get("RT_JOBS") or len(os.sched_getaffinity(0)))
+    may_wait = {it for edits in turn.values() for it in edits}
+    if until is not None and until - time.monotonic() >= AMPLE:
+        first, turn = {crate: first.get(crate, []) + turn.get(crate, []) for crate in {**first, **turn}}, {}
     with tempfile.TemporaryDirectory(prefix="wrong-bodies-") as below, concurrent.futures.ThreadPoolExecutor(lanes) as pool:
-        work = Work(found, later, below)
-        return [it for ran in [pool.submit(lane, work, most, tell, until) for _ in range(lanes)] for it in ran.result()]
+        work = Work(first, turn, most, below)
+        return [it for ran in [pool.submit(lane, work, tell, until, may_wait) for _ in range(lanes)] for it in ran.result()]
 
 
 def main(words):
@@ -377,8 +386,8 @@ def main(words):
     if how in ("", "--within"):
         found = not_kept(found, verdicts)
     build_below(found)
-    found, later, others = parted(found) if how == "--within" else (found, {}, 0)
-    left = in_lanes(found, later, 1 if how == "--alone" else MOST, tell, until)
+    first, turn, others = parted(found) if how == "--within" else (found, {}, 0)
+    left = in_lanes(first, turn, 1 if how == "--alone" else MOST, tell, until)
     total = len(verdicts) + len(left) + others
     if others:
         print(f"{others} of {total} wrong bodies and right variants have their turn with another commit")
