@@ -394,7 +394,7 @@ class WrongBodies(Tree):
         self.write("crates/low/src/other.rt", SOURCE)
         self.write("crates/low/wrong/two.edit", WRONG.replace("src/lib.rt", "src/other.rt").replace("fn: one", "fn: other::one"))
         self.write("bin/rt", f"#!/bin/sh\n[ \"$1\" = check ] || {{ echo rattle; exit 0; }}\necho check >>{self.top}/checks\ncat {self.top}/said/wrong\n", runs=True)
-        for seconds, checks in (("600", 2), ("7200", 1)):
+        for seconds, checks in (("100", 2), ("9000", 1)):
             self.write("again", seconds)
             ran = self.within(seconds, said=both)
             self.accepts(ran)

@@ -31,8 +31,8 @@ What an edit showed is kept on this machine, by the checksum of all that decides
 of those below. So a later run tries what changed, and what stands above it, as `rt ci` proves it; --anew tries all.
 
 With --within, as the gate calls it, those that docs/PROMISES.md names beside a promise come first, with the right variants of their functions, and are tried whatever it takes. Of the others of each
-crate a quarter is tried, which the last commit draws, so that each has its turn; of these no check begins after so many seconds. Where that is an hour or more they are tried together with the first, in fewer
-checks. How many are not tried is told, and they count neither as passed nor as failed.
+crate a quarter is tried, which the last commit draws, so that each has its turn; of these no check begins after so many seconds. Where that is time enough for all they are tried together with the first, in
+fewer checks. How many are not tried is told, and they count neither as passed nor as failed.
 
 Run at the top of the repository; --alone tries each edit alone, --explain only tells which goals each leaves open, for writing its lines 'clause:', and --list
 only reads the edits. It fails where there is no edit, or another file among them."""
@@ -55,8 +55,8 @@ MOST = 100
 MOST_WITHIN = 40
 # of those that no promise names, one in so many is tried for a commit
 TURNS = 4
-# so many seconds are time for all
-AMPLE = 3600
+# so many seconds of a processor are time for all of these: a run of them took some 6,500
+AMPLE = 9000
 ROUNDS = 3
 
 
@@ -350,7 +350,7 @@ def in_lanes(first, turn, most, tell, until):
     """Tries all edits, in as many lanes as there are processors, and gives those for which there was no time, of those whose turn it is: where time is ample a crate's are tried together, in fewer checks."""
     lanes = int(os.environ.get("RT_JOBS") or len(os.sched_getaffinity(0)))
     may_wait = {it for edits in turn.values() for it in edits}
-    if until is not None and until - time.monotonic() >= AMPLE:
+    if until is not None and (until - time.monotonic()) * lanes >= AMPLE:
         first, turn = {crate: first.get(crate, []) + turn.get(crate, []) for crate in {**first, **turn}}, {}
     with tempfile.TemporaryDirectory(prefix="wrong-bodies-") as below, concurrent.futures.ThreadPoolExecutor(lanes) as pool:
         work = Work(first, turn, most, below)
