@@ -55,8 +55,8 @@ MOST = 100
 MOST_WITHIN = 40
 # of those that no promise names, one in so many is tried for a commit
 TURNS = 4
-# so many seconds of a processor are time for all of these: a run of them took some 6,500
-AMPLE = 9000
+# so many seconds of a processor are time for both: 288 of 377 took 7,660
+AMPLE = 12000
 ROUNDS = 3
 
 
