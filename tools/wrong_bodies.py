@@ -252,13 +252,12 @@ def tried(room, edits, most, tell, until=None, may_wait=()):
 
 
 class Work:
-    """The shares of edits that no lane has taken yet, each of one crate, with how many one check takes: first those of the first part, and of each part first what takes longest.
+    """The shares of edits that no lane has taken yet, each of one crate, and how many edits one check takes: first those of the first part, and of each part first what takes longest.
     A crate has one room, a folder below the given one, in which one lane works at a time."""
 
     def __init__(self, first, later, most, below):
-        parts = (later, min(most, MOST_WITHIN)), (first, most)
-        self.shares = [(crate, edits, count) for part, count in parts for crate, edits in sorted(part.items(), key=lambda it: len(it[1]))]
-        self.below, self.busy, self.free = below, set(), threading.Condition()
+        self.shares = [it for part in (later, first) for it in sorted(part.items(), key=lambda it: len(it[1]))]
+        self.most, self.below, self.busy, self.free = most, below, set(), threading.Condition()
 
     def share(self):
         """The next share, as soon as no other lane works in its room; nothing where none is left."""
@@ -288,9 +287,9 @@ def lane(work, tell, until, may_wait):
     """Tries one share after another, until none is left, and gives the edits for which there was no time."""
     left = []
     while share := work.share():
-        crate, edits, most = share
+        crate, edits = share
         try:
-            left += tried(work.room(crate), edits, most, tell, until, may_wait)
+            left += tried(work.room(crate), edits, work.most, tell, until, may_wait)
         finally:
             work.end(crate)
     return left
@@ -387,7 +386,7 @@ def main(words):
         found = not_kept(found, verdicts)
     build_below(found)
     first, turn, others = parted(found) if how == "--within" else (found, {}, 0)
-    left = in_lanes(first, turn, 1 if how == "--alone" else MOST, tell, until)
+    left = in_lanes(first, turn, 1 if how == "--alone" else MOST if until is None else MOST_WITHIN, tell, until)
     total = len(verdicts) + len(left) + others
     if others:
         print(f"{others} of {total} wrong bodies and right variants have their turn with another commit")
