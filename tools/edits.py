@@ -2,7 +2,7 @@
 import os
 import re
 
-LINES = ("file", "fn", "clause", "says", "alone", "beside", "old", "new")
+LINES = ("file", "fn", "clause", "says", "alone", "always", "beside", "old", "new")
 FOLDERS = ("wrong", "right")
 
 
@@ -15,7 +15,9 @@ class Edit:
         self.name = f"{self.crate}/{file.removesuffix('.edit')}"
         self.changes, self.clauses, self.beside, self.strange = [], [], [], []
         self.function = self.says = None
-        self.alone = self.tells = False
+        self.alone = self.always = self.tells = False
+        # the answers by hand that are known not to fit
+        self.out = frozenset()
         with open(path, encoding="utf-8") as it:
             lines = it.read().split("\n")
         self.tells = re.match(r"# \w+ \w+", lines[0]) is not None
@@ -37,6 +39,8 @@ class Edit:
                 self.beside.append(text.strip())
             elif word == "alone":
                 self.alone = True
+            elif word == "always":
+                self.always = True
             elif word == "says":
                 self.says = text.strip()
             elif word == "old":

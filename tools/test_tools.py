@@ -238,6 +238,7 @@ class HostileSaves(Tree):
 
 SOURCE = "pub fn one() -> u32\n    ensures { result ≡ 1 }\n{\n    1\n}\n"
 WRONG = "# two is not one\nfile: src/lib.rt\nfn: one\nclause: returns\nold:     1\nnew:     2\n"
+CHIEF = WRONG.replace("fn: one\n", "fn: one\nalways: two for one\n")
 RIGHT = "# the sum is one\nfile: src/lib.rt\nfn: one\nbeside: two\nold:     1\nnew:     0 + 1\n"
 
 
@@ -246,7 +247,7 @@ class WrongBodies(Tree):
 
     def setUp(self):
         super().setUp()
-        self.take("tools/wrong_bodies.py", "tools/edits.py", "tools/verdicts.py")
+        self.take("tools/wrong_bodies.py", "tools/kept_trials.py", "tools/edits.py", "tools/verdicts.py")
         self.write("crates.txt", "low: thiserror\n")
         self.write("crates/low/src/lib.rt", SOURCE)
         self.write("crates/low/wrong/two.edit", WRONG)
@@ -357,15 +358,21 @@ class WrongBodies(Tree):
         self.write("crates/low/right/sum.edit", RIGHT.replace("two", "three"))
         self.refuses(self.tried(), "three is no wrong body of its function")
 
-    def within(self, *words, said=OPEN):
-        """Runs those that a promise names, `three`, and the others, `two`, as the gate does."""
+    def within(self, *words, said=OPEN, records=False):
+        """Runs those that a promise names, `three`, and the others, `two`, as the gate does; where it is wanted after all were tried and that was put down."""
         self.take("tools/check_promises.py", "tools/contracts.py")
         self.write("docs/PROMISES.md", "| Promise | Function | Clause | Status | Wrong body |\n|---|---|---|---|---|\n| It is one | `low::one` | - | proved | `low/three` |\n")
         self.write("crates/low/wrong/three.edit", WRONG.replace("not one", "no one"))
         self.says("wrong", said)
-        for git in (["init", "-q"], ["add", "-A"], ["-c", "user.name=a", "-c", "user.email=a@b", "commit", "-qm", "all"]):
-            subprocess.run(["git", *git], cwd=self.top, check=True)
+        if records:
+            self.accepts(self.tried("--record"))
+            shutil.rmtree(f"{self.top}/cache")
+        self.commit()
         return self.tried("--within", *words)
+
+    def commit(self):
+        for git in (["init", "-q"], ["add", "-A"], ["-c", "user.name=a", "-c", "user.email=a@b", "commit", "-q", "--allow-empty", "-m", "all"]):
+            subprocess.run(["git", *git], cwd=self.top, check=True)
 
     def test_all_within_the_time(self):
         ran = self.within("600")
@@ -380,14 +387,73 @@ class WrongBodies(Tree):
         self.assertIn("wrong body low/three: refused", ran.stdout)
         self.assertIn("1 passed, 0 failed", ran.stdout)
 
-    def test_a_quarter_of_what_no_promise_names(self):
+    def test_a_quarter_of_what_was_tried_as_it_stands(self):
+        self.write("crates/low/wrong/two.edit", CHIEF)
         for number in range(4):
             self.write(f"crates/low/wrong/other{number}.edit", WRONG)
-        ran = self.within("600")
-        self.accepts(ran)
-        self.assertIn("wrong body low/three: refused", ran.stdout)
-        self.assertIn("3 of 6 wrong bodies and right variants have their turn with another commit", ran.stdout)
-        self.assertIn("3 passed, 0 failed", ran.stdout)
+        for seconds, passed in (("600", 3), ("0", 1)):
+            ran = self.within(seconds, records=True)
+            self.accepts(ran)
+            self.assertIn("wrong body low/two: refused", ran.stdout)
+            self.assertIn("3 of 6 wrong bodies and right variants have their turn with another commit", ran.stdout)
+            self.assertIn(f"{passed} passed, 0 failed", ran.stdout)
+            shutil.rmtree(f"{self.top}/cache")
+
+    def test_all_of_what_changed_since_it_was_tried(self):
+        for number in range(4):
+            self.write(f"crates/low/wrong/other{number}.edit", WRONG)
+        self.accepts(self.within("600", records=True))
+        for path, text in (("crates/low/src/lib.rt", f"// one\n{SOURCE}"), ("crates/low/wrong/other0.edit", WRONG.replace("2", "3")), ("crates.txt", "low: serde_json\n")):
+            with open(f"{self.top}/{path}", encoding="utf-8") as it:
+                was = it.read()
+            self.write(path, text)
+            shutil.rmtree(f"{self.top}/cache")
+            self.assertIn("6 passed, 0 failed", self.within("600").stdout)
+            self.write(path, was)
+            shutil.rmtree(f"{self.top}/cache")
+            self.assertIn("4 of 6 wrong bodies", self.within("600").stdout)
+
+    def test_a_comment_of_an_edit_changes_nothing(self):
+        self.accepts(self.within("600", records=True))
+        self.write("crates/low/wrong/two.edit", CHIEF.replace("# two is", "# three is"))
+        shutil.rmtree(f"{self.top}/cache")
+        self.assertIn("2 passed, 0 failed", self.within("600").stdout)
+        self.assertNotIn("their turn", self.within("600").stdout)
+
+    def checks(self):
+        """How many checks there were since this was asked."""
+        with open(f"{self.top}/checks", encoding="utf-8") as it:
+            lines = it.readlines()
+        os.remove(f"{self.top}/checks")
+        return len(lines)
+
+    def test_answers_that_are_known_not_to_fit(self):
+        self.answer()
+        with open(f"{self.top}/bin/rt", encoding="utf-8") as it:
+            self.write("bin/rt", it.read().replace("next=wrong\n", f"next=wrong\necho check >>{self.top}/checks\n"), runs=True)
+        self.says("wrong-again", self.OPEN)
+        self.says("wrong", self.BY_HAND, "fn low::one: not proved")
+        self.accepts(self.tried("--record"))
+        with open(f"{self.top}/tools/tried.txt", encoding="utf-8") as it:
+            self.assertEqual(it.read().split("\n")[2:], ["low/two returns", ""])
+        self.take("tools/check_promises.py", "tools/contracts.py")
+        self.write("docs/PROMISES.md", "")
+        self.assertEqual(self.checks(), 2)
+        for source, count in ((SOURCE, 1), (f"// one\n{SOURCE}", 2)):
+            self.write("crates/low/src/lib.rt", source)
+            shutil.rmtree(f"{self.top}/cache")
+            self.commit()
+            self.assertIn("1 passed, 0 failed", self.tried("--within", "600").stdout)
+            self.assertEqual(self.checks(), count)
+
+    def test_what_failed_is_not_put_down(self):
+        self.says("wrong", "fn low::one: proved")
+        self.refuses(self.tried("--record"), "NOT REFUSED")
+        with open(f"{self.top}/tools/tried.txt", encoding="utf-8") as it:
+            self.assertNotIn("low", it.read().split("\n", 1)[1])
+
+    def test_one_edit_is_not_put_down_alone(self):
+        self.refuses(self.tried("--record", "low/two"), "Tries the wrong bodies")
 
     def test_those_and_a_quarter_together_where_time_is_ample(self):
         both = f"{self.OPEN}\n{self.OPEN.replace('low::one', 'low::other::one')}"
@@ -410,7 +476,7 @@ class WrongBodies(Tree):
         drawn = set()
         for text in "abcdefgh":
             self.write("again", text)
-            drawn.add(frozenset(it for it in self.within("600").stdout.split("\n") if it.startswith("wrong body")))
+            drawn.add(frozenset(it for it in self.within("600", records=True).stdout.split("\n") if it.startswith("wrong body")))
             shutil.rmtree(f"{self.top}/cache")
         self.assertGreater(len(drawn), 1)
 

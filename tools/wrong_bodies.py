@@ -2,7 +2,7 @@
 """Tries the wrong bodies crates/NAME/wrong/*.edit and the right ones crates/NAME/right/*.edit, several in a check: the prover must refuse each wrong one
 for the clauses that it breaks, and accept each right one by the same means.
 
-    python3 tools/wrong_bodies.py [--anew | --alone | --explain | --list | --within SECONDS] [NAME..]      NAME: a crate, or a crate and an edit, as hibits or hibits/add_of_a_neighbour
+    python3 tools/wrong_bodies.py [--anew | --record | --alone | --explain | --list | --within SECONDS] [NAME..]      NAME: a crate, or a crate and an edit, as hibits or hibits/add_of_a_neighbour
 
 An edit has the lines of a must-fail edit ('file: src/FILE', 'old: TEXT', 'new: TEXT', each TEXT once in the file), a comment ('# TEXT') that says why
 it breaks what it names, and 'fn: PATH', the function that has to be refused, as the check names it without its crate. Then, as often as it is so,
@@ -10,7 +10,7 @@ it breaks what it names, and 'fn: PATH', the function that has to be refused, as
 a name `returns`, or the goal as it begins, as `returns-then-contains`; of what a call wants or a type keeps the goal's name, as `f-requires` or `invariant_of-self`.
 Where the check refuses a function before it looks at its clauses (a loop without an end, a step that a table of shared words forbids, a call that the types
 do not allow), 'says: TEXT' stands in the place of the clause: what the check must say. An edit that reaches beyond its function (a constant, or a call by
-which no function of the crate is looked at) has a line 'alone: WHY', and is tried alone.
+which no function of the crate is looked at) has a line 'alone: WHY', and is tried alone. A line 'always: TEXT' makes an edit a chief one: what a reader would fear first.
 
 A right variant is the same function in another right form. It has lines 'beside: NAME' in the place of clauses: the wrong bodies of its function beside which
 it stands. None of the clauses that these name may be left open of it: so what refuses them is the clause, and not that the body is another.
@@ -27,17 +27,18 @@ would build them again. There are as many lanes as processors, or RT_JOBS. A lan
 makes a room for the crate (a copy of the tree), and makes one check after another there: in two rooms twice as many checks would read the libraries below. What a check proved and the next did not change is kept in the room. The
 verdicts come as they are found.
 
-What an edit showed is kept on this machine, by the checksum of all that decides it: the kit, these scripts, the edit but for its comments, and the files of its crate and
-of those below. So a later run tries what changed, and what stands above it, as `rt ci` proves it; --anew tries all.
+What an edit showed is kept on this machine, by the checksum of all that decides it: the kit, these scripts, the edit but for its comments, and the files of its crate and of
+those below. So a later run tries what changed, and what stands above it, as `rt ci` proves it; --anew tries all. --record does so too, and puts each crate of which every edit showed what it must into
+tools/tried.txt, with the checksum of what they were tried on, and with the answers by hand that had to be taken out.
 
-With --within, as the gate calls it, those that docs/PROMISES.md names beside a promise come first, with the right variants of their functions, and are tried whatever it takes. Of the others of each
-crate a quarter is tried, which the last commit draws, so that each has its turn; of these no check begins after so many seconds. Where that is time enough for all they are tried together with the first, in
-fewer checks. How many are not tried is told, and they count neither as passed nor as failed.
+With --within, as the gate calls it, the chief ones (`always:`) are tried whatever it takes, with the right variants of their functions. Of a crate that tools/tried.txt names as it stands a quarter of the others is
+tried, which the last commit draws, so that each has its turn, the answers that the record names being out from the beginning. Of any other crate all are: those that docs/PROMISES.md names beside a promise
+whatever it takes too. Of what is left no check begins after so many seconds; where that is time enough for all, they are tried together with the first, in fewer checks. How many are not tried is told, and they
+count neither as passed nor as failed.
 
 Run at the top of the repository; --alone tries each edit alone, --explain only tells which goals each leaves open, for writing its lines 'clause:', and --list
 only reads the edits. It fails where there is no edit, or another file among them."""
 import concurrent.futures
-import functools
 import hashlib
 import os
 import shutil
@@ -48,12 +49,13 @@ import threading
 import time
 
 from edits import applied, edits_of
+from kept_trials import below, keep, kept, outs_of, write_record
 from verdicts import Said, answers_of, judge, without
 
 MOST = 100
 # where time may run out, so that no check takes long
 MOST_WITHIN = 40
-# of those that no promise names, one in so many is tried for a commit
+# of those that were all tried as they stand, but for the chief ones, one in so many is tried for a commit
 TURNS = 4
 # so many seconds of a processor are time for both: 288 of 377 took 7,660
 AMPLE = 12000
@@ -88,7 +90,7 @@ class Trial:
     """An edit that is tried, and the answers by hand that were found not to fit it, which are taken out."""
 
     def __init__(self, edit):
-        self.edit, self.out, self.rounds = edit, set(), 0
+        self.edit, self.out, self.rounds = edit, set(edit.out), 0
         self.told = self.said = None
 
     def is_judged(self, text, folder):
@@ -105,83 +107,6 @@ class Trial:
             return True
         self.out |= new
         return False
-
-
-@functools.cache
-def uses():
-    """What each crate of the repository uses."""
-    found = {}
-    with open("crates.txt", encoding="utf-8") as it:
-        for line in it:
-            left, _, right = line.partition("#")[0].partition(":")
-            if left.strip():
-                found[left.split()[0]] = right.split()
-    return found
-
-
-@functools.cache
-def below(crate):
-    """The crates of the repository that this one uses, and those that they use."""
-    found, next_ones = set(), [crate]
-    while next_ones:
-        for it in uses().get(next_ones.pop(), []):
-            if it in uses() and it not in found:
-                found.add(it)
-                next_ones.append(it)
-    return found
-
-
-@functools.cache
-def kit():
-    """The kit's own name, with its logic."""
-    return subprocess.run(["rt", "version"], stdout=subprocess.PIPE, check=True).stdout
-
-
-@functools.cache
-def files_of(crate):
-    """A checksum of what stands in the crate's folders of code, definitions and proofs."""
-    sums = hashlib.sha256()
-    for part in ("src", "specs", "proofs"):
-        for at, folders, names in os.walk(f"crates/{crate}/{part}"):
-            folders.sort()
-            for name in sorted(names):
-                with open(f"{at}/{name}", "rb") as it:
-                    sums.update(f"{at}/{name}\0{hashlib.sha256(it.read()).hexdigest()}\n".encode())
-    return sums.hexdigest()
-
-
-def place_of(edit):
-    """Where it is kept what the edit showed."""
-    sums = hashlib.sha256(kit() + repr(edit.meaning()).encode())
-    here = os.path.dirname(os.path.abspath(__file__))
-    for path in (f"{here}/{it}.py" for it in ("wrong_bodies", "edits", "verdicts")):
-        with open(path, "rb") as it:
-            sums.update(hashlib.sha256(it.read()).digest())
-    for crate in sorted({edit.crate, *below(edit.crate)}):
-        sums.update(f"{crate}: {' '.join(uses()[crate])}\n{files_of(crate)}\n".encode())
-    home = os.environ.get("XDG_CACHE_HOME") or os.path.expanduser("~/.cache")
-    return f"{home}/wrong-bodies/{sums.hexdigest()}"
-
-
-def kept(edit):
-    """What was said of the edit when it showed what it must here, if it did."""
-    try:
-        with open(place_of(edit), encoding="utf-8") as it:
-            return it.read()
-    except OSError:
-        return None
-
-
-def keep(edit, text):
-    """Keeps that the edit showed what it must."""
-    place = place_of(edit)
-    try:
-        os.makedirs(os.path.dirname(place), exist_ok=True)
-        with tempfile.NamedTemporaryFile("w", encoding="utf-8", dir=os.path.dirname(place), delete=False) as it:
-            it.write(text)
-        os.replace(it.name, place)
-    except OSError as why:
-        print(f"wrong bodies: what was found is not kept: {why}", flush=True)
 
 
 def build_below(crates):
@@ -329,38 +254,55 @@ def named_beside_promises():
     return {cells[-1].removeprefix("through ") for _, (_, *cells, _) in check_promises.rows() if cells}
 
 
-def parted(found):
-    """The edits that are tried whatever it takes, by crate, those whose turn it is with the last commit, and how many others there are."""
-    names, first, turn, others = named_beside_promises(), {}, {}, 0
+def parted(found, tried_before):
+    """The edits that are tried whatever it takes, by crate, those that may wait, and how many others have their turn with another commit."""
+    names, first, later, others = named_beside_promises(), {}, {}, 0
     commit = subprocess.run(["git", "rev-parse", "HEAD"], stdout=subprocess.PIPE, check=True).stdout
     for crate, edits in found.items():
-        functions = {it.function for it in edits if it.name in names}
-        parts = [[it for it in edits if (it.function in functions if it.is_right else it.name in names) == chief] for chief in (True, False)]
-        parts[1].sort(key=lambda it: hashlib.sha256(commit + it.name.encode()).digest())
-        count = -(-len(parts[1]) // TURNS)
-        others += len(parts[1]) - count
-        for part, into in ((parts[0], first), (parts[1][:count], turn)):
+        outs = tried_before[crate]
+        wanted = {it.name for it in edits if it.always or outs is None and it.name in names}
+        functions = {it.function for it in edits if it.name in wanted}
+        parts = [[it for it in edits if (it.function in functions if it.is_right else it.name in wanted) == is_first] for is_first in (True, False)]
+        if outs is not None:
+            parts[1].sort(key=lambda it: hashlib.sha256(commit + it.name.encode()).digest())
+            count = -(-len(parts[1]) // TURNS)
+            others += len(parts[1]) - count
+            parts[1] = parts[1][:count]
+            for it in edits:
+                it.out = outs.get(it.name, frozenset())
+        for part, into in zip(parts, (first, later)):
             if part:
                 into[crate] = part
-    return first, turn, others
+    return first, later, others
 
 
-def in_lanes(first, turn, most, tell, until):
-    """Tries all edits, in as many lanes as there are processors, and gives those for which there was no time, of those whose turn it is: where time is ample a crate's are tried together, in fewer checks."""
+def in_lanes(first, later, most, tell, until):
+    """Tries all edits, in as many lanes as there are processors, and gives those for which there was no time, of those that may wait: where time is ample a crate's are tried together, in fewer checks."""
     lanes = int(os.environ.get("RT_JOBS") or len(os.sched_getaffinity(0)))
-    may_wait = {it for edits in turn.values() for it in edits}
+    may_wait = {it for edits in later.values() for it in edits}
     if until is not None and (until - time.monotonic()) * lanes >= AMPLE:
-        first, turn = {crate: first.get(crate, []) + turn.get(crate, []) for crate in {**first, **turn}}, {}
-    with tempfile.TemporaryDirectory(prefix="wrong-bodies-") as below, concurrent.futures.ThreadPoolExecutor(lanes) as pool:
-        work = Work(first, turn, most, below)
+        first, later = {crate: first.get(crate, []) + later.get(crate, []) for crate in {**first, **later}}, {}
+    with tempfile.TemporaryDirectory(prefix="wrong-bodies-") as rooms, concurrent.futures.ThreadPoolExecutor(lanes) as pool:
+        work = Work(first, later, most, rooms)
         return [it for ran in [pool.submit(lane, work, tell, until, may_wait) for _ in range(lanes)] for it in ran.result()]
+
+
+def tell_of_the_rest(left, others, tried_ones):
+    """Tells how many were not tried, and why."""
+    total = tried_ones + len(left) + others
+    if others:
+        print(f"{others} of {total} wrong bodies and right variants have their turn with another commit")
+    if left:
+        print(f"{len(left)} of {total} wrong bodies and right variants were not tried, for want of time: {', '.join(sorted(it.name for it in left))}")
+    if others or left:
+        print("python3 tools/wrong_bodies.py tries all")
 
 
 def main(words):
     begun = time.monotonic()
     how = next((it for it in words if it.startswith("--")), "")
     names = [it for it in words if not it.startswith("--")]
-    if how not in ("", "--anew", "--alone", "--explain", "--list", "--within") or how == "--within" and not (names and names[0].isdigit()):
+    if how not in ("", "--anew", "--record", "--alone", "--explain", "--list", "--within") or how == "--within" and not (names and names[0].isdigit()) or how == "--record" and any("/" in it for it in names):
         print(__doc__)
         return 2
     until = begun + int(names.pop(0)) if how == "--within" else None
@@ -371,7 +313,7 @@ def main(words):
         for edit in (it for edits in found.values() for it in edits):
             print(f"{edit.label}: {edit.function}: {', '.join(edit.clauses) or edit.says}")
         return 0
-    verdicts = []
+    verdicts, shown, all_found = [], {}, found
 
     def tell(trial):
         well, text = trial.told
@@ -379,21 +321,20 @@ def main(words):
             well, text = True, f"{text} [open: {', '.join(trial.said.open) or 'none'}; {trial.said.line}]"
         print(f"{trial.edit.label}: {text}", flush=True)
         verdicts.append(well)
+        if well:
+            shown[trial.edit] = trial.out
         if well and how != "--explain":
             keep(trial.edit, text)
 
+    tried_before = {crate: outs_of(crate, edits) for crate, edits in found.items()}
     if how in ("", "--within"):
         found = not_kept(found, verdicts)
     build_below(found)
-    first, turn, others = parted(found) if how == "--within" else (found, {}, 0)
-    left = in_lanes(first, turn, 1 if how == "--alone" else MOST if until is None else MOST_WITHIN, tell, until)
-    total = len(verdicts) + len(left) + others
-    if others:
-        print(f"{others} of {total} wrong bodies and right variants have their turn with another commit")
-    if left:
-        print(f"{len(left)} of {total} wrong bodies and right variants were not tried, for want of time: {', '.join(sorted(it.name for it in left))}")
-    if others or left:
-        print("python3 tools/wrong_bodies.py tries all")
+    first, later, others = parted(found, tried_before) if how == "--within" else (found, {}, 0)
+    left = in_lanes(first, later, 1 if how == "--alone" else MOST if until is None else MOST_WITHIN, tell, until)
+    tell_of_the_rest(left, others, len(verdicts))
+    if how == "--record":
+        write_record({crate: {it: shown[it] for it in edits} for crate, edits in all_found.items() if all(it in shown for it in edits)})
     passed = sum(verdicts)
     print(f"{passed} passed, {len(verdicts) - passed} failed")
     return 0 if passed == len(verdicts) else 1
