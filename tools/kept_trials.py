@@ -71,21 +71,22 @@ def place_of(edit):
 
 
 def kept(edit):
-    """What was said of the edit when it showed what it must here, if it did."""
+    """What was said of the edit when it showed what it must here, and the answers that were taken out, if it did."""
     try:
         with open(place_of(edit), encoding="utf-8") as it:
-            return it.read()
+            text, _, names = it.read().partition("\n")
+            return text, frozenset(names.split())
     except OSError:
         return None
 
 
-def keep(edit, text):
-    """Keeps that the edit showed what it must."""
+def keep(edit, text, out):
+    """Keeps that the edit showed what it must, without these answers."""
     place = place_of(edit)
     try:
         os.makedirs(os.path.dirname(place), exist_ok=True)
         with tempfile.NamedTemporaryFile("w", encoding="utf-8", dir=os.path.dirname(place), delete=False) as it:
-            it.write(text)
+            it.write(f"{text}\n{' '.join(sorted(out))}")
         os.replace(it.name, place)
     except OSError as why:
         print(f"wrong bodies: what was found is not kept: {why}", flush=True)

@@ -28,8 +28,8 @@ makes a room for the crate (a copy of the tree), and makes one check after anoth
 verdicts come as they are found.
 
 What an edit showed is kept on this machine, by the checksum of all that decides it: the kit, these scripts, the edit but for its comments, and the files of its crate and of
-those below. So a later run tries what changed, and what stands above it, as `rt ci` proves it; --anew tries all. --record does so too, and puts each crate of which every edit showed what it must into
-tools/tried.txt, with the checksum of what they were tried on, and with the answers by hand that had to be taken out.
+those below. So a later run tries what changed, and what stands above it, as `rt ci` proves it; --anew tries all. --record tries what is not kept, and puts each crate of which every edit showed what it must
+into tools/tried.txt, with the checksum of what they were tried on, and with the answers by hand that had to be taken out.
 
 With --within, as the gate calls it, the chief ones (`always:`) are tried whatever it takes, with the right variants of their functions. Of a crate that tools/tried.txt names as it stands a quarter of the others is
 tried, which the last commit draws, so that each has its turn, the answers that the record names being out from the beginning. Of any other crate all are: those that docs/PROMISES.md names beside a promise
@@ -234,13 +234,14 @@ def read_edits(wanted, explains):
     return None if faults else found
 
 
-def not_kept(found, verdicts):
-    """The edits of which nothing is kept; of the others it is told."""
+def not_kept(found, verdicts, shown):
+    """The edits of which nothing is kept; of the others it is told, and noted which answers were taken out."""
     rest = {}
     for crate, edits in found.items():
-        told = {it: text for it in edits if (text := kept(it))}
-        for edit, text in told.items():
+        told = {it: known for it in edits if (known := kept(it))}
+        for edit, (text, out) in told.items():
             print(f"{edit.label}: {text}, as kept", flush=True)
+            shown[edit] = out
         verdicts += [True] * len(told)
         if left := [it for it in edits if it not in told]:
             rest[crate] = left
@@ -324,11 +325,11 @@ def main(words):
         if well:
             shown[trial.edit] = trial.out
         if well and how != "--explain":
-            keep(trial.edit, text)
+            keep(trial.edit, text, trial.out)
 
     tried_before = {crate: outs_of(crate, edits) for crate, edits in found.items()}
-    if how in ("", "--within"):
-        found = not_kept(found, verdicts)
+    if how in ("", "--within", "--record"):
+        found = not_kept(found, verdicts, shown)
     build_below(found)
     first, later, others = parted(found, tried_before) if how == "--within" else (found, {}, 0)
     left = in_lanes(first, later, 1 if how == "--alone" else MOST if until is None else MOST_WITHIN, tell, until)
