@@ -264,7 +264,9 @@ def parted(found, tried_before):
         wanted = {it.name for it in edits if it.always or outs is None and it.name in names}
         functions = {it.function for it in edits if it.name in wanted}
         parts = [[it for it in edits if (it.function in functions if it.is_right else it.name in wanted) == is_first] for is_first in (True, False)]
-        if outs is not None:
+        if outs is None:
+            print(f"{crate} or what it rests on is not as it was when all of its wrong bodies were tried, so that all are tried", flush=True)
+        else:
             parts[1].sort(key=lambda it: hashlib.sha256(commit + it.name.encode()).digest())
             count = -(-len(parts[1]) // TURNS)
             others += len(parts[1]) - count
