@@ -57,6 +57,11 @@ def files_of(crate):
     return sums.hexdigest()
 
 
+def texts_of(crate):
+    """What the crate and those below it use, and the checksums of their files."""
+    return "".join(f"{it}: {' '.join(uses()[it])}\n{files_of(it)}\n" for it in sorted({crate, *below(crate)})).encode()
+
+
 def place_of(edit):
     """Where it is kept what the edit showed."""
     sums = hashlib.sha256(kit() + repr(edit.meaning()).encode())
@@ -64,8 +69,7 @@ def place_of(edit):
     for path in (f"{here}/{it}.py" for it in ("wrong_bodies", "kept_trials", "edits", "verdicts")):
         with open(path, "rb") as it:
             sums.update(hashlib.sha256(it.read()).digest())
-    for crate in sorted({edit.crate, *below(edit.crate)}):
-        sums.update(f"{crate}: {' '.join(uses()[crate])}\n{files_of(crate)}\n".encode())
+    sums.update(texts_of(edit.crate))
     home = os.environ.get("XDG_CACHE_HOME") or os.path.expanduser("~/.cache")
     return f"{home}/wrong-bodies/{sums.hexdigest()}"
 
@@ -95,8 +99,7 @@ def keep(edit, text, out):
 def sum_of(crate, edits):
     """The checksum of what these edits of the crate are tried on."""
     sums = hashlib.sha256(repr(sorted((it.name, repr(it.meaning())) for it in edits)).encode())
-    for it in sorted({crate, *below(crate)}):
-        sums.update(f"{it}: {' '.join(uses()[it])}\n{files_of(it)}\n".encode())
+    sums.update(texts_of(crate))
     return sums.hexdigest()
 
 
